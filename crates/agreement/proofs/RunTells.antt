@@ -7,13 +7,14 @@ use native.Mathlib.Omega.{arith}
 use borrow.Author.Tests.{leb-true, ltb-false, le-ltb}
 use lib.Dec.{ltb}
 use lib.ListN.{length}
+use Rattle.std.proofs.Common.{Option, Some, None}
 use Rattle.combinators.specs.Choice.{is}
 use Rattle.combinators.specs.LeastLengths.{text_least, stores_suffice}
 use Rattle.combinators.proofs.LeastLaws.{least}
-use Rattle.combinators.specs.Refusal.{no_refusal, refused, refused_at, too_long, short_store, bad_bytes}
+use Rattle.combinators.specs.Refusal.{no_refusal, refused, refused_at, too_long, short_store, bad_row, bad_text, bad_bytes}
 use Rattle.combinators.specs.declared.refusals.Refusal.{Refusal}
 use Rattle.combinators.proofs.Rules.{pick-holds, pick_true, pick-false, and-true, is_true, is_false, is-yes}
-use Rattle.page.specs.Accepted.{rows_refusal, page_refusal}
+use Rattle.page.specs.Accepted.{first_bad_row, first_bad_text, refused_row, rows_refusal, page_refusal}
 use Rattle.compiled.specs.Answer.{bytes_refusal}
 use Rattle.compiled.specs.Decoded.{Decoded, read, fault, on_decoded}
 use Rattle.compiled.specs.Sheet.{CompiledSelector, compiled_limit, decode}
@@ -32,11 +33,19 @@ quiet-bytes (read n ss) e = refl
 quiet-bytes (fault p) e = absurd (omega (arith, e))
 
 -- ---- a page is never refused for its bytes
+-- a row at fault is refused by its number, and where there is none, what comes behind decides
+row-number : (number : ℕ) (row : Option ℕ) (others : Refusal) → ¬ (number ≡ bad_bytes) → ¬ (others.number ≡ bad_bytes) → ¬ ((refused_row number row others).number ≡ bad_bytes)
+unfolding refused_row
+row-number number (Some row) others n m = n
+row-number number None others n m = m
+
 pub page-number : (nodes attributes text : List ℕ) → ¬ ((page_refusal nodes attributes text).number ≡ bad_bytes)
 unfolding page_refusal rows_refusal
 page-number nodes attributes text =
     pick-holds Other _ _ _
-    (λ _. pick-holds Other _ _ _ (λ _ e. omega (arith, e)) (λ _. pick-holds Other _ _ _ (λ _ e. omega (arith, e)) (λ _. pick-holds Other _ _ _ (λ _ e. omega (arith, e)) (λ _ e. omega (arith, e)))))
+    (λ _. pick-holds Other _ _ _ (λ _ e. omega (arith, e))
+    (λ _. row-number bad_row (first_bad_row nodes attributes) _ (λ e. omega (arith, e))
+    (row-number bad_text (first_bad_text nodes attributes text) _ (λ e. omega (arith, e)) (λ e. omega (arith, e)))))
     (λ _ e. omega (arith, e))
   where
     Other : Refusal → Type 0

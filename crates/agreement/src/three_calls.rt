@@ -1,13 +1,16 @@
 // Demand 3 as a contract: three sheets are compiled, their bytes are run down a page, and a row of it is asked of the style call. The run's row is the style call's.
 ghost use Rattle.std.specs.Prelude.{◌≡◌, ◌≤◌, length, take};
+ghost use Rattle.styles.specs.Lent.{sheets_in, page_in};
+ghost use Rattle.styling.specs.StyleAnswer.{numbers_of};
 ghost use Rattle.agreement.specs.Agreed.{Agreed};
 ghost use Rattle.agreement.specs.Calls.{compile_with, run_with, style_with};
 
 use compiler::answers::{CompileNumbers, numbers_of};
 use compiler::compile::compile;
 use running::run::{RunAnswer, run};
+use styles::lent::{Page, SheetTexts};
 use styles::settings::Settings;
-use styling::style::{StyleAnswer, style};
+use styling::style::{StyleError, style};
 
 // What compiling and the run answer.
 #[derive(Clone, Copy)]
@@ -21,14 +24,12 @@ pub struct RunAnswers {
 pub struct CallAnswers {
     pub compiling: CompileNumbers,
     pub running: RunAnswer,
-    pub styling: StyleAnswer,
+    pub styling: Result<usize, StyleError>,
 }
 
 // Compiles three sheets. The bytes lie within their buffer; of sheets that are refused there are none.
 fn compile_sheets(
-    agent: &[u8],
-    user: &[u8],
-    author: &[u8],
+    sheets: SheetTexts<'_>,
     compiled: &mut [u8],
     texts: &mut [u8],
     rules: &mut [u32],
@@ -36,11 +37,18 @@ fn compile_sheets(
     brackets: &mut [u8],
 ) -> CompileNumbers
     ensures brackets_after { record { answer = result; compiled = compiled.new; texts = texts.new; rules = rules.new; tokens = tokens.new; brackets = brackets.new }
-        ≡ compile_with (record { agent = agent.now; user = user.now; author = author.now }) (record { compiled = compiled.old; texts = texts.old; rules = rules.old; tokens = tokens.old; brackets = brackets.old }) }
+        ≡ compile_with (sheets_in sheets.entry) (record { compiled = compiled.old; texts = texts.old; rules = rules.old; tokens = tokens.old; brackets = brackets.old }) }
     ensures bytes_in_bounds { result.bytes ≤ length compiled.new }
 {
     numbers_of(compile(
-        agent, user, author, compiled, texts, rules, tokens, brackets,
+        sheets.agent,
+        sheets.user,
+        sheets.author,
+        compiled,
+        texts,
+        rules,
+        tokens,
+        brackets,
     ))
 }
 
@@ -49,9 +57,7 @@ fn run_bytes(
     settings: Settings,
     compiled: &[u8],
     bytes: usize,
-    nodes: &[u32],
-    attributes: &[u32],
-    text: &[u8],
+    page: Page<'_>,
     rows: &mut [u32],
     texts: &mut [u8],
     state: &mut [u8],
@@ -61,14 +67,14 @@ fn run_bytes(
 ) -> RunAnswer
     requires { bytes ≤ length compiled.now }
     ensures { record { answer = result; rows = rows.new; texts = texts.new; state = state.new; rules = rules.new; tokens = tokens.new; brackets = brackets.new }
-        ≡ run_with (take bytes compiled.now) settings (record { nodes = nodes.now; attributes = attributes.now; text = text.now }) (record { rows = rows.old; texts = texts.old; state = state.old; rules = rules.old; tokens = tokens.old; brackets = brackets.old }) }
+        ≡ run_with (take bytes compiled.now) settings (page_in page.entry) (record { rows = rows.old; texts = texts.old; state = state.old; rules = rules.old; tokens = tokens.old; brackets = brackets.old }) }
 {
     run(
         settings,
         &compiled[..bytes],
-        nodes,
-        attributes,
-        text,
+        page.nodes,
+        page.attributes,
+        page.text,
         rows,
         texts,
         state,
@@ -81,12 +87,8 @@ fn run_bytes(
 // Compiles three sheets and runs their bytes down a page. Where the sheets are refused the run is of no bytes.
 fn compile_and_run(
     settings: Settings,
-    agent: &[u8],
-    user: &[u8],
-    author: &[u8],
-    nodes: &[u32],
-    attributes: &[u32],
-    text: &[u8],
+    sheets: SheetTexts<'_>,
+    page: Page<'_>,
     compiled: &mut [u8],
     compile_texts: &mut [u8],
     compile_rules: &mut [u32],
@@ -100,14 +102,12 @@ fn compile_and_run(
     run_brackets: &mut [u8],
 ) -> RunAnswers
     ensures compile_brackets_after { record { answer = result.compiling; compiled = compiled.new; texts = compile_texts.new; rules = compile_rules.new; tokens = compile_tokens.new; brackets = compile_brackets.new }
-        ≡ compile_with (record { agent = agent.now; user = user.now; author = author.now }) (record { compiled = compiled.old; texts = compile_texts.old; rules = compile_rules.old; tokens = compile_tokens.old; brackets = compile_brackets.old }) }
+        ≡ compile_with (sheets_in sheets.entry) (record { compiled = compiled.old; texts = compile_texts.old; rules = compile_rules.old; tokens = compile_tokens.old; brackets = compile_brackets.old }) }
     ensures run_brackets_after { record { answer = result.running; rows = rows.new; texts = run_texts.new; state = state.new; rules = run_rules.new; tokens = run_tokens.new; brackets = run_brackets.new }
-        ≡ run_with (take result.compiling.bytes compiled.new) settings (record { nodes = nodes.now; attributes = attributes.now; text = text.now }) (record { rows = rows.old; texts = run_texts.old; state = state.old; rules = run_rules.old; tokens = run_tokens.old; brackets = run_brackets.old }) }
+        ≡ run_with (take result.compiling.bytes compiled.new) settings (page_in page.entry) (record { rows = rows.old; texts = run_texts.old; state = state.old; rules = run_rules.old; tokens = run_tokens.old; brackets = run_brackets.old }) }
 {
     let compiling = compile_sheets(
-        agent,
-        user,
-        author,
+        sheets,
         compiled,
         compile_texts,
         compile_rules,
@@ -119,9 +119,7 @@ fn compile_and_run(
         settings,
         compiled,
         bytes,
-        nodes,
-        attributes,
-        text,
+        page,
         rows,
         run_texts,
         state,
@@ -135,12 +133,8 @@ fn compile_and_run(
 // Compiles three sheets, runs their bytes down a page, and styles a row of it: each call over buffers of its own, and each is made whatever the others answer.
 pub fn compile_run_style(
     settings: Settings,
-    agent: &[u8],
-    user: &[u8],
-    author: &[u8],
-    nodes: &[u32],
-    attributes: &[u32],
-    text: &[u8],
+    sheets: SheetTexts<'_>,
+    page: Page<'_>,
     row: usize,
     compiled: &mut [u8],
     compile_texts: &mut [u8],
@@ -160,21 +154,17 @@ pub fn compile_run_style(
     style_brackets: &mut [u8],
 ) -> CallAnswers
     ensures compile_brackets_after { record { answer = result.compiling; compiled = compiled.new; texts = compile_texts.new; rules = compile_rules.new; tokens = compile_tokens.new; brackets = compile_brackets.new }
-        ≡ compile_with (record { agent = agent.now; user = user.now; author = author.now }) (record { compiled = compiled.old; texts = compile_texts.old; rules = compile_rules.old; tokens = compile_tokens.old; brackets = compile_brackets.old }) }
+        ≡ compile_with (sheets_in sheets.entry) (record { compiled = compiled.old; texts = compile_texts.old; rules = compile_rules.old; tokens = compile_tokens.old; brackets = compile_brackets.old }) }
     ensures run_brackets_after { record { answer = result.running; rows = rows.new; texts = run_texts.new; state = state.new; rules = run_rules.new; tokens = run_tokens.new; brackets = run_brackets.new }
-        ≡ run_with (take result.compiling.bytes compiled.new) settings (record { nodes = nodes.now; attributes = attributes.now; text = text.now }) (record { rows = rows.old; texts = run_texts.old; state = state.old; rules = run_rules.old; tokens = run_tokens.old; brackets = run_brackets.old }) }
-    ensures style_brackets_after { record { answer = result.styling; row = out.new; texts = style_texts.new; rules = style_rules.new; tokens = style_tokens.new; brackets = style_brackets.new }
-        ≡ style_with settings (record { agent = agent.now; user = user.now; author = author.now }) (record { nodes = nodes.now; attributes = attributes.now; text = text.now }) row (record { row = out.old; texts = style_texts.old; rules = style_rules.old; tokens = style_tokens.old; brackets = style_brackets.old }) }
-    ensures agreed { Agreed (record { answer = result.compiling; compiled = compiled.new; texts = compile_texts.new; rules = compile_rules.new; tokens = compile_tokens.new; brackets = compile_brackets.new }) (record { answer = result.running; rows = rows.new; texts = run_texts.new; state = state.new; rules = run_rules.new; tokens = run_tokens.new; brackets = run_brackets.new }) (record { answer = result.styling; row = out.new; texts = style_texts.new; rules = style_rules.new; tokens = style_tokens.new; brackets = style_brackets.new }) row }
+        ≡ run_with (take result.compiling.bytes compiled.new) settings (page_in page.entry) (record { rows = rows.old; texts = run_texts.old; state = state.old; rules = run_rules.old; tokens = run_tokens.old; brackets = run_brackets.old }) }
+    ensures style_brackets_after { record { answer = numbers_of result.styling; row = out.new; texts = style_texts.new; rules = style_rules.new; tokens = style_tokens.new; brackets = style_brackets.new }
+        ≡ style_with settings (sheets_in sheets.entry) (page_in page.entry) row (record { row = out.old; texts = style_texts.old; rules = style_rules.old; tokens = style_tokens.old; brackets = style_brackets.old }) }
+    ensures agreed { Agreed (record { answer = result.compiling; compiled = compiled.new; texts = compile_texts.new; rules = compile_rules.new; tokens = compile_tokens.new; brackets = compile_brackets.new }) (record { answer = result.running; rows = rows.new; texts = run_texts.new; state = state.new; rules = run_rules.new; tokens = run_tokens.new; brackets = run_brackets.new }) (record { answer = numbers_of result.styling; row = out.new; texts = style_texts.new; rules = style_rules.new; tokens = style_tokens.new; brackets = style_brackets.new }) row }
 {
     let answers = compile_and_run(
         settings,
-        agent,
-        user,
-        author,
-        nodes,
-        attributes,
-        text,
+        sheets,
+        page,
         compiled,
         compile_texts,
         compile_rules,
@@ -189,12 +179,8 @@ pub fn compile_run_style(
     );
     let styling = style(
         settings,
-        agent,
-        user,
-        author,
-        nodes,
-        attributes,
-        text,
+        sheets,
+        page,
         row,
         out,
         style_texts,
@@ -202,11 +188,9 @@ pub fn compile_run_style(
         style_tokens,
         style_brackets,
     );
-    let compiling = answers.compiling;
-    let running = answers.running;
     CallAnswers {
-        compiling,
-        running,
+        compiling: answers.compiling,
+        running: answers.running,
         styling,
     }
 }

@@ -18,8 +18,7 @@ use Rattle.values.specs.ColourAnswer.{colour_answer}
 use Rattle.values.specs.Layout.{texts_of}
 use Rattle.values.specs.Value.{statement_of}
 use Rattle.values.specs.Words.{Found, found, missing, on_found}
-use Rattle.values.specs.declared.colours.ColourAnswer.{ColourAnswer}
-use Rattle.values.specs.declared.colours.ColourAnswer.TheVariants as answer
+use Rattle.std.proofs.Common.{Option, Some, None}
 use Rattle.declarations.specs.Attribute.{colour_attribute}
 use Rattle.declarations.specs.Leaving.{ColourLeft, colour_left}
 use Rattle.cascade.specs.declared.slots.Cascade.{Cascade}
@@ -49,19 +48,19 @@ module _ (spec : Specificity) (slot : ℕ) where
       (on_found f (λ x. attribute_style false (in_numbers (record { slot = slot; important = false; value = colour_value (colour_number x) })) ∷ []) [])
 
   -- a value that names a colour declares that colour
-  said-colour : (f : Found Colour) (n : ℕ) → answer.Colour n ≡ colour_answer f → said f ≡ number_declared n ∷ []
+  said-colour : (f : Found Colour) (n : ℕ) → Some n ≡ colour_answer f → said f ≡ number_declared n ∷ []
   unfolding said colour_answer on_found from_attribute attribute_style in_numbers
   said-colour (found x) n e = let q : n ≡ colour_number x = cc in rw q
   said-colour missing n e = absurd (let z : ◌≡◌ {A = ℕ} 0 1 = cc in omega arith)
 
   -- a value that names no colour declares nothing
-  said-none : (f : Found Colour) → answer.NoColour ≡ colour_answer f → said f ≡ []
+  said-none : (f : Found Colour) → None ≡ colour_answer f → said f ≡ []
   unfolding said colour_answer on_found
   said-none (found x) e = absurd (let z : ◌≡◌ {A = ℕ} 0 1 = cc in omega arith)
   said-none missing e = refl
 
 -- what `parse_color_attribute` left: its answer, and zeros where it used the stores
-module _ (s tokens brackets texts : List ℕ) (fill : ℕ) {r : ColourAnswer} {x b z : List ℕ}
+module _ (s tokens brackets texts : List ℕ) (fill : ℕ) {r : Option ℕ} {x b z : List ℕ}
     (e : record { answer = r; tokens = x; brackets = b; store = z } ≡ colour_left s tokens brackets texts fill) where
   -- the reader's answer is the colour that the value names
   answer-is : r ≡ colour_answer (colour_attribute s)
@@ -77,7 +76,7 @@ module _ (s tokens brackets texts : List ℕ) (fill : ℕ) {r : ColourAnswer} {x
 
   module _ (c : Cascade) (spec : Specificity) (slot : ℕ) (out : List ℕ) where
     -- the return where a colour was found: merged into the row, it is what the attribute declares
-    pub colour-merged : (n : ℕ) (out' : List ℕ) → r ≡ answer.Colour n → Merged c out out' (number_declared spec slot n) → out' ≡ merged_row c out (map (from_attribute false spec) (colour_says slot s))
+    pub colour-merged : (n : ℕ) (out' : List ℕ) → r ≡ Some n → Merged c out out' (number_declared spec slot n) → out' ≡ merged_row c out (map (from_attribute false spec) (colour_says slot s))
     unfolding colour_says said
     colour-merged n out' q m =
         m.numbers
@@ -86,7 +85,7 @@ module _ (s tokens brackets texts : List ℕ) (fill : ℕ) {r : ColourAnswer} {x
         ∙ sym (ap (merged_row c out) (said-colour spec slot (colour_attribute s) n (sym q ∙ answer-is)))
 
     -- where no colour is named the row stays as it was
-    pub colour-missing : r ≡ answer.NoColour → out ≡ merged_row c out (map (from_attribute false spec) (colour_says slot s))
+    pub colour-missing : r ≡ None → out ≡ merged_row c out (map (from_attribute false spec) (colour_says slot s))
     unfolding colour_says said
     colour-missing q = sym (merged-none c out) ∙ sym (ap (merged_row c out) (said-none spec slot (colour_attribute s) (sym q ∙ answer-is)))
 

@@ -64,13 +64,13 @@ module _ (base : ℕ) (x : StyleNumbers) where
 
 -- ---- the rows, one behind the other
 module _ (c : Cascade) (base count : ℕ) (t out₀ : List ℕ) where
-  -- at a row: what is left to merge leads to the row that all lead to
-  pub record Merging (at left : ℕ) (out : List ℕ) : Type 0 where
-    pub place : at + style_width * left ≡ style_width * count
+  -- before the i-th row: what is left to merge leads to the row that all lead to
+  pub record Merging (i : ℕ) (out : List ℕ) : Type 0 where
+    pub within_count : i ≤ count
     pub bits : style_width * count < 2 ^ 64
-    pub shiftable : All (Shiftable base) (numbers_in left (drop at t))
+    pub shiftable : All (Shiftable base) (numbers_in (count - i) (drop (style_width * i) t))
     pub long : length out ≡ length out₀
-    pub rest : merged_row c out (rows_declared c base left (drop at t)) ≡ merged_row c out₀ (rows_declared c base count t)
+    pub rest : merged_row c out (rows_declared c base (count - i) (drop (style_width * i) t)) ≡ merged_row c out₀ (rows_declared c base count t)
 
 -- with no row left nothing is merged
 ended : (c : Cascade) (base k : ℕ) (t out : List ℕ) → k ≤ 0 → merged_row c out (rows_declared c base k t) ≡ out
@@ -80,44 +80,47 @@ ended c base (suc k) t out h = absurd (omega arith)
 
 module _ (c : Cascade) (base count : ℕ) (t out₀ : List ℕ) where
   -- before the first style the row is as it was lent
-  pub merging-begin : InlineRows base count t → Merging c base count t out₀ 0 count out₀
-  merging-begin r = record { place = omega arith; bits = r.few; shiftable = r.shiftable; long = refl; rest = refl }
+  pub merging-begin : InlineRows base count t → Merging c base count t out₀ 0 out₀
+  merging-begin r =
+      let z : count - 0 ≡ count = omega arith in
+      record { within_count = omega arith; bits = r.few; shiftable = rw z r.shiftable; long = refl; rest = rw z }
 
-  module _ (at left : ℕ) (out : List ℕ) (v : Merging c base count t out₀ at left out) where
+  module _ (i : ℕ) (out : List ℕ) (v : Merging c base count t out₀ i out) where
     -- behind the last style the row is the one with all of them merged
-    pub merging-end : left ≤ 0 → out ≡ merged_row c out₀ (rows_declared c base count t)
-    merging-end h = sym (ended c base left (drop at t) out h) ∙ v.rest
+    pub merging-end : count ≤ i → out ≡ merged_row c out₀ (rows_declared c base count t)
+    merging-end h = sym (ended c base (count - i) (drop (style_width * i) t) out (omega arith)) ∙ v.rest
 
-    module _ (h : 0 < left) where
+    module _ (h : i < count) where
       -- one is left, and others behind it
-      one_more : left ≡ suc (left - 1)
+      one_more : count - i ≡ suc (count - (i + 1))
       one_more = omega arith
 
       -- all that are left can be counted
-      all-shiftable : All (Shiftable base) (numbers_in (suc (left - 1)) (drop at t))
+      all-shiftable : All (Shiftable base) (numbers_in (suc (count - (i + 1))) (drop (style_width * i) t))
       all-shiftable = rw one_more at v.shiftable
 
       -- its content can be counted from `base` on
-      pub row-shiftable : (x : StyleNumbers) → x ≡ numbers_at (drop at t) → Shiftable base x
+      pub row-shiftable : (x : StyleNumbers) → x ≡ numbers_at (drop (style_width * i) t) → Shiftable base x
       unfolding numbers_in
       row-shiftable x e = rw e all-shiftable.0
 
       -- a turn: one style is merged, and one less is left
-      pub merging-next : (x s : StyleNumbers) (out' : List ℕ) → x ≡ numbers_at (drop at t) → s ≡ inline_style c base x
+      pub merging-next : (x s : StyleNumbers) (out' : List ℕ) → x ≡ numbers_at (drop (style_width * i) t) → s ≡ inline_style c base x
           → Merged c out out' (record { pseudo = main_record; slot = s.slot; candidate = record { weight = record { important = s.important; origin = author_origin; spec = inline_specificity }; value = s.value } })
-          → Merging c base count t out₀ (at + style_width) (left - 1) out'
+          → Merging c base count t out₀ (i + 1) out'
       unfolding numbers_in rows_declared inline_declared from_attribute attribute_style in_numbers
       merging-next x s out' ex es m =
-          let d = inline_declared c base (numbers_at (drop at t)) in
+          let d = inline_declared c base (numbers_at (drop (style_width * i) t)) in
           let e : out' ≡ merge_row_by (update_by c) out d = m.numbers ∙ rw (es, ex) in
-          let q : drop style_width (drop at t) ≡ drop (at + style_width) t = drop-drop style_width at t in
-          let w : merged_row c out (rows_declared c base (suc (left - 1)) (drop at t)) ≡ merged_row c out₀ (rows_declared c base count t) = rw one_more at v.rest in
+          let n : style_width * i + style_width ≡ style_width * (i + 1) = omega arith in
+          let q : drop style_width (drop (style_width * i) t) ≡ drop (style_width * (i + 1)) t = drop-drop style_width (style_width * i) t ∙ ap (λ (k : ℕ). drop k t) n in
+          let w : merged_row c out (rows_declared c base (suc (count - (i + 1))) (drop (style_width * i) t)) ≡ merged_row c out₀ (rows_declared c base count t) = rw one_more at v.rest in
           record {
-            place = omega (arith, v.place);
+            within_count = omega arith;
             bits = v.bits;
             shiftable = rw q at all-shiftable.1;
             long = ap length e ∙ merge-long (update_by c) out d ∙ v.long;
-            rest = rw (e, ← q, ← merged-more c out d (rows_declared c base (left - 1) (drop style_width (drop at t)))) w;
+            rest = rw (e, ← q, ← merged-more c out d (rows_declared c base (count - (i + 1)) (drop style_width (drop (style_width * i) t)))) w;
           }
 
 -- ---- the styles of an attribute, from their rows

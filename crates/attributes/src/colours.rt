@@ -13,7 +13,6 @@ use combinators::texts::same_text;
 use declarations::attributes::parse_color_attribute;
 use syntax::rows::{AUTHOR_ORIGIN, BACKGROUND_SLOT, COLOUR_SLOT};
 use syntax::styles::{StyleNumbers, Value};
-use values::colours::ColourAnswer;
 
 const COLOR_NAME: [u8; 5] = *b"color";
 
@@ -36,24 +35,18 @@ fn merge_colour(
     ensures out_after { out.new ≡ merged_row cascade out.old (map (from_attribute false spec) (colour_says slot value.now)) }
     ensures texts_unchanged { take fill texts.new ≡ take fill texts.old }
 {
-    match parse_color_attribute(value, tokens, brackets, texts, fill) {
-        ColourAnswer::Colour(number) => {
-            let colour = Value {
-                number,
-                second: 0,
-                start: 0,
-            };
-            let style = StyleNumbers {
-                slot,
-                important: false,
-                value: colour,
-            };
-            merge_computed_style(out, cascade, MAIN, AUTHOR_ORIGIN, spec, style);
-            return;
-        }
-        ColourAnswer::NoColour => {
-            return;
-        }
+    if let Some(number) = parse_color_attribute(value, tokens, brackets, texts, fill) {
+        let colour = Value {
+            number,
+            second: 0,
+            start: 0,
+        };
+        let style = StyleNumbers {
+            slot,
+            important: false,
+            value: colour,
+        };
+        merge_computed_style(out, cascade, MAIN, AUTHOR_ORIGIN, spec, style);
     }
 }
 
@@ -86,9 +79,7 @@ pub fn merge_colour_attribute(
             texts,
             fill,
         );
-        return;
-    }
-    if same_text(name, &BGCOLOR_NAME) {
+    } else if same_text(name, &BGCOLOR_NAME) {
         merge_colour(
             cascade,
             spec,

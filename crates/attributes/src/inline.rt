@@ -20,12 +20,8 @@ fn inline_important(cascade: Cascade, important: bool) -> bool
     ensures { result ≡ inline_important cascade important }
 {
     match cascade {
-        Cascade::Crate => {
-            return false;
-        }
-        Cascade::Book => {
-            return important;
-        }
+        Cascade::Crate => false,
+        Cascade::Book => important,
     }
 }
 
@@ -36,13 +32,13 @@ fn shifted(style: StyleNumbers, base: usize) -> Value
 {
     let value = style.value;
     if style.slot == CONTENT_SLOT {
-        return Value {
+        Value {
             number: value.number + base as u32,
-            second: value.second,
-            start: value.start,
-        };
+            ..value
+        }
+    } else {
+        value
     }
-    value
 }
 
 // A style of a `style` attribute as it is merged.
@@ -50,11 +46,10 @@ fn inline_style(cascade: Cascade, base: usize, style: StyleNumbers) -> StyleNumb
     requires { Shiftable base style }
     ensures { result ≡ inline_style cascade base style }
 {
-    let value = shifted(style, base);
     StyleNumbers {
-        slot: style.slot,
         important: inline_important(cascade, style.important),
-        value,
+        value: shifted(style, base),
+        ..style
     }
 }
 
@@ -64,10 +59,8 @@ fn merge_inline_styles(cascade: Cascade, tokens: &[u32], count: usize, base: usi
     requires inline_rows { InlineRows base count tokens.now }
     ensures { out.new ≡ merged_row cascade out.old (rows_declared cascade base count tokens.now) }
 {
-    let mut at = 0;
-    let mut left = count;
-    while left > 0 {
-        let style = inline_style(cascade, base, style_at(tokens, at));
+    for i in 0..count {
+        let style = inline_style(cascade, base, style_at(tokens, STYLE_WIDTH * i));
         merge_computed_style(
             out,
             cascade,
@@ -76,8 +69,6 @@ fn merge_inline_styles(cascade: Cascade, tokens: &[u32], count: usize, base: usi
             Specificity::INLINE,
             style,
         );
-        at += STYLE_WIDTH;
-        left -= 1;
     }
 }
 

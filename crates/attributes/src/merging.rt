@@ -60,11 +60,9 @@ fn merge_late(
                 texts,
                 fill,
             );
-            return fill;
+            fill
         }
-        Cascade::Book => {
-            return fill;
-        }
+        Cascade::Book => fill,
     }
 }
 
@@ -93,8 +91,7 @@ pub fn merge_attributes(
     ensures texts_after { take result texts.new ≡ take fill texts.old ++ attributes_contents (attributes_from attributes.now text.now count at) }
 {
     let mut f = fill;
-    let mut i = 0;
-    while i < count {
+    for i in 0..count {
         f = merge_late(
             cascade,
             attributes,
@@ -108,7 +105,6 @@ pub fn merge_attributes(
             texts,
             f,
         );
-        i += 1;
     }
     f
 }
@@ -132,8 +128,7 @@ fn merge_colours(
     ensures out_after { out.new ≡ merged_row cascade out.old (map (from_attribute false no_specificity) (colours_say (attributes_from attributes.now text.now count at))) }
     ensures texts_unchanged { take fill texts.new ≡ take fill texts.old }
 {
-    let mut i = 0;
-    while i < count {
+    for i in 0..count {
         let name = attribute_name(attributes, text, at + i);
         let value = attribute_value(attributes, text, at + i);
         merge_colour_attribute(
@@ -147,7 +142,6 @@ fn merge_colours(
             texts,
             fill,
         );
-        i += 1;
     }
 }
 
@@ -172,14 +166,9 @@ pub fn merge_early_attributes(
     ensures texts_unchanged { take fill texts.new ≡ take fill texts.old }
 {
     match cascade {
-        Cascade::Crate => {
-            return;
-        }
-        Cascade::Book => {
-            merge_colours(
-                cascade, attributes, text, at, count, out, tokens, brackets, texts, fill,
-            );
-            return;
-        }
+        Cascade::Crate => {}
+        Cascade::Book => merge_colours(
+            cascade, attributes, text, at, count, out, tokens, brackets, texts, fill,
+        ),
     }
 }

@@ -1,6 +1,7 @@
 -- The row that an element begins with, and what it inherits behind its declarations, are the written rows of these styles; and rows lent out of longer stores. Assumes
 -- nothing.
 use mathlib.Core.Path.{◌≡◌, refl, sym, ap, ◌∙◌, subst}
+use Rattle.std.specs.Prelude.{Some, None}
 use mathlib.Core.Bool.{Bool, true, false}
 use mathlib.Core.List.{List, [], ◌∷◌, ◌++◌, foldl, append-nil}
 use Prim.Native.Nat.{ℕ, ◌+◌, ◌-◌, ◌*◌, ◌≤◌, ◌<◌}
@@ -14,15 +15,15 @@ use Rattle.combinators.proofs.Rules.{pick_true, pick-false, pick-holds, is-no}
 use Rattle.syntax.specs.Layout.{flag, flag_of, colour_slot, white_space_slot}
 use Rattle.syntax.specs.declared.styles.Value.{Value}
 use Rattle.cascade.specs.declared.rows.Handed as rows
-use Rattle.cascade.specs.declared.slots.Slot as code
+use Rattle.cascade.specs.declared.slots.Candidate as code
 use Rattle.cascade.specs.declared.slots.Cascade.{Cascade}
 use Rattle.cascade.specs.declared.slots.Cascade.TheVariants.{Crate, Book}
-use Rattle.cascade.specs.Slot.{Candidate, Slot, fill_update, slot_by}
+use Rattle.cascade.specs.declared.slots.Slot as slots
+use Rattle.cascade.specs.Slot.{Candidate, Slot, fill_update, candidate_by, slot_by, held_by}
 use Rattle.cascade.specs.Record.{slot_count, record_count, main_record, before_record, after_record, ComputedStyle, Formed, record_in, slot_in, empty_record, empty_style, Declared, inherit_by, Handed, handed_by, handed_slot, handed_on, fill_record, fill_pseudo, finish_by}
 use Rattle.cascade.specs.Row.{record_width, style_row_width, record_place, slot_place, slot_numbers, slots_numbers, record_numbers, row_of, slot_at, record_at, style_at, AllFine, RowFine, RowRoom, present_flag, present_row, merge_row_by, inherited_row, handed_says, handed_at, filled_row, filled_pseudo, finished_row, Finished}
 use Rattle.cascade.proofs.RowLaws.{flag_one, slot-there, same-windows, Which, is_main, is_before, is_after, which}
 use Rattle.cascade.proofs.RowBack.{same-fine, row-long, row_fine, row_back, style-back, empty-formed, merges-view, merges-fine}
-use Rattle.cascade.proofs.SlotLaws.{filled-slot, unfilled-slot}
 use Rattle.cascade.proofs.Merging.{merge-long, merge-steps}
 use Rattle.cascade.proofs.Cascading.{fold-append}
 use Rattle.cascade.proofs.Rewriting.{present-view, present-number, begin-view}
@@ -165,16 +166,16 @@ unfolding handed_says handed_at
 handed-slots h xs e f = rw (e, f)
 
 -- one slot, from one that holds a value: taken out, filled and put back
-pub slot-filled : (r k : ℕ) (from old new : code.Slot) (xs ys : List ℕ) → r < record_count → k < slot_count → from.filled ≡ true → slot_by old ≡ slot_at xs (slot_place r k)
-    → slot_by new ≡ fill_update (slot_by old) (record { weight = from.weight; value = from.value })
+pub slot-filled : (r k : ℕ) (x : code.Candidate) (from old new : slots.Slot) (xs ys : List ℕ) → r < record_count → k < slot_count → from.held ≡ Some x → slot_by old ≡ slot_at xs (slot_place r k)
+    → slot_by new ≡ fill_update (slot_by old) (candidate_by x)
     → ys ≡ set (sets xs (slot_place r k) (slot_numbers (slot_by new))) (record_place r) present_flag → ys ≡ foldl (merge_row_by fill_update) xs (handed_slot r k (slot_by from))
-slot-filled r k from old new xs ys h l f e g y =
-    rw (filled-slot from f)
-    (unfold handed_slot in merge-steps fill_update xs (record { pseudo = r; slot = k; candidate = record { weight = from.weight; value = from.value } }) (slot_by old) (slot_by new) ys h l e g y)
+slot-filled r k x from old new xs ys h l f e g y =
+    rw f
+    (unfold held_by in (unfold handed_slot in merge-steps fill_update xs (record { pseudo = r; slot = k; candidate = candidate_by x }) (slot_by old) (slot_by new) ys h l e g y))
 
--- from one that holds nothing: none is handed on
-pub slot-unfilled : (r k : ℕ) (from : code.Slot) (xs : List ℕ) → from.filled ≡ false → xs ≡ foldl (merge_row_by fill_update) xs (handed_slot r k (slot_by from))
-slot-unfilled r k from xs f = rw (unfilled-slot from f) (unfold handed_slot in refl)
+-- one that holds nothing hands on nothing
+pub slot-unfilled : (r k : ℕ) (from : slots.Slot) (xs : List ℕ) → from.held ≡ None → xs ≡ foldl (merge_row_by fill_update) xs (handed_slot r k (slot_by from))
+slot-unfilled r k from xs f = rw f (unfold held_by in (unfold handed_slot in refl))
 
 -- both slots of a record
 pub record-filled : (r : ℕ) (h : rows.Handed) (xs ys zs : List ℕ) → ys ≡ foldl (merge_row_by fill_update) xs (handed_slot r colour_slot (slot_by h.color))

@@ -1,5 +1,4 @@
 pub mod Orders
-pub mod SlotLaws
 pub mod Winners
 pub mod Windows
 pub mod RowLaws

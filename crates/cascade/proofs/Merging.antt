@@ -5,18 +5,16 @@ use mathlib.Core.List.{List}
 use Prim.Native.Nat.{ℕ, ◌≤◌, ◌<◌}
 use lib.ListN.{length, set}
 use lib.Seq.{sets}
-use borrow.Author.Tests.{lt-ltb, le-ltb, ltb-true}
+use borrow.Author.Tests.{lt-ltb, ltb-true}
 use Rattle.combinators.specs.Choice.{pick}
-use Rattle.combinators.proofs.Rules.{pick_true, pick-false, pick-holds, and_both, and_left, and_right, and-true}
+use Rattle.combinators.proofs.Rules.{pick_true, pick-false, pick-holds, and_both, and-true}
 use Rattle.syntax.specs.declared.styles.Value.{Value}
-use Rattle.cascade.specs.declared.slots.Slot as code
 use Rattle.cascade.specs.declared.slots.Cascade.{Cascade}
-use Rattle.cascade.specs.Slot.{Candidate, Slot, held, update_by, slot_by}
+use Rattle.cascade.specs.declared.slots.Slot as slots
+use Rattle.cascade.specs.Slot.{Candidate, Slot, update_by, slot_by}
 use Rattle.cascade.specs.Record.{slot_count, record_count, update_style, Declared, is_named, merge_by}
-use Rattle.cascade.specs.Row.{style_row_width, record_place, slot_place, slot_numbers, slot_width, slot_at, style_at, RowRoom, update_row, merge_row_by, Merged}
+use Rattle.cascade.specs.Row.{style_row_width, record_place, slot_place, slot_numbers, slot_at, style_at, RowRoom, update_row, merge_row_by, Merged}
 use Rattle.cascade.proofs.RowLaws.{update-long, update-view}
-use Rattle.cascade.proofs.SlotLaws.{filled-slot, unfilled-slot}
-use Rattle.combinators.specs.Store.{wiped}
 
 -- ---- which declarations name a slot
 module _ (r k : ℕ) where
@@ -25,31 +23,10 @@ module _ (r k : ℕ) where
   unfolding is_named
   named h l = and_both _ _ (lt-ltb r record_count h) (lt-ltb k slot_count l)
 
-  -- a record that there is not is not named
-  pub no_record : record_count ≤ r → is_named r k ≡ false
-  unfolding is_named
-  no_record h = and_left _ _ (le-ltb r record_count h)
-
-  -- a slot that there is not is not named
-  pub no_slot : slot_count ≤ k → is_named r k ≡ false
-  unfolding is_named
-  no_slot h = and_right _ _ (le-ltb k slot_count h)
-
   -- what it means to be named
   pub named-says : is_named r k ≡ true → (r < record_count) × (k < slot_count)
   unfolding is_named
   named-says e = let p = and-true _ _ e in (ltb-true r record_count p.0, ltb-true k slot_count p.1)
-
--- ---- what writing a slot leaves
-module _ (s : code.Slot) (xs ys : List ℕ) (i : ℕ) where
-  -- writing the numbers of what a filled slot holds is writing the slot
-  pub wrote-held : s.filled ≡ true → ys ≡ sets xs i (slot_numbers (held (record { weight = s.weight; value = s.value }))) → ys ≡ sets xs i (slot_numbers (slot_by s))
-  wrote-held f e = rw (filled-slot s f) e
-
-  -- wiping a slot's width is writing an empty slot
-  pub wrote-empty : s.filled ≡ false → ys ≡ wiped i slot_width xs → ys ≡ sets xs i (slot_numbers (slot_by s))
-  unfolding wiped slot_numbers
-  wrote-empty f e = rw (unfilled-slot s f) e
 
 -- ---- by any update of slots
 module _ (u : Slot Value → Candidate Value → Slot Value) (xs : List ℕ) (d : Declared Value) where
@@ -89,7 +66,7 @@ module _ (c : Cascade) (xs ys : List ℕ) (d : Declared Value) (h : RowRoom xs) 
   by-numbers e = record { numbers = e; meaning = ap style_at e ∙ merge-view (update_by c) xs d h.room }
 
   -- a slot taken out, updated and put back
-  pub merged : (old new : code.Slot) → d.pseudo < record_count → d.slot < slot_count → slot_by old ≡ slot_at xs (slot_place d.pseudo d.slot) → slot_by new ≡ update_by c (slot_by old) d.candidate
+  pub merged : (old new : slots.Slot) → d.pseudo < record_count → d.slot < slot_count → slot_by old ≡ slot_at xs (slot_place d.pseudo d.slot) → slot_by new ≡ update_by c (slot_by old) d.candidate
       → ys ≡ set (sets xs (slot_place d.pseudo d.slot) (slot_numbers (slot_by new))) (record_place d.pseudo) 1 → Merged c xs ys d
   merged old new a b e f g = by-numbers (merge-steps (update_by c) xs d (slot_by old) (slot_by new) ys a b e f g)
 

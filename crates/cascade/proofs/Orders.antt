@@ -36,11 +36,6 @@ module _ (p q rest : Bool) where
   unfolding flag
   flag-below e f = rw (e, f) (then-lower 0 1 rest (omega arith))
 
-  -- and the other way round
-  pub flag-above : p ≡ true → q ≡ false → false ≡ less_then (flag p) (flag q) rest
-  unfolding flag
-  flag-above e f = rw (e, f) (then-higher 1 0 rest (omega arith))
-
 -- ---- what the order says: a number is lower, or the same and what follows says it
 module _ (a b : ℕ) (rest : Bool) where
   -- it holds where a number is lower, or the same and what follows holds

@@ -1,12 +1,12 @@
 -- Rows that are copied, cleared or begun, number by number and as styles. Assumes nothing.
-use mathlib.Core.Path.{◌≡◌, refl, sym, ap, ◌∙◌}
+use mathlib.Core.Path.{◌≡◌, refl, ap, ◌∙◌}
 use mathlib.Core.Bool.{true}
 use mathlib.Core.List.{List, [], ◌∷◌, map}
-use Prim.Native.Nat.{ℕ, zero, suc, ◌+◌, ◌-◌, ◌*◌, ◌≤◌, ◌<◌}
+use Prim.Native.Nat.{ℕ, zero, suc, ◌+◌, ◌*◌, ◌≤◌, ◌<◌}
 use native.Mathlib.Nat.{add-zero}
 use native.Mathlib.Omega.{arith}
-use lib.ListN.{length, get_or, set, take, drop, replicate, length-set, length-replicate}
-use lib.Seq.{sets, get_or-set_same, get_or-set_other, get_or-take, drop-cons, take-set-le}
+use lib.ListN.{length, get_or, set, replicate, length-set, length-replicate}
+use lib.Seq.{sets, get_or-set_same, get_or-set_other}
 use Rattle.combinators.specs.Choice.{pick, is}
 use Rattle.combinators.specs.Store.{wiped}
 use Rattle.combinators.proofs.Wiped.{length-wiped}
@@ -14,7 +14,7 @@ use Rattle.syntax.specs.Layout.{flag_of}
 use Rattle.cascade.specs.declared.slots.Cascade.{Cascade}
 use Rattle.cascade.specs.declared.slots.Cascade.TheVariants.{Crate, Book}
 use Rattle.cascade.specs.Record.{slot_count, empty_record, empty_style, inherit, inherit_by}
-use Rattle.cascade.specs.Row.{record_width, style_row_width, read_slot, windows, record_at, style_at, RowRoom, TwoRooms, present_flag, present_row, inherited_row, Inherited, Emptied}
+use Rattle.cascade.specs.Row.{record_width, style_row_width, read_slot, windows, record_at, style_at, RowRoom, present_flag, present_row, inherited_row, Inherited, Emptied}
 use Rattle.cascade.proofs.Windows.{sets-low}
 use Rattle.cascade.proofs.RowLaws.{record_same, style-same, flag_one, same-windows, same-record}
 
@@ -50,30 +50,6 @@ inherit-by zs parent f e =
 pub present-view : (xs : List ℕ) → style_row_width ≤ length xs → style_at (present_row xs) ≡ inherit (style_at xs)
 unfolding present_row
 present-view xs h = inherit-by (set xs 0 1) xs (λ p a b. get_or-set_other xs 0 p 1 0 (λ e. omega arith)) (get_or-set_same xs 0 1 0 (omega arith))
-
--- ---- a row over one that stands behind it in the same store
-module _ (xs : List ℕ) (from to : ℕ) (h : TwoRooms xs from to) where
-  -- the loop: what is left to copy, onto what is copied so far, gives the whole, and the parent's row stays
-  pub within_more : (ys : List ℕ) (i : ℕ) → i < style_row_width → take to ys ≡ take to xs
-      → sets (set ys (to + i) (get_or ys (from + i) 0)) (to + (i + 1)) (take (style_row_width - (i + 1)) (drop (from + (i + 1)) xs)) ≡ sets ys (to + i) (take (style_row_width - i) (drop (from + i) xs))
-  within_more ys i k e =
-      let n : get_or ys (from + i) 0 ≡ get_or xs (from + i) 0 = sym (get_or-take to ys (from + i) 0 (omega (arith, h.apart))) ∙ ap (λ (l : List ℕ). get_or l (from + i) 0) e ∙ get_or-take to xs (from + i) 0 (omega (arith, h.apart)) in
-      let z : style_row_width - i ≡ suc (style_row_width - (i + 1)) = omega arith in
-      let y : to + (i + 1) ≡ suc (to + i) = omega arith in
-      let x : from + (i + 1) ≡ suc (from + i) = omega arith in
-      rw (n, z, y, x, drop-cons xs (from + i) 0 (omega (arith, h.apart, h.room)))
-
-  -- which lies before what is written
-  pub within-kept : (ys : List ℕ) (i v : ℕ) → take to ys ≡ take to xs → take to (set ys (to + i) v) ≡ take to xs
-  within-kept ys i v e = take-set-le to ys (to + i) v (omega arith) ∙ e
-
-  -- at the start all is left
-  pub within-begin : sets xs (to + 0) (take (style_row_width - 0) (drop (from + 0) xs)) ≡ sets xs to (take style_row_width (drop from xs))
-  within-begin = rw (add-zero to, add-zero from)
-
-  -- and where nothing is left, the store is the whole
-  pub within-done : (ys : List ℕ) (i : ℕ) → style_row_width ≤ i → sets ys (to + i) (take (style_row_width - i) (drop (from + i) xs)) ≡ ys
-  within-done ys i k = let z : style_row_width - i ≡ 0 = omega arith in rw z
 
 -- ---- the main record made present
 module _ (xs : List ℕ) (h : style_row_width ≤ length xs) where

@@ -1,12 +1,15 @@
 -- A slot of a style (`WithSpec` of src/lib.rs), the candidates for its value, and what a new candidate makes of it: as the crate does it, and in the order of
 -- CSS Cascading Level 3. A value is of any type: an update only moves it. Assumes nothing: these are definitions.
-use Rattle.std.specs.Prelude.{◌≡◌, Bool, true, false, List, [], ◌∷◌, ◌++◌, ℕ, ◌<◌, ltb}
+use Rattle.std.specs.Prelude.{◌≡◌, Bool, true, false, List, [], ◌∷◌, ◌++◌, ℕ, ◌<◌, ltb, Option, Some, None}
 use Rattle.combinators.specs.All.{All}
 use Rattle.combinators.specs.Choice.{pick, or, is}
 use Rattle.syntax.specs.Style.{agent_origin, user_origin}
 use Rattle.syntax.specs.declared.styles.Value.{Value}
 use Rattle.cascade.specs.declared.slots.Weight.{Weight}
-use Rattle.cascade.specs.declared.slots.Slot as code
+use Rattle.cascade.specs.declared.slots.Candidate as code
+use Rattle.cascade.specs.declared.slots.Slot as slots
+use Rattle.cascade.specs.declared.slots.Rank.{Rank}
+use Rattle.cascade.specs.declared.slots.Rank.TheVariants.{NormalAgent, NormalUser, NormalAuthor, ImportantAuthor, ImportantUser, ImportantAgent}
 use Rattle.cascade.specs.declared.slots.Cascade.{Cascade}
 use Rattle.cascade.specs.declared.slots.Cascade.TheVariants.{Crate, Book}
 use Rattle.cascade.specs.Specificity.{less_then, less, LessSpecific}
@@ -119,6 +122,25 @@ pub data Specified {A : Type 0} (s : Slot A) (inherits : Bool) (declared : List 
   by-inheritance : declared ≡ [] → inherits ≡ true → s ≡ parent → Specified s inherits declared parent
   by_default : declared ≡ [] → inherits ≡ false → s ≡ empty → Specified s inherits declared parent
 
--- ---- the slot that the code's value of it says
-unfoldable pub slot_by : code.Slot → Slot Value
-slot_by s = pick s.filled (held (record { weight = s.weight; value = s.value })) empty
+-- ---- what the code's values say
+-- the number of a rank
+abbrev pub rank_number : Rank → ℕ
+rank_number NormalAgent = normal_agent
+rank_number NormalUser = normal_user
+rank_number NormalAuthor = normal_author
+rank_number ImportantAuthor = important_author
+rank_number ImportantUser = important_user
+rank_number ImportantAgent = important_agent
+
+-- a candidate
+abbrev pub candidate_by : code.Candidate → Candidate Value
+candidate_by c = record { weight = c.weight; value = c.value }
+
+-- what a slot holds
+unfoldable pub held_by : Option code.Candidate → Slot Value
+held_by (Some c) = held (candidate_by c)
+held_by None = empty
+
+-- a slot
+abbrev pub slot_by : slots.Slot → Slot Value
+slot_by s = held_by s.held

@@ -2,13 +2,12 @@
 ghost use Rattle.std.specs.Prelude.{◌≡◌, ◌+◌, ◌*◌, ◌<◌, set, take, drop};
 ghost use Rattle.std.proofs.lemmas.List.Edits.{sets};
 ghost use mathlib.Core.List.{foldl};
-ghost use Rattle.cascade.specs.Slot.{slot_by, held, fill_update};
+ghost use Rattle.cascade.specs.Slot.{candidate_by, slot_by, held, fill_update};
 ghost use Rattle.cascade.specs.Record.{record_count, slot_count, handed_slot};
 ghost use Rattle.cascade.specs.Row.{slot_at, slot_numbers, record_place, present_flag, style_row_width, merge_row_by, handed_says, handed_at, filled_row, filled_pseudo, RowRoom, SlotRoom, TwoRooms, Merged, Inherited, Finished, Emptied};
 
-use crate::slots::{Cascade, Slot, Weight};
+use crate::slots::{Candidate, Cascade, Slot, Weight};
 use crate::specificity::Specificity;
-use combinators::stores::wipe_numbers;
 use syntax::rows::{COLOUR_SLOT, FLAG_TRUE, WHITE_SPACE_SLOT, flag_of};
 use syntax::styles::{StyleNumbers, Value};
 
@@ -75,6 +74,9 @@ fn read_slot(row: &[u32], at: usize) -> Slot
     requires { SlotRoom row.now at }
     ensures { slot_by result ≡ slot_at row.now at }
 {
+    if row[at + SLOT_FILLED] != FLAG_TRUE {
+        return Slot::EMPTY;
+    }
     let spec = Specificity {
         inline: row[at + SLOT_INLINE] == FLAG_TRUE,
         id: row[at + SLOT_ID],
@@ -91,49 +93,47 @@ fn read_slot(row: &[u32], at: usize) -> Slot
         second: row[at + SLOT_SECOND],
         start: row[at + SLOT_START],
     };
-    Slot {
-        filled: row[at + SLOT_FILLED] == FLAG_TRUE,
-        weight,
-        value,
-    }
+    Slot::new(Candidate { weight, value })
 }
 
 // The numbers of a filled slot, from a place on.
-fn write_held(row: &mut [u32], at: usize, weight: Weight, value: Value)
+fn write_held(row: &mut [u32], at: usize, candidate: Candidate)
     requires { SlotRoom row.old at }
-    ensures { row.new ≡ sets row.old at (slot_numbers (held (record { weight = weight; value = value }))) }
+    ensures { row.new ≡ sets row.old at (slot_numbers (held (candidate_by candidate))) }
 {
+    let Candidate { weight, value } = candidate;
     let spec = weight.spec;
-    row[at + SLOT_FILLED] = FLAG_TRUE;
-    row[at + SLOT_ORIGIN] = weight.origin;
-    row[at + SLOT_INLINE] = flag_of(spec.inline);
-    row[at + SLOT_ID] = spec.id;
-    row[at + SLOT_CLASS] = spec.class;
-    row[at + SLOT_TYPE] = spec.typ;
-    row[at + SLOT_IMPORTANT] = flag_of(weight.important);
-    row[at + SLOT_NUMBER] = value.number;
-    row[at + SLOT_SECOND] = value.second;
-    row[at + SLOT_START] = value.start;
+    row[at..at + SLOT_WIDTH].copy_from_slice(&[
+        FLAG_TRUE,
+        weight.origin,
+        flag_of(spec.inline),
+        spec.id,
+        spec.class,
+        spec.typ,
+        flag_of(weight.important),
+        value.number,
+        value.second,
+        value.start,
+    ]);
 }
 
 // The numbers of a slot: one that holds nothing is zeros.
-fn write_slot(row: &mut [u32], at: usize, s: Slot)
+fn write_slot(row: &mut [u32], at: usize, slot: Slot)
     requires { SlotRoom row.old at }
-    ensures { row.new ≡ sets row.old at (slot_numbers (slot_by s)) }
+    ensures { row.new ≡ sets row.old at (slot_numbers (slot_by slot)) }
 {
-    if s.filled {
-        write_held(row, at, s.weight, s.value);
-        return;
+    match slot.held {
+        Some(candidate) => write_held(row, at, candidate),
+        None => row[at..at + SLOT_WIDTH].fill(0),
     }
-    wipe_numbers(row, at, SLOT_WIDTH);
 }
 
 // The slot is put back at its place, and its record is present.
-fn put_back(row: &mut [u32], pseudo: usize, at: usize, s: Slot)
+fn put_back(row: &mut [u32], pseudo: usize, at: usize, slot: Slot)
     requires { RowRoom row.old × (pseudo < record_count) × SlotRoom row.old at }
-    ensures { row.new ≡ set (sets row.old at (slot_numbers (slot_by s))) (record_place pseudo) present_flag }
+    ensures { row.new ≡ set (sets row.old at (slot_numbers (slot_by slot))) (record_place pseudo) present_flag }
 {
-    write_slot(row, at, s);
+    write_slot(row, at, slot);
     row[pseudo * RECORD_WIDTH] = FLAG_TRUE;
 }
 
@@ -150,21 +150,21 @@ pub fn merge_computed_style(
     ensures { Merged cascade row.old row.new (record { pseudo = pseudo; slot = style.slot; candidate = record { weight = record { important = style.important; origin = origin; spec = spec }; value = style.value } }) }
 {
     let slot = style.slot as usize;
-    if pseudo >= RECORD_COUNT {
-        return;
-    }
-    if slot >= SLOT_COUNT {
+    if pseudo >= RECORD_COUNT || slot >= SLOT_COUNT {
         return;
     }
     let at = pseudo * RECORD_WIDTH + PRESENCE_WIDTH + slot * SLOT_WIDTH;
-    let old = read_slot(row, at);
     let weight = Weight {
         important: style.important,
         origin,
         spec,
     };
-    let new = old.update(cascade, weight, style.value);
-    put_back(row, pseudo, at, new);
+    let new = Candidate {
+        weight,
+        value: style.value,
+    };
+    let old = read_slot(row, at);
+    put_back(row, pseudo, at, old.update(cascade, new));
 }
 
 // A style over another that stands behind it in the same store, since two parts of it cannot be lent at once.
@@ -172,11 +172,7 @@ pub fn copy_within(rows: &mut [u32], parent: usize, child: usize)
     requires { TwoRooms rows.old parent child }
     ensures { rows.new ≡ sets rows.old child (take style_row_width (drop parent rows.old)) }
 {
-    let mut i = 0;
-    while i < STYLE_ROW_WIDTH {
-        rows[child + i] = rows[parent + i];
-        i += 1;
-    }
+    rows.copy_within(parent..parent + STYLE_ROW_WIDTH, child);
 }
 
 // The row that a child begins with, in place of its parent's: in the crate's cascade all of it, in the book order nothing.
@@ -185,16 +181,10 @@ pub fn inherit(row: &mut [u32], cascade: Cascade)
     ensures { Inherited cascade row.old row.new }
 {
     match cascade {
-        Cascade::Crate => {
-            row[MAIN * RECORD_WIDTH] = FLAG_TRUE;
-            return;
-        }
-        Cascade::Book => {
-            wipe_numbers(row, 0, STYLE_ROW_WIDTH); // all three records
-            row[MAIN * RECORD_WIDTH] = FLAG_TRUE;
-            return;
-        }
+        Cascade::Crate => {}
+        Cascade::Book => row[..STYLE_ROW_WIDTH].fill(0), // all three records
     }
+    row[MAIN * RECORD_WIDTH] = FLAG_TRUE;
 }
 
 // What the element of a row hands on in the book order.
@@ -202,9 +192,10 @@ pub fn handed_on(row: &[u32]) -> Handed
     requires { RowRoom row.now }
     ensures { handed_says result ≡ handed_at row.now }
 {
-    let color = read_slot(row, COLOR_PLACE);
-    let white_space = read_slot(row, WHITE_SPACE_PLACE);
-    Handed { color, white_space }
+    Handed {
+        color: read_slot(row, COLOR_PLACE),
+        white_space: read_slot(row, WHITE_SPACE_PLACE),
+    }
 }
 
 // A slot of a record filled from one that is handed on.
@@ -212,12 +203,10 @@ fn fill_slot(row: &mut [u32], pseudo: usize, slot: usize, from: Slot)
     requires { RowRoom row.old × (pseudo < record_count) × (slot < slot_count) }
     ensures { row.new ≡ foldl (merge_row_by fill_update) row.old (handed_slot pseudo slot (slot_by from)) }
 {
-    if from.filled {
+    if let Some(handed) = from.held {
         let at = pseudo * RECORD_WIDTH + PRESENCE_WIDTH + slot * SLOT_WIDTH;
         let old = read_slot(row, at);
-        let new = old.fill(from.weight, from.value);
-        put_back(row, pseudo, at, new);
-        return;
+        put_back(row, pseudo, at, old.fill(handed));
     }
 }
 
@@ -238,7 +227,6 @@ fn fill_pseudo(row: &mut [u32], pseudo: usize)
     if row[pseudo * RECORD_WIDTH] == FLAG_TRUE {
         let own = handed_on(row);
         fill_record(row, pseudo, own);
-        return;
     }
 }
 
@@ -248,14 +236,11 @@ pub fn finish(row: &mut [u32], cascade: Cascade, parent: Handed)
     ensures { Finished cascade (handed_says parent) row.old row.new }
 {
     match cascade {
-        Cascade::Crate => {
-            return;
-        }
+        Cascade::Crate => {}
         Cascade::Book => {
             fill_record(row, MAIN, parent);
             fill_pseudo(row, BEFORE);
             fill_pseudo(row, AFTER);
-            return;
         }
     }
 }
@@ -265,5 +250,5 @@ pub fn clear_row(row: &mut [u32])
     requires { RowRoom row.old }
     ensures { Emptied row.old row.new }
 {
-    wipe_numbers(row, 0, STYLE_ROW_WIDTH);
+    row[..STYLE_ROW_WIDTH].fill(0);
 }

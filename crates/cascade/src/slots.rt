@@ -1,23 +1,10 @@
 // A slot of a style (`WithSpec` of html2text's src/lib.rs), by value, and what a new value makes of it in either cascade.
 ghost use Rattle.std.specs.Prelude.{◌≡◌};
-ghost use Rattle.cascade.specs.Slot.{held_by_importance, held_by_origin, held_against, maybe_update, rank, held_in_book, book_update, update_by, fill_update, slot_by, held};
+ghost use Rattle.cascade.specs.Slot.{held_by_importance, held_by_origin, held_against, maybe_update, rank, rank_number, held_in_book, book_update, update_by, fill_update, candidate_by, slot_by, held};
 
 use crate::specificity::Specificity;
-use syntax::rows::{AGENT_ORIGIN, AUTHOR_ORIGIN, USER_ORIGIN};
+use syntax::rows::{AGENT_ORIGIN, USER_ORIGIN};
 use syntax::styles::Value;
-
-// Ranks of the book order, lowest first.
-const NORMAL_AGENT: u32 = 0;
-
-const NORMAL_USER: u32 = 1;
-
-const NORMAL_AUTHOR: u32 = 2;
-
-const IMPORTANT_AUTHOR: u32 = 3;
-
-const IMPORTANT_USER: u32 = 4;
-
-const IMPORTANT_AGENT: u32 = 5;
 
 // The crate's cascade, or that of CSS Cascading Level 3.
 #[derive(Clone, Copy)]
@@ -26,7 +13,7 @@ pub enum Cascade {
     Book,
 }
 
-// How important a value is, from which origin, and how specific.
+// How important a value is, from which origin, and how specific. The origin is a number as it stands in lent rows, which may hold any.
 #[derive(Clone, Copy)]
 pub struct Weight {
     pub important: bool,
@@ -34,34 +21,42 @@ pub struct Weight {
     pub spec: Specificity,
 }
 
-// Whether it holds a value, what weighs for that value, and the value.
+// A value that a declaration offers a slot, with what weighs for it.
 #[derive(Clone, Copy)]
-pub struct Slot {
-    pub filled: bool,
+pub struct Candidate {
     pub weight: Weight,
     pub value: Value,
 }
 
+// A slot holds nothing, or the value of a candidate.
+#[derive(Clone, Copy)]
+pub struct Slot {
+    pub held: Option<Candidate>,
+}
+
+// The ranks of the book order, lowest first.
+#[derive(Clone, Copy, PartialEq, Eq, PartialOrd, Ord)]
+enum Rank {
+    NormalAgent,
+    NormalUser,
+    NormalAuthor,
+    ImportantAuthor,
+    ImportantUser,
+    ImportantAgent,
+}
+
 // The place of an origin and an importance in CSS Cascading Level 3.
-fn rank_of(origin: u32, important: bool) -> u32
-    ensures { result ≡ rank origin important }
+fn rank_of(origin: u32, important: bool) -> Rank
+    ensures { rank_number result ≡ rank origin important }
 {
-    if important {
-        if origin == AGENT_ORIGIN {
-            return IMPORTANT_AGENT;
-        }
-        if origin == USER_ORIGIN {
-            return IMPORTANT_USER;
-        }
-        return IMPORTANT_AUTHOR;
+    match (important, origin) {
+        (false, AGENT_ORIGIN) => Rank::NormalAgent,
+        (false, USER_ORIGIN) => Rank::NormalUser,
+        (false, _) => Rank::NormalAuthor,
+        (true, AGENT_ORIGIN) => Rank::ImportantAgent,
+        (true, USER_ORIGIN) => Rank::ImportantUser,
+        (true, _) => Rank::ImportantAuthor,
     }
-    if origin == AGENT_ORIGIN {
-        return NORMAL_AGENT;
-    }
-    if origin == USER_ORIGIN {
-        return NORMAL_USER;
-    }
-    NORMAL_AUTHOR
 }
 
 impl Weight {
@@ -69,10 +64,7 @@ impl Weight {
     fn held_by_importance(self, new: Self) -> bool
         ensures { result ≡ held_by_importance self new }
     {
-        if new.important {
-            return false;
-        }
-        self.important
+        self.important && !new.important
     }
 
     // The origin decides against the new value.
@@ -80,23 +72,17 @@ impl Weight {
         ensures { result ≡ held_by_origin self new }
     {
         if new.important {
-            return self.origin < new.origin;
+            self.origin < new.origin
+        } else {
+            new.origin < self.origin
         }
-        new.origin < self.origin
     }
 
     // A value of this weight stays against a new one in the crate's cascade.
     fn held_against(self, new: Self) -> bool
         ensures { result ≡ held_against self new }
     {
-        if self.held_by_importance(new) {
-            return true;
-        }
-        if self.held_by_origin(new) {
-            return true;
-        }
-        let spec = new.spec;
-        spec.less(self.spec)
+        self.held_by_importance(new) || self.held_by_origin(new) || new.spec.less(self.spec)
     }
 
     // The same in the book order: the new one is of a lower rank, or of the same rank and less specific.
@@ -105,78 +91,59 @@ impl Weight {
     {
         let theirs = rank_of(new.origin, new.important);
         let own = rank_of(self.origin, self.important);
-        if theirs < own {
-            return true;
-        }
-        if own < theirs {
-            return false;
-        }
-        let spec = new.spec;
-        spec.less(self.spec)
+        theirs < own || theirs == own && new.spec.less(self.spec)
     }
 }
 
 impl Slot {
-    // The slot that holds a value.
-    pub fn new(weight: Weight, value: Value) -> Self
-        ensures { slot_by result ≡ held (record { weight = weight; value = value }) }
+    // The slot that holds nothing.
+    pub const EMPTY: Slot = Slot { held: None };
+
+    // The slot that holds the value of a candidate.
+    pub fn new(candidate: Candidate) -> Self
+        ensures { slot_by result ≡ held (candidate_by candidate) }
     {
         Self {
-            filled: true,
-            weight,
-            value,
+            held: Some(candidate),
         }
     }
 
     // As the crate updates it: the new value is taken unless importance, origin or specificity hold it back, in this order.
-    pub fn maybe_update(self, weight: Weight, value: Value) -> Self
-        ensures { slot_by result ≡ maybe_update (slot_by self) (record { weight = weight; value = value }) }
+    pub fn maybe_update(self, new: Candidate) -> Self
+        ensures { slot_by result ≡ maybe_update (slot_by self) (candidate_by new) }
     {
-        if self.filled {
-            let own = self.weight;
-            if own.held_against(weight) {
-                return self;
-            }
-            return Self::new(weight, value);
+        match self.held {
+            Some(own) if own.weight.held_against(new.weight) => self,
+            _ => Self::new(new),
         }
-        Self::new(weight, value)
     }
 
     // As CSS Cascading Level 3 orders the candidates: the later of two equals wins.
-    pub fn update_in_book_order(self, weight: Weight, value: Value) -> Self
-        ensures { slot_by result ≡ book_update (slot_by self) (record { weight = weight; value = value }) }
+    pub fn update_in_book_order(self, new: Candidate) -> Self
+        ensures { slot_by result ≡ book_update (slot_by self) (candidate_by new) }
     {
-        if self.filled {
-            let own = self.weight;
-            if own.held_in_book(weight) {
-                return self;
-            }
-            return Self::new(weight, value);
+        match self.held {
+            Some(own) if own.weight.held_in_book(new.weight) => self,
+            _ => Self::new(new),
         }
-        Self::new(weight, value)
     }
 
     // By either cascade.
-    pub fn update(self, cascade: Cascade, weight: Weight, value: Value) -> Self
-        ensures { slot_by result ≡ update_by cascade (slot_by self) (record { weight = weight; value = value }) }
+    pub fn update(self, cascade: Cascade, new: Candidate) -> Self
+        ensures { slot_by result ≡ update_by cascade (slot_by self) (candidate_by new) }
     {
         match cascade {
-            Cascade::Crate => {
-                return self.maybe_update(weight, value);
-            }
-            Cascade::Book => {
-                return self.update_in_book_order(weight, value);
-            }
+            Cascade::Crate => self.maybe_update(new),
+            Cascade::Book => self.update_in_book_order(new),
         }
     }
 
     // What a value that is inherited in the book order makes of it: it fills a slot that holds nothing.
-    pub fn fill(self, weight: Weight, value: Value) -> Self
-        ensures { slot_by result ≡ fill_update (slot_by self) (record { weight = weight; value = value }) }
+    pub fn fill(self, new: Candidate) -> Self
+        ensures { slot_by result ≡ fill_update (slot_by self) (candidate_by new) }
     {
-        if self.filled {
-            return self;
+        Self {
+            held: self.held.or(Some(new)),
         }
-        Self::new(weight, value)
     }
 }

@@ -1,25 +1,14 @@
 // Specificities (`Specificity` of html2text's src/lib.rs), by value.
 ghost use Rattle.std.specs.Prelude.{◌≡◌};
-ghost use Rattle.combinators.specs.Choice.{or};
-ghost use Rattle.cascade.specs.Specificity.{specificity_of, inline_specificity, SumFits, sum, less_by_selector, less};
+ghost use Rattle.cascade.specs.Specificity.{specificity_of, inline_specificity, SumFits, sum, less};
 
-// A `style` attribute, or how many ids, classes and types a selector names.
-#[derive(Clone, Copy)]
+// A `style` attribute, or how many ids, classes and types a selector names. The fields stand in the order in which they decide (`partial_cmp`).
+#[derive(Clone, Copy, PartialEq, Eq, PartialOrd, Ord)]
 pub struct Specificity {
     pub inline: bool,
     pub id: u32,
     pub class: u32,
     pub typ: u32,
-}
-
-// Whether one of the two holds.
-fn either(a: bool, b: bool) -> bool
-    ensures { result ≡ or a b }
-{
-    if a {
-        return true;
-    }
-    b
 }
 
 impl Specificity {
@@ -63,47 +52,18 @@ impl Specificity {
         requires { SumFits self other }
         ensures { result ≡ sum self other }
     {
-        let inline = either(self.inline, other.inline);
         Self {
-            inline,
+            inline: self.inline || other.inline,
             id: self.id + other.id,
             class: self.class + other.class,
             typ: self.typ + other.typ,
         }
     }
 
-    // By ids, then classes, then types.
-    fn less_by_selector(self, other: Self) -> bool
-        ensures { result ≡ less_by_selector self other }
-    {
-        if self.id < other.id {
-            return true;
-        }
-        if other.id < self.id {
-            return false;
-        }
-        if self.class < other.class {
-            return true;
-        }
-        if other.class < self.class {
-            return false;
-        }
-        self.typ < other.typ
-    }
-
-    // Whether the other is the more specific (`partial_cmp`).
+    // Whether the other is the more specific.
     pub fn less(self, other: Self) -> bool
         ensures { result ≡ less self other }
     {
-        if self.inline {
-            if other.inline {
-                return self.less_by_selector(other);
-            }
-            return false;
-        }
-        if other.inline {
-            return true;
-        }
-        self.less_by_selector(other)
+        self < other
     }
 }

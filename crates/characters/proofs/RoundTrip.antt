@@ -1,4 +1,5 @@
 -- UTF-8 there and back: what is written reads back, and what is read was written.
+use Rattle.std.proofs.Common.{Option, Some, None}
 use Prim.Native.Nat.{ℕ, ◌+◌, ◌*◌, ◌/◌, ◌%◌, ◌≤◌, ◌<◌}
 use mathlib.Core.Path.{◌≡◌, refl, sym, ap, ◌∙◌}
 use mathlib.Core.Bool.{true}
@@ -12,7 +13,6 @@ use Rattle.combinators.proofs.Rules.{ranges, pick-holds, by_order, within-true, 
 use Rattle.combinators.proofs.Lists.{front-one, front-two, front-three, front-four}
 use Rattle.characters.specs.Utf8.{is_scalar, continuation, utf8, is_continuation, lead_of, two, three, four, scalar_tail, scalar_by, scalar_of}
 use Rattle.characters.specs.declared.utf8.Scalar.{Scalar}
-use Rattle.characters.specs.declared.utf8.Scalar.TheVariants.{Value, NoScalar}
 use Rattle.characters.specs.declared.utf8.Lead.{Lead}
 use Rattle.characters.proofs.Scalars.{
   utf8-ascii,
@@ -35,24 +35,24 @@ starts a t l e = by_row (a ∷ t) (λ z. omega arith) a refl l e
 -- the first byte has a row of so many bytes, and the bytes behind it are in their ranges
 module _ (lo hi a : ℕ) (t : List ℕ) where
   -- a lead byte of length one is read as its scalar value
-  reads-ascii : record { long = 1; low = lo; high = hi } ≡ lead_of a → scalar_of (a ∷ t) ≡ Value 1 a
+  reads-ascii : record { long = 1; low = lo; high = hi } ≡ lead_of a → scalar_of (a ∷ t) ≡ Some (record { taken = 1; value = a })
   unfolding scalar_by pick is
   reads-ascii e = starts a t _ e
 
   -- a lead byte of length two and a second byte within its bounds are read as one scalar value
-  reads_two : (b : ℕ) → record { long = 2; low = lo; high = hi } ≡ lead_of a → within b lo hi ≡ true → scalar_of (a ∷ b ∷ t) ≡ Value 2 (two a b)
+  reads_two : (b : ℕ) → record { long = 2; low = lo; high = hi } ≡ lead_of a → within b lo hi ≡ true → scalar_of (a ∷ b ∷ t) ≡ Some (record { taken = 2; value = two a b })
   unfolding scalar_by scalar_tail pick is
   reads_two b e h = rw (starts a (b ∷ t) _ e, h)
 
   -- a lead byte of length three, a second byte within its bounds and a continuation byte are read as one scalar value
   reads_three : (b c : ℕ) → record { long = 3; low = lo; high = hi } ≡ lead_of a → within b lo hi ≡ true → is_continuation c ≡ true
-      → scalar_of (a ∷ b ∷ c ∷ t) ≡ Value 3 (three a b c)
+      → scalar_of (a ∷ b ∷ c ∷ t) ≡ Some (record { taken = 3; value = three a b c })
   unfolding scalar_by scalar_tail pick is
   reads_three b c e h k = rw (starts a (b ∷ c ∷ t) _ e, h, k)
 
   -- a lead byte of length four, a second byte within its bounds and two continuation bytes are read as one scalar value
   reads-four : (b c d : ℕ) → record { long = 4; low = lo; high = hi } ≡ lead_of a → within b lo hi ≡ true → is_continuation c ≡ true
-      → is_continuation d ≡ true → scalar_of (a ∷ b ∷ c ∷ d ∷ t) ≡ Value 4 (four a b c d)
+      → is_continuation d ≡ true → scalar_of (a ∷ b ∷ c ∷ d ∷ t) ≡ Some (record { taken = 4; value = four a b c d })
   unfolding scalar_by scalar_tail pick is
   reads-four b c d e h k l = rw (starts a (b ∷ c ∷ d ∷ t) _ e, h, k, l)
 
@@ -74,7 +74,7 @@ by_bits v h =
 
 -- what is to be shown of v
 abbrev Back : List ℕ → ℕ → Type 0
-Back t v = scalar_of (utf8 v ++ t) ≡ Value (length (utf8 v)) v
+Back t v = scalar_of (utf8 v ++ t) ≡ Some (record { taken = length (utf8 v); value = v })
 
 -- the first bytes from a₀ to a₁ have the row of so many bytes, with the second from lo to hi
 abbrev Row : ℕ → ℕ → ℕ → ℕ → ℕ → Type 0
@@ -94,7 +94,7 @@ module _ (t : List ℕ) (v : ℕ) where
       let b : ℕ = 0x80 + v % 64 in
       let row : Row 0xc2 0xdf 2 0x80 0xbf = λ x l h. search ranges depth 20 in
       let e : a % 32 * 64 + b % 64 ≡ v = omega arith in
-      rw (utf8-two v l h) (reads_two 0x80 0xbf a t b (row a (omega arith) (omega arith)) (continues v) ∙ ap (Value 2) e)
+      rw (utf8-two v l h) (reads_two 0x80 0xbf a t b (row a (omega arith) (omega arith)) (continues v) ∙ ap (λ x. Some (record { taken = 2; value = x })) e)
 
   module _ (a₀ a₁ lo hi : ℕ) where
     -- three bytes, the first with this row
@@ -107,7 +107,7 @@ module _ (t : List ℕ) (v : ℕ) where
         let c : ℕ = 0x80 + v % 64 in
         let e : a % 16 * 4096 + b % 64 * 64 + c % 64 ≡ v = omega arith in
         rw (utf8-three v l h)
-        (reads_three lo hi a t b c (row a (omega arith) (omega arith)) (within-yes b lo hi (omega arith) (omega arith)) (continues v) ∙ ap (Value 3) e)
+        (reads_three lo hi a t b c (row a (omega arith) (omega arith)) (within-yes b lo hi (omega arith) (omega arith)) (continues v) ∙ ap (λ x. Some (record { taken = 3; value = x })) e)
 
     -- four bytes, the first with this row
     back-four : Row a₀ a₁ 4 lo hi → 0xffff < v → v ≤ 0x10ffff
@@ -120,7 +120,7 @@ module _ (t : List ℕ) (v : ℕ) where
         let d : ℕ = 0x80 + v % 64 in
         rw (utf8-four v l)
         (reads-four lo hi a t b c d (row a (omega arith) (omega arith)) (within-yes b lo hi (omega arith) (omega arith)) (continues (v / 64)) (continues v)
-        ∙ ap (Value 4) (by_bits v h))
+        ∙ ap (λ x. Some (record { taken = 4; value = x })) (by_bits v h))
 
   -- below the surrogates: five rows
   back_low : v ≤ 0xd7ff → Back t v
@@ -144,7 +144,7 @@ module _ (t : List ℕ) (v : ℕ) where
       (lt-or-ge v 0x100000)) (lt-or-ge v 0x40000)) (lt-or-ge v 0x10000)
 
 -- the bytes of a scalar value read as that value, whatever follows them
-pub read_back : (v : ℕ) (t : List ℕ) → is_scalar v ≡ true → scalar_of (utf8 v ++ t) ≡ Value (length (utf8 v)) v
+pub read_back : (v : ℕ) (t : List ℕ) → is_scalar v ≡ true → scalar_of (utf8 v ++ t) ≡ Some (record { taken = length (utf8 v); value = v })
 read_back v t e = by_scalar (Back t v) v e (back_low t v) (back-high t v)
 
 -- ---- what is read was written
@@ -189,9 +189,9 @@ bytes-four a b c d a₀ a₁ b₀ b₁ c₀ c₁ d₀ d₁ l =
     rw (p, q, r, t) at (utf8-four v l)
 
 -- what is read from a text that holds it is a scalar value, and the bytes that it takes are the bytes of that value
-abbrev Written : List ℕ → Scalar → Type 0
-Written s (Value n v) = n ≤ length s → (is_scalar v ≡ true) × (take n s ≡ utf8 v)
-Written s NoScalar = Unit
+abbrev Written : List ℕ → Option Scalar → Type 0
+Written s (Some c) = c.taken ≤ length s → (is_scalar c.value ≡ true) × (take c.taken s ≡ utf8 c.value)
+Written s None = Unit
 
 module _ (s : List ℕ) where
   -- its bytes, and what the first two, three and four stand for
@@ -208,20 +208,20 @@ module _ (s : List ℕ) where
   of_four = four (byte 0) (byte 1) (byte 2) (byte 3)
 
   -- two bytes of these ranges
-  read-two : 0xc2 ≤ byte 0 → byte 0 ≤ 0xdf → 0x80 ≤ byte 1 → byte 1 ≤ 0xbf → Written s (Value 2 of_two)
+  read-two : 0xc2 ≤ byte 0 → byte 0 ≤ 0xdf → 0x80 ≤ byte 1 → byte 1 ≤ 0xbf → Written s (Some (record { taken = 2; value = of_two }))
   unfolding two
   read-two a₀ a₁ b₀ b₁ n = (scalar-low _ (omega arith), front-two s n ∙ sym (bytes-two _ _ a₀ a₁ b₀ b₁))
 
   -- three, where they stand for a scalar value that has no shorter form
   read-three : 0xe0 ≤ byte 0 → byte 0 ≤ 0xef → 0x80 ≤ byte 1 → byte 1 ≤ 0xbf → is_continuation (byte 2) ≡ true
-      → (0x800 ≤ of_three) × (is_scalar of_three ≡ true) → Written s (Value 3 of_three)
+      → (0x800 ≤ of_three) × (is_scalar of_three ≡ true) → Written s (Some (record { taken = 3; value = of_three }))
   read-three a₀ a₁ b₀ b₁ e g n =
       let c = continuation-range (byte 2) e in
       (g.1, front-three s n ∙ sym (bytes-three _ _ _ a₀ a₁ b₀ b₁ c.0 c.1 g.0))
 
   -- four, where they stand for a code point that has no shorter form
   read-four : 0xf0 ≤ byte 0 → byte 0 ≤ 0xf4 → 0x80 ≤ byte 1 → byte 1 ≤ 0xbf → is_continuation (byte 2) ≡ true → is_continuation (byte 3) ≡ true
-      → (0x10000 ≤ of_four) × (of_four ≤ 0x10ffff) → Written s (Value 4 of_four)
+      → (0x10000 ≤ of_four) × (of_four ≤ 0x10ffff) → Written s (Some (record { taken = 4; value = of_four }))
   read-four a₀ a₁ b₀ b₁ e p g n =
       let c = continuation-range (byte 2) e in
       let d = continuation-range (byte 3) p in
@@ -295,10 +295,10 @@ module _ (s : List ℕ) where
   written = pick-holds (Written s) _ _ _ (λ _. tt) (λ _. by-lead)
 
 -- what a text is read as stands at its start
-pub written_back : (s : List ℕ) (n v : ℕ) → scalar_of s ≡ Value n v → Read s n v
+pub written_back : (s : List ℕ) (n v : ℕ) → scalar_of s ≡ Some (record { taken = n; value = v }) → Read s n v
 written_back s n v e =
     let p = scalar-some s n v e in
-    let w : Written s (Value n v) = rw e at (written s) in
+    let w : Written s (Some (record { taken = n; value = v })) = rw e at (written s) in
     let r = w p.1 in
     record {
       scalar = r.0;

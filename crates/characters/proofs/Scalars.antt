@@ -1,4 +1,5 @@
 -- Scalar values: their bytes, which numbers they are, what stands for a number that is none, and that a text holds what is read from it.
+use Rattle.std.proofs.Common.{Option, Some, None}
 use mathlib.Core.Path.{◌≡◌, refl, sym}
 use mathlib.Core.List.{List, [], ◌∷◌}
 use mathlib.Core.Bool.{Bool, true}
@@ -35,7 +36,6 @@ use Rattle.characters.specs.Utf8.{
   scalar_taken,
 }
 use Rattle.characters.specs.declared.utf8.Scalar.{Scalar}
-use Rattle.characters.specs.declared.utf8.Scalar.TheVariants.{Value, NoScalar}
 use Rattle.characters.specs.declared.utf8.Lead.{Lead}
 
 -- ---- the bytes of a scalar value, row by row of Table 3-6
@@ -150,18 +150,18 @@ second x =
     (second-of _ _ _ (λ h. omega arith) (λ h. omega arith))))))))))
 
 -- a scalar value takes a byte or more, all of them in the text
-unfoldable Held : List ℕ → Scalar → Type 0
-Held s (Value n v) = (1 ≤ n) × (n ≤ length s)
-Held s NoScalar = 0 ≤ length s
+unfoldable Held : List ℕ → Option Scalar → Type 0
+Held s (Some c) = (1 ≤ c.taken) × (c.taken ≤ length s)
+Held s None = 0 ≤ length s
 
 module _ (s : List ℕ) where
   -- n bytes that are there
-  held-value : (n v : ℕ) → 1 ≤ n → n ≤ length s → Held s (Value n v)
+  held-value : (n v : ℕ) → 1 ≤ n → n ≤ length s → Held s (Some (record { taken = n; value = v }))
   unfolding Held
   held-value n v h k = (h, k)
 
   -- where nothing is read, nothing is asked
-  held_none : Held s NoScalar
+  held_none : Held s None
   unfolding Held
   held_none = omega arith
 
@@ -195,15 +195,15 @@ module _ (s : List ℕ) where
   held = pick-holds (Held s) _ _ _ (λ _. held_none) (λ e. held-row (lead_of (get_or s 0 0)) (second (get_or s 0 0)) (let d = is_false (length s) 0 e in omega arith))
 
   -- a scalar value that was read takes a byte or more, and no more than there are
-  pub scalar-some : (n v : ℕ) → scalar_of s ≡ Value n v → (1 ≤ n) × (n ≤ length s)
+  pub scalar-some : (n v : ℕ) → scalar_of s ≡ Some (record { taken = n; value = v }) → (1 ≤ n) × (n ≤ length s)
   unfolding Held
   scalar-some n v e = rw e at held
 
 -- the bytes that it takes are there
-taken-le : (s : List ℕ) (r : Scalar) → Held s r → taken_of r ≤ length s
+taken-le : (s : List ℕ) (r : Option Scalar) → Held s r → taken_of r ≤ length s
 unfolding Held taken_of
-taken-le s (Value n v) h = h.1
-taken-le s NoScalar h = h
+taken-le s (Some c) h = h.1
+taken-le s None h = h
 
 -- what is taken from a text is there
 pub scalar-within : (s : List ℕ) → scalar_taken s ≤ length s

@@ -1,4 +1,5 @@
 -- Well-formed texts are the texts of scalar values, and stay well formed where they are cut between scalar values or joined.
+use Rattle.std.proofs.Common.{Option, Some, None}
 use Prim.Native.Nat.{ℕ, zero, suc, ◌+◌, ◌≤◌, ◌<◌}
 use mathlib.Core.Path.{◌≡◌, refl, sym, ap, ap₂, ◌∙◌}
 use mathlib.Core.Bool.{true}
@@ -14,12 +15,11 @@ use Rattle.characters.specs.Utf8.{is_scalar, utf8, scalar_of, scalar_taken, take
 use Rattle.characters.specs.Utf8.Scalars.{none, more}
 use Rattle.characters.specs.Utf8.Cut.{start, behind}
 use Rattle.characters.specs.declared.utf8.Scalar.{Scalar}
-use Rattle.characters.specs.declared.utf8.Scalar.TheVariants.{Value, NoScalar}
 use Rattle.characters.proofs.RoundTrip.{Read, read_back, written_back}
 
 -- ---- well formed behind a scalar value
 -- a text is well formed where what follows its first scalar value is
-pub valid-behind : (s : List ℕ) (n v : ℕ) → scalar_of s ≡ Value n v → valid s ≡ valid (drop n s)
+pub valid-behind : (s : List ℕ) (n v : ℕ) → scalar_of s ≡ Some (record { taken = n; value = v }) → valid s ≡ valid (drop n s)
 unfolding valid scalar_taken taken_of
 valid-behind s n v e =
     let r = written_back s n v e in
@@ -61,7 +61,7 @@ encoded-more s n v r t =
     }
 
 -- a text that begins with no scalar value is well formed only where it is empty
-no-scalar : (s : List ℕ) → scalar_of s ≡ NoScalar → valid s ≡ true → length s ≡ 0
+no-scalar : (s : List ℕ) → scalar_of s ≡ None → valid s ≡ true → length s ≡ 0
 unfolding valid scalar_taken taken_of
 no-scalar s e h = sym (is_true (many scalar_taken 0 0 s) (length s) h) ∙ many-stop scalar_taken s 0 (ap taken_of e)
 
@@ -69,9 +69,11 @@ no-scalar s e h = sym (is_true (many scalar_taken 0 0 s) (length s) h) ∙ many-
 encoded-step : (s : List ℕ) → 0 < length s → valid s ≡ true → ((n : ℕ) → 1 ≤ n → valid (drop n s) ≡ true → Encoded (drop n s)) → Encoded s
 encoded-step s l h f = go (scalar_of s) refl
   where
-    go : (x : Scalar) → scalar_of s ≡ x → Encoded s
-    go (Value n v) e = let r = written_back s n v e in encoded-more s n v r (f n r.some (sym (valid-behind s n v e) ∙ h))
-    go NoScalar e = absurd (omega (arith, no-scalar s e h))
+    go : (x : Option Scalar) → scalar_of s ≡ x → Encoded s
+    go (Some c) e =
+        let r = written_back s c.taken c.value e in
+        encoded-more s c.taken c.value r (f c.taken r.some (sym (valid-behind s c.taken c.value e) ∙ h))
+    go None e = absurd (omega (arith, no-scalar s e h))
 
 -- the texts of at most k bytes
 encoded : (k : ℕ) (s : List ℕ) → length s ≤ k → valid s ≡ true → Encoded s

@@ -1,17 +1,16 @@
 -- White_Space and words: what `str::trim` takes off the start of a text, and where `str::split_whitespace` parts it.
-use Rattle.std.specs.Prelude.{ℕ, List, [], ◌∷◌, ◌≡◌, refl, length, drop}
+use Rattle.std.specs.Prelude.{ℕ, List, [], ◌∷◌, ◌≡◌, refl, length, drop, Option, Some, None}
 use Rattle.combinators.specs.Choice.{pick, or, and, is, within}
 use Rattle.combinators.specs.Repeat.{many, took}
 use Rattle.characters.specs.Literal.{text}
 use Rattle.characters.specs.Utf8.{utf8, continuation, is_continuation, lead_of, two, three, scalar_tail, scalar_by, scalar_of}
 use Rattle.characters.specs.WhiteSpace.{is_white_space, member}
 use Rattle.characters.specs.declared.utf8.Scalar.{Scalar}
-use Rattle.characters.specs.declared.utf8.Scalar.TheVariants.{Value, NoScalar}
 
 -- one character of White_Space
-unfoldable pub white_of : Scalar → ℕ
-white_of (Value n v) = pick (is_white_space v) n 0
-white_of NoScalar = 0
+unfoldable pub white_of : Option Scalar → ℕ
+white_of (Some c) = pick (is_white_space c.value) c.taken 0
+white_of None = 0
 
 unfoldable pub white_taken : List ℕ → ℕ
 white_taken s = white_of (scalar_of s)
@@ -21,9 +20,9 @@ unfoldable pub trimmed_start : List ℕ → List ℕ
 trimmed_start s = drop (many white_taken 0 0 s) s
 
 -- one character that is no White_Space; a byte that begins no well-formed character counts as one
-unfoldable pub word_of : Scalar → ℕ
-word_of (Value n v) = pick (is_white_space v) 0 n
-word_of NoScalar = 1
+unfoldable pub word_of : Option Scalar → ℕ
+word_of (Some c) = pick (is_white_space c.value) 0 c.taken
+word_of None = 1
 
 -- at the end of the text there is none
 unfoldable pub word_taken : List ℕ → ℕ

@@ -1,10 +1,9 @@
 -- UTF-8 by the Unicode Standard, section 3.9: the bytes of a scalar value, the scalar value that a text begins with, and
 -- which texts are well formed.
-use Rattle.std.specs.Prelude.{ℕ, ◌+◌, ◌*◌, ◌/◌, ◌%◌, Bool, true, false, List, [], ◌∷◌, ◌++◌, ◌≡◌, refl, leb, length, get_or, drop}
+use Rattle.std.specs.Prelude.{ℕ, ◌+◌, ◌*◌, ◌/◌, ◌%◌, Bool, true, false, List, [], ◌∷◌, ◌++◌, ◌≡◌, refl, leb, length, get_or, drop, Option, Some, None}
 use Rattle.combinators.specs.Choice.{pick, or, and, is, within}
 use Rattle.combinators.specs.Repeat.{many, took}
 use Rattle.characters.specs.declared.utf8.Scalar.{Scalar}
-use Rattle.characters.specs.declared.utf8.Scalar.TheVariants.{Value, NoScalar}
 use Rattle.characters.specs.declared.utf8.Lead.{Lead}
 
 -- a scalar value: any code point but the surrogates (D76)
@@ -59,33 +58,33 @@ unfoldable pub four : ℕ → ℕ → ℕ → ℕ → ℕ
 four a b c d = a % 8 * 262144 + b % 64 * 4096 + c % 64 * 64 + d % 64
 
 -- what a text begins with whose first two bytes fit a row of the table with so many bytes
-unfoldable pub scalar_tail : ℕ → List ℕ → Scalar
+unfoldable pub scalar_tail : ℕ → List ℕ → Option Scalar
 scalar_tail long s =
     let a = get_or s 0 0 in
     let b = get_or s 1 0 in
     let c = get_or s 2 0 in
     let d = get_or s 3 0 in
-    pick (is long 2) (Value 2 (two a b))
+    pick (is long 2) (Some (record { taken = 2; value = two a b }))
     (pick (is_continuation c)
-    (pick (is long 3) (Value 3 (three a b c))
-    (pick (is_continuation d) (Value 4 (four a b c d)) NoScalar))
-    NoScalar)
+    (pick (is long 3) (Some (record { taken = 3; value = three a b c }))
+    (pick (is_continuation d) (Some (record { taken = 4; value = four a b c d })) None))
+    None)
 
 -- what a text begins with whose first byte has the row l
-unfoldable pub scalar_by : Lead → List ℕ → Scalar
+unfoldable pub scalar_by : Lead → List ℕ → Option Scalar
 scalar_by l s =
-    pick (is l.long 1) (Value 1 (get_or s 0 0))
-    (pick (is l.long 0) NoScalar
-    (pick (within (get_or s 1 0) l.low l.high) (scalar_tail l.long s) NoScalar))
+    pick (is l.long 1) (Some (record { taken = 1; value = get_or s 0 0 }))
+    (pick (is l.long 0) None
+    (pick (within (get_or s 1 0) l.low l.high) (scalar_tail l.long s) None))
 
 -- the scalar value that a text begins with, and how many bytes it takes
-unfoldable pub scalar_of : List ℕ → Scalar
-scalar_of s = pick (is (length s) 0) NoScalar (scalar_by (lead_of (get_or s 0 0)) s)
+unfoldable pub scalar_of : List ℕ → Option Scalar
+scalar_of s = pick (is (length s) 0) None (scalar_by (lead_of (get_or s 0 0)) s)
 
 -- the bytes that it takes
-unfoldable pub taken_of : Scalar → ℕ
-taken_of (Value n v) = n
-taken_of NoScalar = 0
+unfoldable pub taken_of : Option Scalar → ℕ
+taken_of (Some c) = c.taken
+taken_of None = 0
 
 unfoldable pub scalar_taken : List ℕ → ℕ
 scalar_taken s = taken_of (scalar_of s)
@@ -106,13 +105,13 @@ pub data Scalars : List ℕ → Type 0 where
 -- a place of a text where a scalar value ends, or its start
 pub data Cut : List ℕ → ℕ → Type 0 where
   start : {s : List ℕ} → Cut s 0
-  behind : {s : List ℕ} {n v k : ℕ} → scalar_of s ≡ Value n v → Cut (drop n s) k → Cut s (n + k)
+  behind : {s : List ℕ} {n v k : ℕ} → scalar_of s ≡ Some (record { taken = n; value = v }) → Cut (drop n s) k → Cut s (n + k)
 
 -- `é`, U+FFFD and U+1F600; a surrogate, an overlong `/`, U+110000, a lone continuation byte, a cut sequence and the empty text
-test_read : (scalar_of (0xc3 ∷ 0xa9 ∷ 0x78 ∷ []) ≡ Value 2 0xe9) × (scalar_of (0xef ∷ 0xbf ∷ 0xbd ∷ []) ≡ Value 3 0xfffd)
-    × (scalar_of (0xf0 ∷ 0x9f ∷ 0x98 ∷ 0x80 ∷ []) ≡ Value 4 0x1f600) × (scalar_of (0xed ∷ 0xa0 ∷ 0x80 ∷ []) ≡ NoScalar)
-    × (scalar_of (0xc0 ∷ 0xaf ∷ []) ≡ NoScalar) × (scalar_of (0xf4 ∷ 0x90 ∷ 0x80 ∷ 0x80 ∷ []) ≡ NoScalar) × (scalar_of (0x80 ∷ []) ≡ NoScalar)
-    × (scalar_of (0xe2 ∷ 0x82 ∷ []) ≡ NoScalar) × (scalar_of [] ≡ NoScalar)
+test_read : (scalar_of (0xc3 ∷ 0xa9 ∷ 0x78 ∷ []) ≡ Some (record { taken = 2; value = 0xe9 })) × (scalar_of (0xef ∷ 0xbf ∷ 0xbd ∷ []) ≡ Some (record { taken = 3; value = 0xfffd }))
+    × (scalar_of (0xf0 ∷ 0x9f ∷ 0x98 ∷ 0x80 ∷ []) ≡ Some (record { taken = 4; value = 0x1f600 })) × (scalar_of (0xed ∷ 0xa0 ∷ 0x80 ∷ []) ≡ None)
+    × (scalar_of (0xc0 ∷ 0xaf ∷ []) ≡ None) × (scalar_of (0xf4 ∷ 0x90 ∷ 0x80 ∷ 0x80 ∷ []) ≡ None) × (scalar_of (0x80 ∷ []) ≡ None)
+    × (scalar_of (0xe2 ∷ 0x82 ∷ []) ≡ None) × (scalar_of [] ≡ None)
 unfolding scalar_of scalar_by scalar_tail lead_of two three four is_continuation pick and is within
 test_read = (refl, refl, refl, refl, refl, refl, refl, refl, refl)
 

@@ -6,11 +6,11 @@ ghost use Rattle.characters.specs.Utf8.{utf8, continuation, is_continuation, or_
 use combinators::bytes::{between, peek, wide};
 use combinators::stores::emit;
 
-// What a text begins with: a scalar value, with the bytes that it takes; or no well-formed sequence.
+// A scalar value that a text begins with, and the bytes that it takes.
 #[derive(Clone, Copy)]
-pub enum Scalar {
-    Value(usize, u32),
-    NoScalar,
+pub struct Scalar {
+    pub taken: usize,
+    pub value: u32,
 }
 
 // What a first byte says: how many bytes the sequence has (0: it starts none), and from where to where the second byte goes.
@@ -31,60 +31,47 @@ fn row(long: usize, low: u8, high: u8) -> Lead
 }
 
 // The row of Table 3-7 that a first byte selects.
+#[tactic(auto, unfolding(crate::specs::Utf8::lead_of, combinators::specs::Choice::pick))]
 fn lead_of(b: u8) -> Lead
     ensures { result ≡ lead_of b }
 {
-    if b <= 0x7f {
-        return row(1, 0, 0);
+    match b {
+        0x00..=0x7f => row(1, 0, 0),
+        0x80..=0xc1 => row(0, 0, 0),
+        0xc2..=0xdf => row(2, 0x80, 0xbf),
+        0xe0 => row(3, 0xa0, 0xbf),
+        0xe1..=0xec => row(3, 0x80, 0xbf),
+        0xed => row(3, 0x80, 0x9f),
+        0xee..=0xef => row(3, 0x80, 0xbf),
+        0xf0 => row(4, 0x90, 0xbf),
+        0xf1..=0xf3 => row(4, 0x80, 0xbf),
+        0xf4 => row(4, 0x80, 0x8f),
+        _ => row(0, 0, 0),
     }
-    if b <= 0xc1 {
-        return row(0, 0, 0);
-    }
-    if b <= 0xdf {
-        return row(2, 0x80, 0xbf);
-    }
-    if b <= 0xe0 {
-        return row(3, 0xa0, 0xbf);
-    }
-    if b <= 0xec {
-        return row(3, 0x80, 0xbf);
-    }
-    if b <= 0xed {
-        return row(3, 0x80, 0x9f);
-    }
-    if b <= 0xef {
-        return row(3, 0x80, 0xbf);
-    }
-    if b <= 0xf0 {
-        return row(4, 0x90, 0xbf);
-    }
-    if b <= 0xf3 {
-        return row(4, 0x80, 0xbf);
-    }
-    if b <= 0xf4 {
-        return row(4, 0x80, 0x8f);
-    }
-    row(0, 0, 0)
 }
 
+#[tactic(auto, unfolding(crate::specs::Utf8::is_continuation))]
 fn is_continuation(b: u8) -> bool
     ensures { result ≡ is_continuation b }
 {
     between(b, 0x80, 0xbf)
 }
 
+#[tactic(auto, unfolding(crate::specs::Utf8::two))]
 fn value_of_two(a: u8, b: u8) -> u32
     ensures { result ≡ two a b }
 {
     wide(a % 32) * 64 + wide(b % 64)
 }
 
+#[tactic(auto, unfolding(crate::specs::Utf8::three))]
 fn value_of_three(a: u8, b: u8, c: u8) -> u32
     ensures { result ≡ three a b c }
 {
     wide(a % 16) * 4096 + wide(b % 64) * 64 + wide(c % 64)
 }
 
+#[tactic(auto, unfolding(crate::specs::Utf8::four))]
 fn value_of_four(a: u8, b: u8, c: u8, d: u8) -> u32
     ensures { result ≡ four a b c d }
 {
@@ -92,63 +79,67 @@ fn value_of_four(a: u8, b: u8, c: u8, d: u8) -> u32
 }
 
 // How many bytes the scalar value `v` has.
+#[tactic(auto, unfolding(crate::specs::Utf8::utf8, combinators::specs::Choice::pick))]
 pub fn length_of(v: u32) -> usize
     ensures { result ≡ length (utf8 v) }
 {
-    if v <= 0x7f {
-        return 1;
+    match v {
+        0..=0x7f => 1,
+        0x80..=0x7ff => 2,
+        0x800..=0xffff => 3,
+        _ => 4,
     }
-    if v <= 0x7ff {
-        return 2;
-    }
-    if v <= 0xffff {
-        return 3;
-    }
-    4
 }
 
 // What `s` begins with, where its first two bytes fit a row of `long` bytes.
-fn scalar_tail(s: &[u8], long: usize) -> Scalar
+#[tactic(auto, unfolding(crate::specs::Utf8::scalar_tail, combinators::specs::Choice::pick, combinators::specs::Choice::is))]
+fn scalar_tail(s: &[u8], long: usize) -> Option<Scalar>
     ensures { result ≡ scalar_tail long s.now }
 {
     let a = peek(s, 0);
     let b = peek(s, 1);
     if long == 2 {
-        return Scalar::Value(2, value_of_two(a, b));
+        return Some(Scalar {
+            taken: 2,
+            value: value_of_two(a, b),
+        });
     }
     let c = peek(s, 2);
-    if is_continuation(c) {
-        if long == 3 {
-            return Scalar::Value(3, value_of_three(a, b, c));
-        }
-        let d = peek(s, 3);
-        if is_continuation(d) {
-            return Scalar::Value(4, value_of_four(a, b, c, d));
-        }
-        return Scalar::NoScalar;
+    if !is_continuation(c) {
+        return None;
     }
-    Scalar::NoScalar
+    if long == 3 {
+        return Some(Scalar {
+            taken: 3,
+            value: value_of_three(a, b, c),
+        });
+    }
+    let d = peek(s, 3);
+    if !is_continuation(d) {
+        return None;
+    }
+    Some(Scalar {
+        taken: 4,
+        value: value_of_four(a, b, c, d),
+    })
 }
 
 // The scalar value that `s` begins with, and how many bytes it takes.
-pub fn scalar_at(s: &[u8]) -> Scalar
+#[tactic(auto, unfolding(crate::specs::Utf8::scalar_of, crate::specs::Utf8::scalar_by, combinators::specs::Choice::pick, combinators::specs::Choice::is))]
+pub fn scalar_at(s: &[u8]) -> Option<Scalar>
     ensures { result ≡ scalar_of s.now }
 {
-    if s.len() == 0 {
-        return Scalar::NoScalar;
-    }
-    let a = peek(s, 0);
+    let a = *s.first()?;
     let lead = lead_of(a);
-    if lead.long == 1 {
-        return Scalar::Value(1, wide(a));
+    match lead.long {
+        0 => None,
+        1 => Some(Scalar {
+            taken: 1,
+            value: wide(a),
+        }),
+        long if between(peek(s, 1), lead.low, lead.high) => scalar_tail(s, long),
+        _ => None,
     }
-    if lead.long == 0 {
-        return Scalar::NoScalar;
-    }
-    if between(peek(s, 1), lead.low, lead.high) {
-        return scalar_tail(s, lead.long);
-    }
-    Scalar::NoScalar
 }
 
 // Whether `s` is well formed.
@@ -156,36 +147,25 @@ pub fn is_valid(s: &[u8]) -> bool
     ensures { result ≡ valid s.now }
 {
     let mut i = 0;
-    while i < s.len() {
-        match scalar_at(&s[i..]) {
-            Scalar::Value(n, _) => {
-                i += n;
-            }
-            Scalar::NoScalar => {
-                return false;
-            }
-        }
+    while let Some(c) = scalar_at(&s[i..]) {
+        i += c.taken;
     }
-    true
+    i == s.len()
 }
 
 // `v`, or U+FFFD where `v` is no scalar value.
+#[tactic(auto, unfolding(crate::specs::Utf8::or_replacement, crate::specs::Utf8::is_scalar, combinators::specs::Choice::pick, combinators::specs::Choice::or, combinators::specs::Choice::within, combinators::specs::Choice::and))]
 pub fn or_replacement(v: u32) -> u32
     ensures { result ≡ or_replacement v }
 {
-    if v <= 0xd7ff {
-        return v;
+    match v {
+        0..=0xd7ff | 0xe000..=0x10ffff => v,
+        _ => REPLACEMENT_CHARACTER,
     }
-    if v < 0xe000 {
-        return REPLACEMENT_CHARACTER;
-    }
-    if v <= 0x10ffff {
-        return v;
-    }
-    REPLACEMENT_CHARACTER
 }
 
 // The continuation byte of the low six bits of `v`.
+#[tactic(auto, unfolding(crate::specs::Utf8::continuation))]
 fn continuation_of(v: u32) -> u8
     ensures { result ≡ continuation v }
 {
@@ -204,21 +184,17 @@ fn emit_two(a: u8, b: u8, store: &mut [u8], fill: usize) -> usize
 pub fn emit_scalar(v: u32, store: &mut [u8], fill: usize) -> usize
     ensures { record { bytes = store.new; fill = result } ≡ emits (record { bytes = store.old; fill = fill }) (utf8 v) }
 {
-    if v <= 0x7f {
-        return emit(v as u8, store, fill);
+    match v {
+        0..=0x7f => emit(v as u8, store, fill),
+        0x80..=0x7ff => emit_two((0xc0 + v / 64) as u8, continuation_of(v), store, fill),
+        0x800..=0xffff => {
+            let f = emit((0xe0 + v / 4096) as u8, store, fill);
+            emit_two(continuation_of(v / 64), continuation_of(v), store, f)
+        }
+        _ => {
+            let lead = (0xf0 + v / 262144 % 8) as u8;
+            let f = emit_two(lead, continuation_of(v / 4096), store, fill);
+            emit_two(continuation_of(v / 64), continuation_of(v), store, f)
+        }
     }
-    if v <= 0x7ff {
-        return emit_two((0xc0 + v / 64) as u8, continuation_of(v), store, fill);
-    }
-    if v <= 0xffff {
-        let f = emit((0xe0 + v / 4096) as u8, store, fill);
-        return emit_two(continuation_of(v / 64), continuation_of(v), store, f);
-    }
-    let f = emit_two(
-        (0xf0 + v / 262144 % 8) as u8,
-        continuation_of(v / 4096),
-        store,
-        fill,
-    );
-    emit_two(continuation_of(v / 64), continuation_of(v), store, f)
 }

@@ -12,13 +12,10 @@ const WHITE_SPACE: [u32; 25] = [
 pub fn is_white_space(v: u32) -> bool
     ensures { result ≡ is_white_space v }
 {
-    let mut i: usize = 0;
-    while i < WHITE_SPACE.len() {
-        let entry = WHITE_SPACE[i];
+    for entry in WHITE_SPACE {
         if v <= entry {
             return v == entry;
         }
-        i += 1;
     }
     false
 }

@@ -2,13 +2,13 @@
 use mathlib.Core.Path.{◌≡◌, refl, sym, ap, ◌∙◌}
 use mathlib.Core.List.{List, [], ◌∷◌, ◌++◌}
 use mathlib.Core.Logic.{⊎_elim}
-use Prim.Native.Nat.{ℕ, suc, ◌+◌, ◌-◌, ◌≤◌, ◌<◌}
+use Prim.Native.Nat.{ℕ, suc, ◌+◌, ◌≤◌, ◌<◌}
 use native.Mathlib.Numerals.{add-one}
 use native.Mathlib.Nat.{add-zero}
 use native.Mathlib.Omega.{arith}
 use borrow.Author.Tests.{lt-ltb, le-ltb}
-use lib.ListN.{length, set, take, drop, get_or, length-set, drop_of_length-le}
-use lib.Seq.{sets, set_out, take-nil, drop-cons}
+use lib.ListN.{length, set, drop, get_or, length-set, drop_of_length-le}
+use lib.Seq.{sets, set_out, drop-cons}
 use Rattle.combinators.specs.Choice.{pick}
 use Rattle.combinators.specs.Store.{Store, step, emits}
 use Rattle.combinators.proofs.Rules.{lt-or-ge}
@@ -95,31 +95,18 @@ emits-over (x ∷ xs) l f h k =
     (lt-or-ge f (length l))
 
 -- ---- `emit_part`: what is left to emit at i is what was to be emitted
-pub record Copying (s : List ℕ) (n : ℕ) (st₀ : List ℕ) (fill : ℕ) (st : List ℕ) (f i : ℕ) : Type 0 where
-  pub left : emits (record { bytes = st; fill = f }) (take (n - i) (drop i s)) ≡ emits (record { bytes = st₀; fill = fill }) (take n s)
+pub record Copying (s st₀ : List ℕ) (fill : ℕ) (st : List ℕ) (f i : ℕ) : Type 0 where
+  pub left : emits (record { bytes = st; fill = f }) (drop i s) ≡ emits (record { bytes = st₀; fill = fill }) s
   pub long : length st ≡ length st₀
 
--- before the first byte nothing is emitted, and all of it is left
-pub copying-begin : (s : List ℕ) (n : ℕ) (st : List ℕ) (fill : ℕ) → Copying s n st fill st fill 0
-copying-begin s n st fill = let d : n - 0 ≡ n = omega arith in record { left = rw d; long = refl }
-
-module _ (s : List ℕ) (n : ℕ) (st₀ : List ℕ) (fill : ℕ) (st : List ℕ) (f i : ℕ) (c : Copying s n st₀ fill st f i) where
+module _ (s st₀ : List ℕ) (fill : ℕ) (st : List ℕ) (f i : ℕ) (c : Copying s st₀ fill st f i) where
   -- with one byte emitted, those behind it are left
-  pub copying-more : i < n → i < length s → (z : List ℕ) (g : ℕ)
-      → record { bytes = z; fill = g } ≡ emits (record { bytes = st; fill = f }) (get_or s i 0 ∷ []) → length z ≡ length st → Copying s n st₀ fill z g (i + 1)
-  copying-more h l z g e k =
-      let d : n - i ≡ suc (n - (i + 1)) = omega arith in
-      let p : take (n - i) (drop i s) ≡ (get_or s i 0 ∷ []) ++ take (n - (i + 1)) (drop (i + 1) s) = rw (d, drop-cons s i 0 l, add-one i) in
+  pub copying-more : i < length s → (z : List ℕ) (g : ℕ) → record { bytes = z; fill = g } ≡ emits (record { bytes = st; fill = f }) (get_or s i 0 ∷ [])
+      → length z ≡ length st → Copying s st₀ fill z g (i + 1)
+  copying-more l z g e k =
+      let p : drop i s ≡ (get_or s i 0 ∷ []) ++ drop (i + 1) s = rw (drop-cons s i 0 l, add-one i) in
       record { left = onto _ _ _ _ e ∙ sym (ap (emits _) p) ∙ c.left; long = k ∙ c.long }
 
-  -- with nothing left to emit, the store is what emitting all of it leaves
-  done : take (n - i) (drop i s) ≡ [] → record { bytes = st; fill = f } ≡ emits (record { bytes = st₀; fill = fill }) (take n s)
-  done p = sym (ap (emits _) p ∙ emits_none _) ∙ c.left
-
-  -- with all n emitted, the store is what emitting the whole leaves
-  pub copying-done : n ≤ i → record { bytes = st; fill = f } ≡ emits (record { bytes = st₀; fill = fill }) (take n s)
-  copying-done h = let d : n - i ≡ 0 = omega arith in done (rw d)
-
-  -- the text is at its end
-  pub copying-end : length s ≤ i → record { bytes = st; fill = f } ≡ emits (record { bytes = st₀; fill = fill }) (take n s)
-  copying-end h = done (rw (drop_of_length-le s h, take-nil))
+  -- with all of it emitted, the store is what emitting the whole leaves
+  pub copying-done : length s ≤ i → record { bytes = st; fill = f } ≡ emits (record { bytes = st₀; fill = fill }) s
+  copying-done h = sym (ap (emits _) (drop_of_length-le s h) ∙ emits_none _) ∙ c.left

@@ -8,5 +8,6 @@ pub mod AllLaws
 pub mod Emitted
 pub mod Cleared
 pub mod Wiped
+pub mod Filled
 pub mod ZeroLaws
 pub mod LeastLaws

@@ -1,24 +1,24 @@
--- The returns of `part_of`.
-use mathlib.Core.Path.{◌≡◌, ap, sym, ◌∙◌}
-use mathlib.Core.List.{List}
-use Prim.Native.Nat.{ℕ, ◌+◌, ◌-◌, ◌<◌}
-use native.Mathlib.Omega.{arith}
-use lib.ListN.{length, take, drop, length-drop, drop_of_length-le}
-use lib.Seq.{take_all, take-nil}
+-- Parts of a store: the return of `part_of`, a part that is not there and one that is.
+use Rattle.std.proofs.Common.{◌≡◌, ap, sym, ◌∙◌, ℕ, ◌+◌, ◌-◌, ◌<◌, List, length, take, drop, min, arith}
+use lib.ListN.{drop_of_length-le}
+use lib.Seq.{take-nil}
+use Rattle.std.proofs.lemmas.List.{take_min, drop_min}
 use Rattle.combinators.specs.Part.{part}
+use Rattle.combinators.proofs.Lists.{rest}
+
+-- a part that begins behind the end begins at the end, and one that runs out there ends there
+pub part-least : (store : List ℕ) (start n a m : ℕ) → a ≡ min start (length store) → m ≡ min n (length (take (length store - a) (drop a store)))
+    → take m (take (length store - a) (drop a store)) ≡ part store start n
+unfolding part
+part-least store start n a m ea em =
+    ap (λ i. take i (take (length store - a) (drop a store))) em ∙ take_min n (take (length store - a) (drop a store))
+    ∙ ap (take n) (rest store a ∙ ap (λ i. drop i store) ea ∙ drop_min start store)
 
 module _ (store : List ℕ) (start n : ℕ) where
   -- the start lies past the end
   pub part_none : length store < start → take 0 store ≡ part store start n
   unfolding part
   part_none h = sym (ap (take n) (drop_of_length-le store {i = start} (omega arith)) ∙ take-nil n)
-
-  -- the store ends before the part does
-  pub part-short : length store - start < n → take (length store - start) (drop start store) ≡ part store start n
-  unfolding part
-  part-short h =
-      let l = length-drop start store in
-      take_all (length store - start) (drop start store) (omega arith) ∙ sym (take_all n (drop start store) (omega arith))
 
   -- a part that ends within the store is lent whole
   pub part-whole : take (start + n - start) (drop start store) ≡ part store start n

@@ -3,7 +3,6 @@ use mathlib.Core.Path.{◌≡◌, refl, sym, ap, subst, ◌∙◌}
 use mathlib.Core.List.{List, [], ◌∷◌, ◌++◌}
 use mathlib.Core.Logic.{⊎_elim}
 use Prim.Native.Nat.{ℕ, zero, suc, ◌+◌, ◌-◌, ◌≤◌, ◌<◌}
-use native.Mathlib.Numerals.{add-one}
 use native.Mathlib.Nat.{add-zero}
 use native.Mathlib.Omega.{arith}
 use lib.ListN.{length, set, replicate, length-replicate, replicate-append-replicate}
@@ -101,12 +100,6 @@ wiped-out f n l h = sets-out (replicate n 0) l f h
 wiped-suc : (f n : ℕ) (l : List ℕ) → wiped (suc f) n (set l f 0) ≡ wiped f (suc n) l
 unfolding wiped
 wiped-suc f n l = refl
-
--- the same, of the zeros that are left
-pub wiped-step : (f n : ℕ) (l : List ℕ) → 0 < n → wiped (f + 1) (n - 1) (set l f 0) ≡ wiped f n l
-wiped-step f n l h =
-    let e : n ≡ suc (n - 1) = omega arith in
-    rw add-one (wiped-suc f (n - 1) l ∙ ap (λ (k : ℕ). wiped f k l) (sym e))
 
 -- so many zeros, and more behind them
 pub wiped-add : (f m n : ℕ) (l : List ℕ) → wiped f (m + n) l ≡ wiped (f + m) n (wiped f m l)

@@ -1,37 +1,36 @@
--- One step of `starts_with` at an index of both lists, and what a true answer says; texts that are the same.
+-- `starts_with` and `same_text` as the library's comparisons, and what a true answer says.
 use mathlib.Core.Path.{◌≡◌, refl, sym, ap, ◌∙◌}
 use mathlib.Core.List.{List, [], ◌∷◌, ◌++◌}
-use mathlib.Core.Bool.{true, false}
-use Prim.Native.Nat.{ℕ, suc, ◌+◌, ◌<◌, ◌≤◌}
-use native.Mathlib.Numerals.{add-one}
+use mathlib.Core.Bool.{Bool, true, false, ◌&&◌}
+use Prim.Native.Nat.{ℕ, suc, ◌≤◌}
 use native.Mathlib.Omega.{arith}
-use lib.ListN.{length, get_or, drop, drop_of_length-le}
-use lib.Seq.{drop-cons}
+use lib.ListN.{length, drop}
+use lib.Dec.{eqb}
+use lib.Pointwise.{pointwise}
+use Rattle.std.specs.List as list
 use Rattle.combinators.specs.Choice.{and, is}
 use Rattle.combinators.specs.Word.{starts_with, same_text}
-use Rattle.combinators.proofs.Rules.{never, and_both, and_right, and-true, is_true, is-yes, is-no}
+use Rattle.combinators.proofs.Rules.{never, and_both, and_right, and-true, is_true, is-yes, same_test}
+use borrow.Author.Tests.{eq-eqb, eqb-true}
 
-module _ (w s : List ℕ) (i : ℕ) where
-  -- all of the word is read
-  pub word-done : length w ≤ i → starts_with (drop i w) (drop i s) ≡ true
-  unfolding starts_with
-  word-done h = rw (drop_of_length-le w h)
+-- ---- the library's comparisons
+-- a test of two bytes is the same in either order
+turned : (x y : ℕ) → eqb x y ≡ is y x
+unfolding is
+turned x y = same_test _ _ (λ h. eq-eqb _ _ (sym (eqb-true _ _ h))) (λ h. eq-eqb _ _ (sym (eqb-true _ _ h)))
 
-  -- the text ends before the word
-  pub word-short : i < length w → length s ≤ i → starts_with (drop i w) (drop i s) ≡ false
-  unfolding starts_with
-  word-short h l = rw (drop-cons w i 0 h, drop_of_length-le s l)
+-- both of two tests
+both-as : (a b c d : Bool) → a ≡ c → b ≡ d → a && b ≡ and c d
+unfolding and
+both-as true b c d e f = rw (← e) f
+both-as false b c d e f = rw (← e) refl
 
-  -- a byte differs from the word's: the text does not begin with it
-  pub word-differs : i < length w → i < length s → ¬ (get_or s i 0 ≡ get_or w i 0) → starts_with (drop i w) (drop i s) ≡ false
-  unfolding starts_with and
-  word-differs h l d = rw (drop-cons w i 0 h, drop-cons s i 0 l, is-no _ _ d)
-
-  -- a byte is the same
-  pub word-step : i < length w → i < length s → get_or s i 0 ≡ get_or w i 0
-      → starts_with (drop i w) (drop i s) ≡ starts_with (drop (i + 1) w) (drop (i + 1) s)
-  unfolding starts_with and
-  word-step h l e = rw (add-one, drop-cons w i 0 h, drop-cons s i 0 l, is-yes _ _ e)
+-- of a word with the start of a text
+pub starts-by : (s w : List ℕ) → list.starts_with eqb s w ≡ starts_with w s
+unfolding starts_with
+starts-by s [] = refl
+starts-by [] (x ∷ w) = refl
+starts-by (y ∷ s) (x ∷ w) = both-as _ _ _ _ (turned x y) (starts-by s w)
 
 -- the word is no longer than the text
 pub starts-le : (w s : List ℕ) → starts_with w s ≡ true → length w ≤ length s
@@ -51,13 +50,13 @@ starts_is (x ∷ w) (y ∷ s) e =
 
 -- ---- two texts
 
--- texts of one length are the same where one begins with the other
-pub same-starts : (s t : List ℕ) → length s ≡ length t → starts_with t s ≡ same_text s t
-unfolding same_text starts_with
-same-starts [] [] e = refl
-same-starts [] (y ∷ t) e = absurd (omega arith)
-same-starts (x ∷ s) [] e = absurd (omega arith)
-same-starts (x ∷ s) (y ∷ t) e = rw (same-starts s t (omega arith))
+-- the library's comparison of two texts
+pub same-by : (s t : List ℕ) → pointwise eqb s t ≡ same_text s t
+unfolding same_text is
+same-by [] [] = refl
+same-by [] (y ∷ t) = refl
+same-by (x ∷ s) [] = refl
+same-by (x ∷ s) (y ∷ t) = both-as _ _ _ _ refl (same-by s t)
 
 -- texts of two lengths are not
 pub same-lengths : (s t : List ℕ) → ¬ (length s ≡ length t) → false ≡ same_text s t

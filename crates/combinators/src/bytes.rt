@@ -4,6 +4,7 @@ ghost use Rattle.combinators.specs.Choice.{is, within};
 ghost use Rattle.combinators.specs.Word.{starts_with};
 
 // Whether `b` is `x`.
+#[tactic(auto, unfolding(crate::specs::Choice::is))]
 pub fn same(b: u8, x: u8) -> bool
     ensures { result ≡ is b x }
 {
@@ -11,27 +12,29 @@ pub fn same(b: u8, x: u8) -> bool
 }
 
 // Whether `b` is from `lo` to `hi`.
+#[tactic(auto, unfolding(crate::specs::Choice::within, crate::specs::Choice::and))]
 pub fn between(b: u8, lo: u8, hi: u8) -> bool
     ensures { result ≡ within b lo hi }
 {
-    if lo <= b { b <= hi } else { false }
+    lo <= b && b <= hi
 }
 
 // The byte as a number of 32 bits, for what a byte cannot hold.
 pub fn wide(b: u8) -> u32
     ensures { result ≡ b }
 {
-    b as u32
+    u32::from(b)
 }
 
 // The byte at `i`, or 0 past the end.
 pub fn peek(s: &[u8], i: usize) -> u8
     ensures { result ≡ get_or s.now i 0 }
 {
-    if i < s.len() { s[i] } else { 0 }
+    s.get(i).copied().unwrap_or(0)
 }
 
 // Whether the byte at `i` is `k`.
+#[tactic(auto, unfolding(crate::specs::Choice::is))]
 pub fn byte_is(s: &[u8], i: usize, k: u8) -> bool
     ensures { result ≡ is (get_or s.now i 0) k }
 {
@@ -42,15 +45,5 @@ pub fn byte_is(s: &[u8], i: usize, k: u8) -> bool
 pub fn starts_with(s: &[u8], word: &[u8]) -> bool
     ensures { result ≡ starts_with word.now s.now }
 {
-    let mut i = 0;
-    while i < word.len() {
-        if i >= s.len() {
-            return false;
-        }
-        if s[i] != word[i] {
-            return false;
-        }
-        i += 1;
-    }
-    true
+    s.starts_with(word)
 }

@@ -16,24 +16,16 @@ pub fn long_enough(length: usize, width: usize, count: usize, more: usize) -> bo
     requires { 0 < width }
     ensures { result ≡ leb (width * count + more) length }
 {
-    if length < more {
-        return false;
-    }
-    count <= (length - more) / width
+    more <= length && count <= (length - more) / width
 }
 
 // Whether stores of these lengths suffice for `n` bytes of text.
+#[tactic(auto, unfolding(crate::specs::LeastLengths::stores_suffice, crate::specs::Choice::and))]
 pub fn stores_suffice(n: usize, rules: usize, tokens: usize, brackets: usize, texts: usize) -> bool
     ensures { result ≡ stores_suffice n rules tokens brackets texts }
 {
-    if long_enough(texts, TEXT_WIDTH, n, TEXT_MORE) {
-        if brackets < n {
-            return false;
-        }
-        if long_enough(rules, NUMBER_WIDTH, n, NUMBER_MORE) {
-            return long_enough(tokens, NUMBER_WIDTH, n, NUMBER_MORE);
-        }
-        return false;
-    }
-    false
+    long_enough(texts, TEXT_WIDTH, n, TEXT_MORE)
+        && n <= brackets
+        && long_enough(rules, NUMBER_WIDTH, n, NUMBER_MORE)
+        && long_enough(tokens, NUMBER_WIDTH, n, NUMBER_MORE)
 }

@@ -49,33 +49,21 @@ pub struct Refusal {
 pub fn no_refusal() -> Refusal
     ensures { result ≡ no_refusal }
 {
-    Refusal {
-        number: NO_REFUSAL,
-        text: 0,
-        place: 0,
-    }
+    refused(NO_REFUSAL)
 }
 
 // A refusal without a place.
 pub fn refused(number: u32) -> Refusal
     ensures { result ≡ refused number }
 {
-    Refusal {
-        number,
-        text: 0,
-        place: 0,
-    }
+    refused_at(number, 0)
 }
 
 // A refusal with a place.
 pub fn refused_at(number: u32, place: usize) -> Refusal
     ensures { result ≡ refused_at number place }
 {
-    Refusal {
-        number,
-        text: 0,
-        place,
-    }
+    refused_in(number, 0, place)
 }
 
 // A refusal with a place in one of the texts.

@@ -1,8 +1,10 @@
-// Lent stores. A writer asks for no room: what does not fit is left out, and the fill then stands one above the length.
+// Lent stores. A writer asks for no room: what does not fit is left out, and the fill then stands one above the length. Bytes and numbers have
+// a function each, since a store of any elements would need a bound on its length, which a store of bytes has by itself.
 ghost use Rattle.std.specs.Prelude.{◌≡◌, [], ◌∷◌, ◌+◌, take, get_or};
 ghost use Rattle.combinators.specs.Store.{emits, cleared, wiped};
 
 // One byte at `fill`; the fill behind it.
+#[tactic(auto, unfolding(crate::specs::Store::emits, crate::specs::Store::step, crate::specs::Choice::pick))]
 pub fn emit(b: u8, store: &mut [u8], fill: usize) -> usize
     ensures { record { bytes = store.new; fill = result } ≡ emits (record { bytes = store.old; fill = fill }) (b ∷ []) }
 {
@@ -15,6 +17,7 @@ pub fn emit(b: u8, store: &mut [u8], fill: usize) -> usize
 }
 
 // One number at `fill`, in a store of numbers; the fill behind it.
+#[tactic(auto, unfolding(crate::specs::Store::emits, crate::specs::Store::step, crate::specs::Choice::pick))]
 pub fn emit_number(x: u32, store: &mut [u32], fill: usize) -> usize
     ensures { record { bytes = store.new; fill = result } ≡ emits (record { bytes = store.old; fill = fill }) (x ∷ []) }
 {
@@ -31,13 +34,8 @@ pub fn emit_part(s: &[u8], n: usize, store: &mut [u8], fill: usize) -> usize
     ensures { record { bytes = store.new; fill = result } ≡ emits (record { bytes = store.old; fill = fill }) (take n s.now) }
 {
     let mut f = fill;
-    let mut i = 0;
-    while i < n {
-        if i >= s.len() {
-            return f;
-        }
-        f = emit(s[i], store, f);
-        i += 1;
+    for b in &s[..n.min(s.len())] {
+        f = emit(*b, store, f);
     }
     f
 }
@@ -46,65 +44,42 @@ pub fn emit_part(s: &[u8], n: usize, store: &mut [u8], fill: usize) -> usize
 pub fn number_at(rows: &[u32], at: usize, k: usize) -> u32
     ensures { result ≡ get_or rows.now (at + k) 0 }
 {
-    if at < rows.len() {
-        if k < rows.len() - at {
-            return rows[at + k];
-        }
+    let Some(row) = rows.get(at..) else {
         return 0;
-    }
-    0
+    };
+    row.get(k).copied().unwrap_or(0)
 }
 
 // Zeros from a place on, in a store of bytes.
 pub fn clear_bytes(store: &mut [u8], from: usize)
     ensures { store.new ≡ cleared from store.old }
 {
-    let mut i = from;
-    while i < store.len() {
-        store[i] = 0;
-        i += 1;
-    }
+    let start = from.min(store.len());
+    store[start..].fill(0);
 }
 
 // Zeros from a place on, in a store of numbers.
 pub fn clear_numbers(store: &mut [u32], from: usize)
     ensures { store.new ≡ cleared from store.old }
 {
-    let mut i = from;
-    while i < store.len() {
-        store[i] = 0;
-        i += 1;
-    }
+    let start = from.min(store.len());
+    store[start..].fill(0);
 }
 
 // `n` zeros from a place on, as far as the store goes, in a store of bytes.
 pub fn wipe_bytes(store: &mut [u8], from: usize, n: usize)
     ensures { store.new ≡ wiped from n store.old }
 {
-    let mut i = from;
-    let mut left = n;
-    while left > 0 {
-        if i >= store.len() {
-            return;
-        }
-        store[i] = 0;
-        i += 1;
-        left -= 1;
-    }
+    let start = from.min(store.len());
+    let end = start + n.min(store.len() - start);
+    store[start..end].fill(0);
 }
 
 // `n` zeros from a place on, as far as the store goes, in a store of numbers.
 pub fn wipe_numbers(store: &mut [u32], from: usize, n: usize)
     ensures { store.new ≡ wiped from n store.old }
 {
-    let mut i = from;
-    let mut left = n;
-    while left > 0 {
-        if i >= store.len() {
-            return;
-        }
-        store[i] = 0;
-        i += 1;
-        left -= 1;
-    }
+    let start = from.min(store.len());
+    let end = start + n.min(store.len() - start);
+    store[start..end].fill(0);
 }

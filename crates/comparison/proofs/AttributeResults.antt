@@ -6,16 +6,18 @@ use mathlib.Core.Path.{◌≡◌, refl, ap, sym, ◌∙◌}
 use native.Mathlib.Omega.{arith}
 use borrow.Author.Tests.{lt-ltb, le-ltb}
 use lib.ListN.{length}
+use Rattle.std.proofs.Common.{Option}
 use Rattle.combinators.specs.LeastLengths.{stores_suffice}
 use Rattle.combinators.specs.Refusal.{too_long, short_store}
 use Rattle.combinators.proofs.LeastLaws.{least}
 use Rattle.combinators.proofs.Rules.{pick_true, pick-false}
 use Rattle.values.specs.Layout.{Room}
-use Rattle.values.specs.declared.colours.ColourAnswer.{ColourAnswer}
 use Rattle.declarations.specs.Leaving.{colour_left, style_left, StyleRoom}
 use Rattle.declarations.specs.declared.attributes.StylesRead.{StylesRead}
 use Rattle.declarations.proofs.LeastLengths.{least-room, least-style-room}
 use Rattle.page.specs.Accepted.{text_limit}
+use Rattle.comparison.specs.declared.values_read.StylesResult.{StylesResult}
+use Rattle.comparison.specs.declared.values_read.ColourResult.{ColourResult}
 use Rattle.comparison.specs.Attributes.{refused_or, refused_styles, styles_result, style_read, style_called, refused_colour, colour_result, colour_read, colour_called}
 
 -- ---- refusals, in their order
@@ -39,19 +41,19 @@ module _ {A : Type 0} (s : List ℕ) (rules tokens brackets texts : ℕ) (refuse
 -- ---- the returns of `comparison_style_attribute`
 module _ (s rules tokens brackets texts : List ℕ) where
   -- the return where the attribute is too long: refused, and the stores as they were
-  pub style-too-long : text_limit < length s
-      → record { result = record { refusal = too_long; count = 0; bytes = 0 }; rules = rules; tokens = tokens; brackets = brackets; texts = texts }
+  pub style-too-long : {r : StylesResult} → r ≡ refused_styles too_long → text_limit < length s
+      → record { result = r; rules = rules; tokens = tokens; brackets = brackets; texts = texts }
       ≡ style_called s rules tokens brackets texts
-  unfolding style_called refused_styles
-  style-too-long h = limit-first s (length rules) (length tokens) (length brackets) (length texts) _ _ h
+  unfolding style_called
+  style-too-long q h = rw q (limit-first s (length rules) (length tokens) (length brackets) (length texts) _ _ h)
 
   module _ (h : length s ≤ text_limit) {t : Bool} (et : t ≡ stores_suffice (length s) (length rules) (length tokens) (length brackets) (length texts)) where
     -- the return where the stores are too short: refused, and the stores as they were
-    pub style-short : t ≡ false
-        → record { result = record { refusal = short_store; count = 0; bytes = 0 }; rules = rules; tokens = tokens; brackets = brackets; texts = texts }
+    pub style-short : {r : StylesResult} → r ≡ refused_styles short_store → t ≡ false
+        → record { result = r; rules = rules; tokens = tokens; brackets = brackets; texts = texts }
         ≡ style_called s rules tokens brackets texts
-    unfolding style_called refused_styles
-    style-short e = stores-then s (length rules) (length tokens) (length brackets) (length texts) _ _ h et e
+    unfolding style_called
+    style-short q e = rw q (stores-then s (length rules) (length tokens) (length brackets) (length texts) _ _ h et e)
 
     module _ (e : t ≡ true) where
       -- stores of the least lengths have the room that reading the attribute's styles asks for
@@ -63,27 +65,27 @@ module _ (s rules tokens brackets texts : List ℕ) where
       -- the return where the styles were read: their count, the bytes of their texts, and the stores as reading leaves them
       pub style-read : {a : StylesRead} {y x b z : List ℕ}
           → record { answer = a; rules = y; tokens = x; brackets = b; store = z } ≡ style_left s rules tokens brackets texts 0
-          → record { result = record { refusal = 0; count = a.count; bytes = a.text }; rules = y; tokens = x; brackets = b; texts = z }
+          → {r : StylesResult} → r ≡ styles_result a → record { result = r; rules = y; tokens = x; brackets = b; texts = z }
           ≡ style_called s rules tokens brackets texts
-      unfolding style_called style_read styles_result
-      style-read p = ap style_read p ∙ answered s (length rules) (length tokens) (length brackets) (length texts) _ _ h et e
+      unfolding style_called style_read
+      style-read p q = rw q (ap style_read p ∙ answered s (length rules) (length tokens) (length brackets) (length texts) _ _ h et e)
 
 -- ---- the returns of `comparison_color_attribute`
 module _ (s tokens brackets texts : List ℕ) where
   -- the return where the attribute is too long: refused, and the stores as they were
-  pub colour-too-long : text_limit < length s
-      → record { result = record { refusal = too_long; found = 0; colour = 0 }; tokens = tokens; brackets = brackets; texts = texts }
+  pub colour-too-long : {r : ColourResult} → r ≡ refused_colour too_long → text_limit < length s
+      → record { result = r; tokens = tokens; brackets = brackets; texts = texts }
       ≡ colour_called s tokens brackets texts
-  unfolding colour_called refused_colour
-  colour-too-long h = limit-first s (length tokens) (length tokens) (length brackets) (length texts) _ _ h
+  unfolding colour_called
+  colour-too-long q h = rw q (limit-first s (length tokens) (length tokens) (length brackets) (length texts) _ _ h)
 
   module _ (h : length s ≤ text_limit) {t : Bool} (et : t ≡ stores_suffice (length s) (length tokens) (length tokens) (length brackets) (length texts)) where
     -- the return where the stores are too short: refused, and the stores as they were
-    pub colour-short : t ≡ false
-        → record { result = record { refusal = short_store; found = 0; colour = 0 }; tokens = tokens; brackets = brackets; texts = texts }
+    pub colour-short : {r : ColourResult} → r ≡ refused_colour short_store → t ≡ false
+        → record { result = r; tokens = tokens; brackets = brackets; texts = texts }
         ≡ colour_called s tokens brackets texts
-    unfolding colour_called refused_colour
-    colour-short e = stores-then s (length tokens) (length tokens) (length brackets) (length texts) _ _ h et e
+    unfolding colour_called
+    colour-short q e = rw q (stores-then s (length tokens) (length tokens) (length brackets) (length texts) _ _ h et e)
 
     module _ (e : t ≡ true) where
       -- stores of the least lengths have the room that reading a colour asks for
@@ -93,9 +95,7 @@ module _ (s tokens brackets texts : List ℕ) where
           least-room (length s) s tokens tokens brackets texts 0 (omega arith) (omega arith) (omega arith) l.for-texts l.for-brackets l.for-rules l.for-tokens
 
       -- the return where the value was read: whether a colour was found, and which, in numbers
-      pub colour-read : {a v : ColourAnswer} {x b z : List ℕ} → record { answer = a; tokens = x; brackets = b; store = z } ≡ colour_left s tokens brackets texts 0
-          → a ≡ v → record { result = colour_result v; tokens = x; brackets = b; texts = z } ≡ colour_called s tokens brackets texts
+      pub colour-read : {a : Option ℕ} {x b z : List ℕ} → record { answer = a; tokens = x; brackets = b; store = z } ≡ colour_left s tokens brackets texts 0
+          → {r : ColourResult} → r ≡ colour_result a → record { result = r; tokens = x; brackets = b; texts = z } ≡ colour_called s tokens brackets texts
       unfolding colour_called colour_read
-      colour-read {a} {v} {x} {b} {z} p q =
-          ap (λ (w : ColourAnswer). record { result = colour_result w; tokens = x; brackets = b; texts = z }) (sym q)
-          ∙ ap colour_read p ∙ answered s (length tokens) (length tokens) (length brackets) (length texts) _ _ h et e
+      colour-read p q = rw q (ap colour_read p ∙ answered s (length tokens) (length tokens) (length brackets) (length texts) _ _ h et e)

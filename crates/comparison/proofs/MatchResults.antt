@@ -1,20 +1,18 @@
 -- Returns of `comparison_matches` and what it calls, in the order of the refusals.
 use Prim.Native.Nat.{ℕ, ◌*◌, ◌≤◌, ◌<◌}
-use mathlib.Core.Bool.{Bool}
+use mathlib.Core.Bool.{Bool, true, false}
 use mathlib.Core.List.{List}
 use mathlib.Core.Path.{◌≡◌, refl, ap, sym, ◌∙◌}
-use native.Mathlib.Omega.{arith}
-use borrow.Author.Tests.{lt-ltb, le-ltb, le-leb, lt-leb}
+use borrow.Author.Tests.{ltb-true, lt-ltb, le-ltb, le-leb, lt-leb}
 use lib.ListN.{length}
 use Rattle.combinators.specs.Refusal.{no_refusal, too_long, short_store, no_element}
 use Rattle.combinators.specs.declared.refusals.Refusal.{Refusal}
-use Rattle.combinators.proofs.Rules.{pick_true, pick-false, and_both, and_left, and_right, is-yes, is-yes-of, is-no-of}
+use Rattle.combinators.proofs.Rules.{pick_true, pick-false, and-true, is_true, is-yes, is-no-of}
 use Rattle.syntax.specs.Layout.{flag}
 use Rattle.syntax.specs.RuleLayout.{component_width}
 use Rattle.cascade.specs.declared.specificity.Specificity.{Specificity}
 use Rattle.page.specs.Accepted.{page_refusal}
 use Rattle.page.specs.PathOf.{path_of}
-use Rattle.page.specs.Rows.{node_count, node_at, element_kind}
 use Rattle.matching.specs.Matches.{matches}
 use Rattle.matching.specs.Rows.{components_at, Rooted}
 use Rattle.matching.specs.Specificity.{specificity}
@@ -26,31 +24,26 @@ use Rattle.styling.proofs.StyleCalls.{Quiet, quiet}
 
 module _ (components : List ℕ) (count : ℕ) (texts nodes attributes text : List ℕ) (row : ℕ) where
   -- ---- a row of an accepted page
-  module _ {n : ℕ} (en : n ≡ node_count nodes) where
-    -- the return where the row is behind the last: no element
-    pub row-beyond : n ≤ row → refused_match no_element 0 ≡ row_match components count texts nodes attributes text row
-    unfolding row_match is_element
-    row-beyond h = pick-false _ _ _ _ (and_left _ _ (le-ltb row (node_count nodes) (omega arith))) refl
+  module _ {t : Bool} (et : t ≡ is_element nodes row) where
+    -- the return where the row is no element
+    pub row_other : t ≡ false → refused_match no_element 0 ≡ row_match components count texts nodes attributes text row
+    unfolding row_match
+    row_other f = pick-false _ _ _ _ (sym et ∙ f) refl
 
-    module _ (h : row < n) {k : ℕ} (ek : k ≡ (node_at nodes row).kind) where
-      -- the return where the row is of another kind: no element
-      pub row_other : (k ≡ element_kind → ⊥) → refused_match no_element 0 ≡ row_match components count texts nodes attributes text row
-      unfolding row_match is_element
-      row_other f = pick-false _ _ _ _ (and_right _ _ (is-no-of k (node_at nodes row).kind element_kind ek f)) refl
+    module _ (e : t ≡ true) where
+      -- from an element of an accepted page parents lead to the document
+      pub row-rooted : page_refusal nodes attributes text ≡ no_refusal → Rooted nodes row
+      unfolding is_element
+      row-rooted p =
+          let there = and-true _ _ (sym et ∙ e) in
+          accepted-element nodes attributes text p row (ltb-true _ _ there.0) (is_true _ _ there.1)
 
-      module _ (e : k ≡ element_kind) where
-        -- from an element of an accepted page parents lead to the document
-        pub row-rooted : page_refusal nodes attributes text ≡ no_refusal → Rooted nodes row
-        row-rooted p = accepted-element nodes attributes text p row (omega arith) (sym ek ∙ e)
-
-        -- the return on an element: whether the components match its path, and their specificity
-        pub row-asked : {m : Bool} → m ≡ matches (components_at texts components count) (path_of nodes attributes text row)
-            → {s : Specificity} → ((store : List ℕ) → s ≡ specificity (components_at store components count)) → {f : ℕ} → f ≡ flag m
-            → record { refusal = 0; place = 0; matches = f; ids = s.id; classes = s.class; types = s.typ } ≡ row_match components count texts nodes attributes text row
-        unfolding row_match is_element selector_match answered_match
-        row-asked {m} em {s} es {f} ef =
-            pick_true _ _ _ _ (and_both _ _ (lt-ltb row (node_count nodes) (omega arith)) (is-yes-of k (node_at nodes row).kind element_kind ek e))
-            (rw (ef, em, es texts) refl)
+      -- the return on an element: whether the components match its path, and their specificity
+      pub row-asked : {m : Bool} → m ≡ matches (components_at texts components count) (path_of nodes attributes text row)
+          → {s : Specificity} → ((store : List ℕ) → s ≡ specificity (components_at store components count)) → {f : ℕ} → f ≡ flag m
+          → record { refusal = 0; place = 0; matches = f; ids = s.id; classes = s.class; types = s.typ } ≡ row_match components count texts nodes attributes text row
+      unfolding row_match selector_match answered_match
+      row-asked {m} em {s} es {f} ef = pick_true _ _ _ _ (sym et ∙ e) (rw (ef, em, es texts) refl)
 
   -- ---- the call
   -- a call with more components than a selector may have is refused with 1

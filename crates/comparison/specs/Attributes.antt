@@ -1,11 +1,9 @@
 -- What `comparison_style_attribute` and `comparison_color_attribute` return and leave: what `parse_style_attribute` and `parse_color_attribute` do in
 -- stores of the least lengths, filled from 0 on.
-use Rattle.std.specs.Prelude.{ℕ, List, ltb, length}
+use Rattle.std.specs.Prelude.{ℕ, Option, Some, None, List, ltb, length}
 use Rattle.combinators.specs.Choice.{pick}
 use Rattle.combinators.specs.LeastLengths.{stores_suffice}
 use Rattle.combinators.specs.Refusal.{too_long, short_store}
-use Rattle.values.specs.declared.colours.ColourAnswer.{ColourAnswer}
-use Rattle.values.specs.declared.colours.ColourAnswer.TheVariants.{Colour, NoColour}
 use Rattle.declarations.specs.Leaving.{Leaves, ColourLeft, colour_left, style_left}
 use Rattle.declarations.specs.declared.attributes.StylesRead.{StylesRead}
 use Rattle.page.specs.Accepted.{text_limit}
@@ -46,9 +44,9 @@ style_called s rules tokens brackets texts =
 unfoldable pub refused_colour : ℕ → ColourResult
 refused_colour refusal = record { refusal = refusal; found = 0; colour = 0 }
 
-unfoldable pub colour_result : ColourAnswer → ColourResult
-colour_result (Colour c) = record { refusal = 0; found = 1; colour = c }
-colour_result NoColour = record { refusal = 0; found = 0; colour = 0 }
+unfoldable pub colour_result : Option ℕ → ColourResult
+colour_result (Some c) = record { refusal = 0; found = 1; colour = c }
+colour_result None = record { refusal = 0; found = 0; colour = 0 }
 
 -- the result, and the three stores
 pub record ColourCalled : Type 0 where

@@ -7,6 +7,10 @@ use Rattle.compiled.specs.Answer.{bytes_refusal}
 use Rattle.compiled.specs.Sheet.{compiled_limit}
 use Rattle.comparison.specs.declared.bytes.BytesResult.{BytesResult}
 
+-- the struct of a refusal
+unfoldable pub bytes_result : Refusal → BytesResult
+bytes_result r = record { refusal = r.number; place = r.place }
+
 -- the refusal that a struct tells
 unfoldable pub refusal_in : BytesResult → Refusal
 refusal_in r = refused_at r.refusal r.place

@@ -1,6 +1,6 @@
 -- What `comparison_matches` returns: whether a selector matches the path of an element, and its specificity.
 use Rattle.std.specs.Prelude.{ℕ, ◌*◌, Bool, List, leb, ltb, length}
-use Rattle.combinators.specs.Choice.{pick, and, is}
+use Rattle.combinators.specs.Choice.{pick, is}
 use Rattle.combinators.specs.Refusal.{too_long, short_store, no_element}
 use Rattle.combinators.specs.declared.refusals.Refusal.{Refusal}
 use Rattle.syntax.specs.Layout.{flag}
@@ -11,7 +11,6 @@ use Rattle.sheets.specs.SheetAnswer.{sheet_limit}
 use Rattle.page.specs.Accepted.{page_refusal}
 use Rattle.page.specs.Path.{Path}
 use Rattle.page.specs.PathOf.{path_of}
-use Rattle.page.specs.Rows.{node_count, node_at, element_kind}
 use Rattle.matching.specs.Matches.{matches}
 use Rattle.matching.specs.Rows.{components_at}
 use Rattle.matching.specs.Specificity.{specificity}

@@ -1,8 +1,8 @@
 // `comparison_check_bytes`: whether bytes are a compiled sheet.
 ghost use Rattle.std.specs.Prelude.{◌≡◌};
-ghost use Rattle.comparison.specs.Bytes.{refusal_in, bytes_called};
+ghost use Rattle.comparison.specs.Bytes.{bytes_result, refusal_in, bytes_called};
 
-use combinators::refusals::TOO_LONG;
+use combinators::refusals::{Refusal, TOO_LONG, refused};
 use compiled::sheets::{COMPILED_LIMIT, check_sheet, refusal_of};
 
 // The refusal's number and place.
@@ -13,20 +13,25 @@ pub struct BytesResult {
     pub place: usize,
 }
 
+impl From<Refusal> for BytesResult {
+    ghost from_gives = { λ refusal told. told ≡ bytes_result refusal };
+
+    fn from(refusal: Refusal) -> BytesResult {
+        BytesResult {
+            refusal: refusal.number,
+            place: refusal.place,
+        }
+    }
+}
+
 // Whether the bytes are a sheet to their last byte; more than a compiled sheet may have are refused before they are read.
 #[unsafe(no_mangle)]
 pub extern "C" fn comparison_check_bytes(bytes: &[u8]) -> BytesResult
     ensures { refusal_in result ≡ bytes_called bytes.now }
 {
     if bytes.len() > COMPILED_LIMIT {
-        return BytesResult {
-            refusal: TOO_LONG,
-            place: 0,
-        };
-    }
-    let refusal = refusal_of(check_sheet(bytes));
-    BytesResult {
-        refusal: refusal.number,
-        place: refusal.place,
+        refused(TOO_LONG).into()
+    } else {
+        refusal_of(check_sheet(bytes)).into()
     }
 }

@@ -4,11 +4,11 @@ ghost use Rattle.combinators.specs.Refusal.{no_refusal};
 ghost use Rattle.page.specs.Accepted.{page_refusal};
 ghost use Rattle.comparison.specs.Matches.{component_limit, refused_match, row_match, page_match, match_called};
 
-use combinators::refusals::{NO_ELEMENT, SHORT_STORE, TOO_LONG};
+use combinators::refusals::{NO_ELEMENT, Refusal, SHORT_STORE, TOO_LONG};
 use matching::components::specificity;
 use matching::matcher::do_matches;
-use page::check::{check_page, refusal_of};
-use page::rows::{ELEMENT, kind_of, node_count};
+use page::check::check_page;
+use styling::style::is_element;
 use syntax::rows::{COMPONENT_WIDTH, flag_of};
 
 // The refusal's number and place; 1 where the selector matches; how many ids, classes (with attributes and nth-child) and types it names.
@@ -54,10 +54,7 @@ fn match_row(
     requires text_value { page_refusal nodes.now attributes.now text.now ≡ no_refusal }
     ensures { result ≡ row_match components.now count texts.now nodes.now attributes.now text.now row }
 {
-    if row >= node_count(nodes) {
-        return refused(NO_ELEMENT, 0);
-    }
-    if kind_of(nodes, row) != ELEMENT {
+    if !is_element(nodes, row) {
         return refused(NO_ELEMENT, 0);
     }
     let matches = do_matches(components, texts, count, nodes, attributes, text, row);
@@ -92,9 +89,11 @@ pub extern "C" fn comparison_matches(
     if components.len() < COMPONENT_WIDTH * count {
         return refused(SHORT_STORE, 0);
     }
-    let page = refusal_of(check_page(nodes, attributes, text));
-    if page.number == 0 {
-        return match_row(components, count, texts, nodes, attributes, text, row);
+    match check_page(nodes, attributes, text) {
+        Ok(()) => match_row(components, count, texts, nodes, attributes, text, row),
+        Err(error) => {
+            let refusal = Refusal::from(error);
+            refused(refusal.number, refusal.place)
+        }
     }
-    refused(page.number, page.place)
 }

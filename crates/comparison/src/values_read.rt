@@ -1,12 +1,11 @@
 // `comparison_style_attribute` and `comparison_color_attribute`: what a `style` attribute says, and the colour of a `color` or `bgcolor` attribute.
 ghost use Rattle.std.specs.Prelude.{◌≡◌};
-ghost use Rattle.comparison.specs.Attributes.{style_called, colour_called};
+ghost use Rattle.comparison.specs.Attributes.{refused_styles, styles_result, style_called, refused_colour, colour_result, colour_called};
 
 use combinators::least::stores_suffice;
-use combinators::refusals::{SHORT_STORE, TOO_LONG};
-use declarations::attributes::{parse_color_attribute, parse_style_attribute};
+use combinators::refusals::{NO_REFUSAL, SHORT_STORE, TOO_LONG};
+use declarations::attributes::{StylesRead, parse_color_attribute, parse_style_attribute};
 use page::check::TEXT_LIMIT;
-use values::colours::ColourAnswer;
 
 // The refusal's number; how many styles were read, and the bytes of their texts.
 #[repr(C)]
@@ -26,6 +25,58 @@ pub struct ColourResult {
     pub colour: u32,
 }
 
+// A value that is refused.
+fn refused_styles(refusal: u32) -> StylesResult
+    ensures { result ≡ refused_styles refusal }
+{
+    StylesResult {
+        refusal,
+        count: 0,
+        bytes: 0,
+    }
+}
+
+fn refused_colour(refusal: u32) -> ColourResult
+    ensures { result ≡ refused_colour refusal }
+{
+    ColourResult {
+        refusal,
+        found: 0,
+        colour: 0,
+    }
+}
+
+impl From<StylesRead> for StylesResult {
+    ghost from_gives = { λ read told. told ≡ styles_result read };
+
+    fn from(read: StylesRead) -> StylesResult {
+        StylesResult {
+            refusal: NO_REFUSAL,
+            count: read.count,
+            bytes: read.text,
+        }
+    }
+}
+
+impl From<Option<u32>> for ColourResult {
+    ghost from_gives = { λ found told. told ≡ colour_result found };
+
+    fn from(found: Option<u32>) -> ColourResult {
+        match found {
+            Some(colour) => ColourResult {
+                refusal: NO_REFUSAL,
+                found: 1,
+                colour,
+            },
+            None => ColourResult {
+                refusal: NO_REFUSAL,
+                found: 0,
+                colour: 0,
+            },
+        }
+    }
+}
+
 // Reads a `style` attribute: the rows of its styles to `tokens`, their texts to `texts`, each from 0 on. A value that a page cannot have, being
 // longer than all of a page's texts, is refused.
 #[unsafe(no_mangle)]
@@ -40,25 +91,12 @@ pub extern "C" fn comparison_style_attribute(
 {
     let n = value.len();
     if n > TEXT_LIMIT {
-        return StylesResult {
-            refusal: TOO_LONG,
-            count: 0,
-            bytes: 0,
-        };
+        return refused_styles(TOO_LONG);
     }
-    if stores_suffice(n, rules.len(), tokens.len(), brackets.len(), texts.len()) {
-        let read = parse_style_attribute(value, rules, tokens, brackets, texts, 0);
-        return StylesResult {
-            refusal: 0,
-            count: read.count,
-            bytes: read.text,
-        };
+    if !stores_suffice(n, rules.len(), tokens.len(), brackets.len(), texts.len()) {
+        return refused_styles(SHORT_STORE);
     }
-    StylesResult {
-        refusal: SHORT_STORE,
-        count: 0,
-        bytes: 0,
-    }
+    parse_style_attribute(value, rules, tokens, brackets, texts, 0).into()
 }
 
 // Reads a `color` or `bgcolor` attribute; all stores are work stores. There are no rules, so `tokens` is tested in their place too.
@@ -73,33 +111,10 @@ pub extern "C" fn comparison_color_attribute(
 {
     let n = value.len();
     if n > TEXT_LIMIT {
-        return ColourResult {
-            refusal: TOO_LONG,
-            found: 0,
-            colour: 0,
-        };
+        return refused_colour(TOO_LONG);
     }
-    if stores_suffice(n, tokens.len(), tokens.len(), brackets.len(), texts.len()) {
-        match parse_color_attribute(value, tokens, brackets, texts, 0) {
-            ColourAnswer::Colour(colour) => {
-                return ColourResult {
-                    refusal: 0,
-                    found: 1,
-                    colour,
-                };
-            }
-            ColourAnswer::NoColour => {
-                return ColourResult {
-                    refusal: 0,
-                    found: 0,
-                    colour: 0,
-                };
-            }
-        }
+    if !stores_suffice(n, tokens.len(), tokens.len(), brackets.len(), texts.len()) {
+        return refused_colour(SHORT_STORE);
     }
-    ColourResult {
-        refusal: SHORT_STORE,
-        found: 0,
-        colour: 0,
-    }
+    parse_color_attribute(value, tokens, brackets, texts, 0).into()
 }

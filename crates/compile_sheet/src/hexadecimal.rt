@@ -1,49 +1,37 @@
-// Bytes as a line of text: a pair of lower-case hexadecimal digits for each, parted by spaces, and a line feed at the end.
-ghost use Rattle.std.specs.Prelude.{◌≡◌, ◌<◌};
-ghost use Rattle.combinators.specs.Store.{emits};
-ghost use Rattle.compile_sheet.specs.Hexadecimal.{base, hex_digit, hex_pair, hex_line};
+// Bytes as a line of text.
+ghost use Rattle.std.specs.Prelude.{Some};
+ghost use Rattle.compile_sheet.specs.Hexadecimal.{hex_pair, hex_line};
 
-use combinators::stores::emit;
+use std::fmt;
 
-// A pair and the byte behind it.
-pub const PAIR_WIDTH: usize = 3;
+/// A byte as a pair of lower-case hexadecimal digits.
+#[derive(Clone, Copy)]
+struct HexPair(u8);
 
-// How many digits there are, and how many of them are decimal.
-const BASE: u8 = 16;
+impl fmt::Display for HexPair {
+    ghost output = { λ pair. Some (hex_pair pair.0) };
 
-const DECIMAL_BASE: u8 = 10;
-
-// The digit of a number below the base.
-fn digit(n: u8) -> u8
-    requires { n < base }
-    ensures { result ≡ hex_digit n }
-{
-    if n < DECIMAL_BASE {
-        return b'0' + n;
+    fn fmt<W: fmt::Write>(&self, f: &mut fmt::Formatter<W>) -> fmt::Result {
+        let byte = self.0;
+        write!(f, "{byte:02x}")
     }
-    b'a' + (n - DECIMAL_BASE)
 }
 
-// The pair of `b`; the fill behind it.
-fn emit_pair(b: u8, store: &mut [u8], fill: usize) -> usize
-    ensures { record { bytes = store.new; fill = result } ≡ emits (record { bytes = store.old; fill = fill }) (hex_pair b) }
-{
-    let behind_first = emit(digit(b / BASE), store, fill);
-    emit(digit(b % BASE), store, behind_first)
-}
+/// Bytes as a line: their pairs, parted by spaces, and a line feed at the end.
+#[derive(Clone, Copy)]
+pub struct HexLine<'a>(pub &'a [u8]);
 
-// The line of `bytes`; the fill behind it.
-pub fn emit_line(bytes: &[u8], store: &mut [u8], fill: usize) -> usize
-    ensures { record { bytes = store.new; fill = result } ≡ emits (record { bytes = store.old; fill = fill }) (hex_line bytes.now) }
-{
-    let mut f = fill;
-    let mut i = 0;
-    while i < bytes.len() {
-        f = emit_pair(bytes[i], store, f);
-        i += 1;
-        if i < bytes.len() {
-            f = emit(b' ', store, f);
+impl fmt::Display for HexLine<'_> {
+    ghost output = { λ line. Some (hex_line line.0.now) };
+
+    fn fmt<W: fmt::Write>(&self, f: &mut fmt::Formatter<W>) -> fmt::Result {
+        let [first, rest @ ..] = self.0 else {
+            return writeln!(f);
+        };
+        write!(f, "{}", HexPair(*first))?;
+        for byte in rest {
+            write!(f, " {}", HexPair(*byte))?;
         }
+        writeln!(f)
     }
-    emit(b'\n', store, f)
 }

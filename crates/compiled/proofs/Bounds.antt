@@ -15,7 +15,8 @@ use Rattle.syntax.specs.Selector.{none, after}
 use Rattle.syntax.specs.Style.{agent_origin, author_origin}
 use Rattle.compiled.specs.Decoded.{Decoded, read, fault, and_then, mapped, counted}
 use Rattle.compiled.specs.Number.{group_values, most_groups, number_limit, limited, groups_at, number_at, ranged_at}
-use Rattle.compiled.specs.Text.{Span, span_at}
+use Rattle.compiled.specs.Text.{span_at}
+use Rattle.compiled.specs.declared.texts.Span.{Span}
 use Rattle.compiled.specs.Component.{is_mark, name_at, second_number_at, numbers_at, second_name_at, names_at, body_at, written_at, component_at, component_in}
 use Rattle.compiled.specs.Style.{greatest_colour, greatest_white_space, content_at, number_up_to, value_at, valued_at, slot_at, started_at, style_numbers_at, style_at}
 use Rattle.compiled.specs.Sheet.{CompiledSelector, count_at, pseudo_at, head_at, styles_at, parts_at, selector_of, selector_at, selectors_at, ending, whole_at, decode}

@@ -15,7 +15,8 @@ use Rattle.syntax.proofs.Streams.{Held, held-left, held-right}
 use Rattle.compiled.specs.Decoded.{read, and_then, mapped}
 use Rattle.compiled.specs.Number.{number_limit, number_bytes, number_at, ranged_at}
 use Rattle.compiled.specs.Text.{text_bytes, span_at}
-use Rattle.compiled.specs.Component.{component_body, component_bytes, name, numbers, names, is_mark, name_at, second_number_at, numbers_at, second_name_at, names_at, body_at, written_at, mark_of, named_of, component_in, component_at}
+use Rattle.compiled.specs.Component.{component_body, component_bytes, is_mark, name_at, second_number_at, numbers_at, second_name_at, names_at, body_at, written_at, mark_of, named_of, component_in, component_at}
+use Rattle.compiled.specs.declared.components.Written.TheVariants.{Name, Numbers, Names}
 use Rattle.compiled.proofs.Fits.{TextFits, ComponentFits}
 use Rattle.compiled.proofs.Following.{then-read, mapped-read, ends_at}
 use Rattle.compiled.proofs.NumberBack.{number-some, number-back, ranged-back, signed-small}
@@ -43,36 +44,36 @@ module _ (t : List ℕ) where
   -- the two numbers of nth
   two-numbers : (a b : ℤ) (n : ℕ) → signed_number a < number_limit → signed_number b < number_limit
       → Held t n (number_bytes (signed_number a) ++ number_bytes (signed_number b))
-      → and_then (number_at t n) (λ m v. mapped (λ w. numbers v w) (number_at t m))
-      ≡ read (n + length (number_bytes (signed_number a) ++ number_bytes (signed_number b))) (numbers (signed_number a) (signed_number b))
+      → and_then (number_at t n) (λ m v. mapped (λ w. Numbers v w) (number_at t m))
+      ≡ read (n + length (number_bytes (signed_number a) ++ number_bytes (signed_number b))) (Numbers (signed_number a) (signed_number b))
   two-numbers a b n ha hb h =
       let x : List ℕ = number_bytes (signed_number a) in
       let y : List ℕ = number_bytes (signed_number b) in
       let e : n + length x + length y ≡ n + length (x ++ y) = omega (arith, length-append x y) in
-      then-read (number_at t n) (λ m v. mapped (λ w. numbers v w) (number_at t m)) _ (signed_number a) (number-back t n (signed_number a) ha (held-left t n x y h))
-      ∙ mapped-read (λ w. numbers (signed_number a) w) _ _ (signed_number b) (number-back t (n + length x) (signed_number b) hb (held-right t n x y h))
+      then-read (number_at t n) (λ m v. mapped (λ w. Numbers v w) (number_at t m)) _ (signed_number a) (number-back t n (signed_number a) ha (held-left t n x y h))
+      ∙ mapped-read (λ w. Numbers (signed_number a) w) _ _ (signed_number b) (number-back t (n + length x) (signed_number b) hb (held-right t n x y h))
       ∙ ends_at _ _ _ e
 
   -- a component with one text
   one-text : (kind : ℕ) (x : List ℕ) (n : ℕ) → TextFits x → Held t n (text_bytes x)
-      → mapped (component_in t) (mapped (λ p. name kind p) (span_at t n)) ≡ read (n + length (text_bytes x)) (named_of kind x)
+      → mapped (component_in t) (mapped (λ p. Name kind p) (span_at t n)) ≡ read (n + length (text_bytes x)) (named_of kind x)
   unfolding component_in
   one-text kind x n f h =
-      mapped-read (component_in t) _ _ (name kind (span t n x h)) (mapped-read (λ p. name kind p) (span_at t n) _ (span t n x h) (span-back t n x h f.short))
+      mapped-read (component_in t) _ _ (Name kind (span t n x h)) (mapped-read (λ p. Name kind p) (span_at t n) _ (span t n x h) (span-back t n x h f.short))
       ∙ rw (span-text t n x h)
 
   -- the component with two
   two-texts : (x y : List ℕ) (n : ℕ) → TextFits x → TextFits y → Held t n (text_bytes x ++ text_bytes y)
-      → mapped (component_in t) (and_then (span_at t n) (λ m p. mapped (λ q. names p q) (span_at t m)))
+      → mapped (component_in t) (and_then (span_at t n) (λ m p. mapped (λ q. Names p q) (span_at t m)))
       ≡ read (n + length (text_bytes x ++ text_bytes y)) (attribute_equal x y)
   unfolding component_in
   two-texts x y n fx fy h =
       let hx = held-left t n (text_bytes x) (text_bytes y) h in
       let hy = held-right t n (text_bytes x) (text_bytes y) h in
       let e : n + length (text_bytes x) + length (text_bytes y) ≡ n + length (text_bytes x ++ text_bytes y) = omega (arith, length-append (text_bytes x) (text_bytes y)) in
-      mapped-read (component_in t) _ _ (names (span t n x hx) (span t (n + length (text_bytes x)) y hy))
-      (then-read (span_at t n) (λ m p. mapped (λ q. names p q) (span_at t m)) _ (span t n x hx) (span-back t n x hx fx.short)
-      ∙ mapped-read (λ q. names (span t n x hx) q) _ _ (span t (n + length (text_bytes x)) y hy) (span-back t (n + length (text_bytes x)) y hy fy.short))
+      mapped-read (component_in t) _ _ (Names (span t n x hx) (span t (n + length (text_bytes x)) y hy))
+      (then-read (span_at t n) (λ m p. mapped (λ q. Names p q) (span_at t m)) _ (span t n x hx) (span-back t n x hx fx.short)
+      ∙ mapped-read (λ q. Names (span t n x hx) q) _ _ (span t (n + length (text_bytes x)) y hy) (span-back t (n + length (text_bytes x)) y hy fy.short))
       ∙ rw (span-text t n x hx, span-text t (n + length (text_bytes x)) y hy) (ends_at _ _ _ e)
 
   -- what stands behind the kind is read back

@@ -1,6 +1,8 @@
 -- The loop of `read_groups`: what is left to read at a group is what was to be read; and the choice of `read_ranged`.
 use mathlib.Core.Path.{◌≡◌, refl, sym, ap, ◌∙◌}
+use mathlib.Core.Bool.{false}
 use mathlib.Core.List.{List}
+use mathlib.Core.Logic.{◌⊎◌, inl, inr}
 use Prim.Native.Nat.{ℕ, zero, suc, ◌+◌, ◌-◌, ◌*◌, ◌≤◌, ◌<◌}
 use native.Mathlib.Nat.{mul-le-mul, mul-le-mul_left, mul-le-mul_right}
 use native.Mathlib.Omega.{arith}
@@ -10,24 +12,25 @@ use Rattle.combinators.specs.Choice.{pick, within}
 use Rattle.combinators.proofs.Rules.{pick_true, pick-false, within-yes, within-false, within-past}
 use Rattle.compiled.specs.Decoded.{read, fault}
 use Rattle.compiled.specs.Number.{group_values, most_groups, number_limit, limited, groups_at, number_at, ranged_at}
-use Rattle.compiled.specs.Answer.{number_answer, number_within}
-use Rattle.compiled.specs.declared.numbers.NumberAnswer.{NumberAnswer}
-use Rattle.compiled.specs.declared.numbers.NumberAnswer.TheVariants as number
-use Rattle.compiled.proofs.Answers.{number_read, number-fault, number-within}
+use Rattle.compiled.specs.Answer.{read_answer, read_within}
+use Rattle.compiled.specs.declared.places.Fault.{Fault}
+use Rattle.compiled.specs.declared.places.Read.{Read}
+use Rattle.std.proofs.Common.{Result, Ok, Err}
+use Rattle.compiled.proofs.Answers.{got, failed, answer_read, answer-within, then-answer}
 use Rattle.compiled.proofs.Bounds.{number-reaches, ranged-reaches}
 use Rattle.compiled.proofs.NumberBack.{last-at, more-at}
-use Rattle.compiled.proofs.Following.{then-read, then-fault}
+use Rattle.compiled.proofs.Following.{then-read}
 
 -- ---- `limited`
 -- the value is below the limit
-pub limited-yes : (i n v : ℕ) → v < number_limit → number.Number n v ≡ number_answer (limited i n v)
-unfolding limited number_answer
-limited-yes i n v h = ap number_answer (pick_true _ _ _ _ (lt-ltb v number_limit h) refl)
+pub limited-yes : (i n v : ℕ) → v < number_limit → got n v ≡ read_answer (limited i n v)
+unfolding limited read_answer
+limited-yes i n v h = ap read_answer (pick_true _ _ _ _ (lt-ltb v number_limit h) refl)
 
 -- a number beyond its range is a fault where it starts
-pub limited-no : (i n v : ℕ) → number_limit ≤ v → number.Fault i ≡ number_answer (limited i n v)
-unfolding limited number_answer
-limited-no i n v h = ap number_answer (pick-false _ _ _ _ (le-ltb v number_limit h) refl)
+pub limited-no : (i n v : ℕ) → number_limit ≤ v → failed i ≡ read_answer (limited i n v)
+unfolding limited read_answer
+limited-no i n v h = ap read_answer (pick-false _ _ _ _ (le-ltb v number_limit h) refl)
 
 -- ---- `read_groups`
 -- how many values k groups have
@@ -68,10 +71,10 @@ scaled-more (suc k) scale h e = let q : suc k - 1 ≡ k = omega arith in rw q (o
 
 module _ (s : List ℕ) (at value scale i left : ℕ) (c : Reading s at value scale i left) (more : 0 < left) where
   -- the bytes are at their end
-  pub reading-short : (r : NumberAnswer) → length s ≤ i → r ≡ number.Fault at → (r ≡ number_answer (number_at s at)) × number_within (length s) r
-  unfolding groups_at number_answer
+  pub reading-short : (r : Result (Read ℕ) Fault) → length s ≤ i → r ≡ failed at → (r ≡ read_answer (number_at s at)) × read_within (length s) r
+  unfolding groups_at read_answer
   reading-short r l e =
-      number-within (number_at s at) r (e ∙ ap number_answer (short left more ∙ c.work)) (length s) at (number-reaches s at)
+      answer-within (number_at s at) r (e ∙ ap read_answer (short left more ∙ c.work)) 1 (length s) at (number-reaches s at)
     where
       short : (k : ℕ) → 0 < k → fault at ≡ groups_at k s at value scale i
       short zero h = absurd (omega arith)
@@ -91,10 +94,10 @@ module _ (s : List ℕ) (at value scale i left : ℕ) (c : Reading s at value sc
     reading-part h = mul-le-mul_right {n = 127} scale (omega arith)
 
     -- it is the last group
-    pub reading-last : b < group_values → (r : NumberAnswer) → r ≡ number_answer (limited at (i + 1) (value + b * scale))
-        → (r ≡ number_answer (number_at s at)) × number_within (length s) r
+    pub reading-last : b < group_values → (r : Result (Read ℕ) Fault) → r ≡ read_answer (limited at (i + 1) (value + b * scale))
+        → (r ≡ read_answer (number_at s at)) × read_within (length s) r
     reading-last h r p =
-        number-within (number_at s at) r (p ∙ ap number_answer (sym (last left more) ∙ c.work)) (length s) at (number-reaches s at)
+        answer-within (number_at s at) r (p ∙ ap read_answer (sym (last left more) ∙ c.work)) 1 (length s) at (number-reaches s at)
       where
         last : (k : ℕ) → 0 < k → groups_at k s at value scale i ≡ limited at (i + 1) (value + b * scale)
         last zero h = absurd (omega arith)
@@ -115,10 +118,10 @@ module _ (s : List ℕ) (at value scale i left : ℕ) (c : Reading s at value sc
 
 -- five groups were read and none was the last
 pub reading-none : (s : List ℕ) (at value scale i left : ℕ) → Reading s at value scale i left → left ≤ 0
-    → (number.Fault at ≡ number_answer (number_at s at)) × number_within (length s) (number.Fault at)
-unfolding groups_at number_answer
+    → (failed at ≡ read_answer (number_at s at)) × read_within {A = ℕ} (length s) (failed at)
+unfolding groups_at read_answer
 reading-none s at value scale i left c h =
-    number-within (number_at s at) (number.Fault at) (ap number_answer (none left h ∙ c.work)) (length s) at (number-reaches s at)
+    answer-within (number_at s at) (failed at) (ap read_answer (none left h ∙ c.work)) 1 (length s) at (number-reaches s at)
   where
     none : (k : ℕ) → k ≤ 0 → fault at ≡ groups_at k s at value scale i
     none zero h = refl
@@ -126,43 +129,38 @@ reading-none s at value scale i left c h =
 
 -- ---- `read_number`
 -- a number of one group
-pub reading-one : (s : List ℕ) (at b : ℕ) → b ≡ get_or s at 0 → at < length s → b < group_values → (r : NumberAnswer) → r ≡ number.Number (at + 1) b
-    → (r ≡ number_answer (number_at s at)) × number_within (length s) r
+pub reading-one : (s : List ℕ) (at b : ℕ) → b ≡ get_or s at 0 → at < length s → b < group_values → (r : Result (Read ℕ) Fault) → r ≡ got (at + 1) b
+    → (r ≡ read_answer (number_at s at)) × read_within (length s) r
 reading-one s at b e l h r p =
     let v : 0 + b * 1 ≡ b = omega arith in
-    reading-last s at 0 1 at most_groups (reading-begin s at) (omega arith) b e l h r (p ∙ limited-yes at (at + 1) b (omega arith) ∙ ap (λ (n : ℕ). number_answer (limited at (at + 1) n)) (sym v))
+    reading-last s at 0 1 at most_groups (reading-begin s at) (omega arith) b e l h r (p ∙ limited-yes at (at + 1) b (omega arith) ∙ ap (λ (n : ℕ). read_answer (limited at (at + 1) n)) (sym v))
 
 -- ---- `read_ranged`: the number that was read lies within the range, or it is a fault
-module _ (s : List ℕ) (at lo hi : ℕ) (r : NumberAnswer) (e : r ≡ number_answer (number_at s at)) where
+module _ (s : List ℕ) (at lo hi : ℕ) (r : Result (Read ℕ) Fault) (e : r ≡ read_answer (number_at s at)) where
   -- the choice that it makes of the number
-  chosen : (n v : ℕ) → r ≡ number.Number n v → ranged_at s at lo hi ≡ pick (within v lo hi) (read n v) (fault at)
+  chosen : (x : Read ℕ) → r ≡ Ok x → ranged_at s at lo hi ≡ pick (within x.value lo hi) (read x.next x.value) (fault at)
   unfolding ranged_at
-  chosen n v p = then-read (number_at s at) _ n v (number_read (number_at s at) r e n v p)
+  chosen x p = then-read (number_at s at) _ x.next x.value (answer_read (number_at s at) r e x p)
 
   -- an answer that is what the bytes say lies within them
-  answered : (q : NumberAnswer) → q ≡ number_answer (ranged_at s at lo hi) → (q ≡ number_answer (ranged_at s at lo hi)) × number_within (length s) q
-  answered q p = number-within (ranged_at s at lo hi) q p (length s) at (ranged-reaches s at lo hi)
+  answered : (q : Result (Read ℕ) Fault) → q ≡ read_answer (ranged_at s at lo hi) → (q ≡ read_answer (ranged_at s at lo hi)) × read_within (length s) q
+  answered q p = answer-within (ranged_at s at lo hi) q p 1 (length s) at (ranged-reaches s at lo hi)
 
-  -- the number is too small
-  pub ranged_below : (n v : ℕ) → r ≡ number.Number n v → v < lo
-      → (number.Fault at ≡ number_answer (ranged_at s at lo hi)) × number_within (length s) (number.Fault at)
-  unfolding number_answer
-  ranged_below n v p h = answered _ (ap number_answer (pick-false _ (read n v) _ _ (sym (within-false v lo hi h)) refl ∙ sym (chosen n v p)))
-
-  -- the number is above the range: a fault where it starts
-  pub ranged-above : (n v : ℕ) → r ≡ number.Number n v → hi < v
-      → (number.Fault at ≡ number_answer (ranged_at s at lo hi)) × number_within (length s) (number.Fault at)
-  unfolding number_answer
-  ranged-above n v p h = answered _ (ap number_answer (pick-false _ (read n v) _ _ (within-past v lo hi h) refl ∙ sym (chosen n v p)))
+  -- it lies outside of it
+  pub ranged-out : (x : Read ℕ) → r ≡ Ok x → ((lo ≤ x.value) × (hi < x.value)) ⊎ (x.value < lo) → (failed at ≡ read_answer (ranged_at s at lo hi)) × read_within (length s) (failed {A = Read ℕ} at)
+  unfolding read_answer
+  ranged-out x p h = answered _ (ap read_answer (pick-false _ (read x.next x.value) _ _ (past h) refl ∙ sym (chosen x p)))
+    where
+      past : ((lo ≤ x.value) × (hi < x.value)) ⊎ (x.value < lo) → within x.value lo hi ≡ false
+      past (inl k) = within-past x.value lo hi k.1
+      past (inr k) = sym (within-false x.value lo hi k)
 
   -- it is in its range
-  pub ranged-in : (n v : ℕ) → r ≡ number.Number n v → lo ≤ v → v ≤ hi
-      → (number.Number n v ≡ number_answer (ranged_at s at lo hi)) × number_within (length s) (number.Number n v)
-  unfolding number_answer
-  ranged-in n v p h l = answered _ (ap number_answer (pick_true _ _ (fault at) _ (within-yes v lo hi h l) refl ∙ sym (chosen n v p)))
+  pub ranged-in : (x : Read ℕ) → r ≡ Ok x → lo ≤ x.value → x.value ≤ hi → (Ok x ≡ read_answer (ranged_at s at lo hi)) × read_within (length s) (Ok x)
+  unfolding read_answer
+  ranged-in x p h l = answered _ (ap read_answer (pick_true _ _ (fault at) _ (within-yes x.value lo hi h l) refl ∙ sym (chosen x p)))
 
   -- where no number was read, the fault is that of the number
-  pub ranged-fault : (p : ℕ) → r ≡ number.Fault p → (number.Fault p ≡ number_answer (ranged_at s at lo hi)) × number_within (length s) (number.Fault p)
-  unfolding number_answer ranged_at
-  ranged-fault p q =
-      answered _ (ap number_answer (sym (then-fault (number_at s at) (λ n v. pick (within v lo hi) (read n v) (fault at)) p (number-fault (number_at s at) r e p q))))
+  pub ranged-fault : (f : Fault) → r ≡ Err f → (q : Result (Read ℕ) Fault) → q ≡ Err f → (q ≡ read_answer (ranged_at s at lo hi)) × read_within (length s) q
+  unfolding ranged_at
+  ranged-fault f p q h = answered q (h ∙ then-answer (number_at s at) _ r e f p)

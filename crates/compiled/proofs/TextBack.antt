@@ -11,7 +11,8 @@ use Rattle.combinators.proofs.Rules.{pick_true}
 use Rattle.syntax.proofs.Streams.{Held, held-left, held-right, held-part}
 use Rattle.compiled.specs.Decoded.{read, fault}
 use Rattle.compiled.specs.Number.{number_limit, number_bytes, number_at}
-use Rattle.compiled.specs.Text.{text_bytes, Span, span_at, text_in, text_at}
+use Rattle.compiled.specs.Text.{text_bytes, span_at, text_in, text_at}
+use Rattle.compiled.specs.declared.texts.Span.{Span}
 use Rattle.compiled.proofs.Following.{held-within, then-read, mapped-read, ends_at}
 use Rattle.compiled.proofs.NumberBack.{number-some, number-back}
 

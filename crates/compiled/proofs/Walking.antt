@@ -6,105 +6,35 @@ use Prim.Native.Nat.{ℕ, zero, suc, ◌+◌, ◌≤◌}
 use native.Mathlib.Omega.{arith}
 use lib.ListN.{length}
 use Rattle.combinators.specs.Choice.{is}
-use Rattle.combinators.specs.Part.{part}
 use Rattle.combinators.proofs.Rules.{pick-holds, is_true}
-use Rattle.syntax.specs.Layout.{style_in}
 use Rattle.syntax.specs.RuleLayout.{pseudo_from}
-use Rattle.syntax.specs.Selector.{Component, nth, attribute_equal}
-use Rattle.syntax.specs.Signed.{signed_of}
+use Rattle.syntax.specs.Selector.{Component}
 use Rattle.syntax.specs.Style.{agent_origin}
-use Rattle.syntax.specs.declared.styles.StyleNumbers.{StyleNumbers}
 use Rattle.compiled.specs.Decoded.{Decoded, read, fault, and_then, mapped, counted}
 use Rattle.compiled.specs.Number.{number_at}
-use Rattle.compiled.specs.Text.{text_in}
-use Rattle.compiled.specs.Component.{Written, mark, name, numbers, names, written_at, mark_of, named_of, component_in, component_at}
-use Rattle.compiled.specs.Style.{style_numbers_at, style_at}
-use Rattle.compiled.specs.Sheet.{CompiledSelector, Head, head_at, styles_at, Parts, parts_at, selector_of, selector_at, selectors_at, ending, whole_at, decode}
-use Rattle.compiled.specs.Answer.{written_answer, component_answer, style_answer, check_answer}
-use Rattle.compiled.specs.declared.components.ComponentAnswer.{ComponentAnswer}
-use Rattle.compiled.specs.declared.components.ComponentAnswer.TheVariants as component
-use Rattle.compiled.specs.declared.styles.StyleAnswer.{StyleAnswer}
-use Rattle.compiled.specs.declared.styles.StyleAnswer.TheVariants as style
-use Rattle.compiled.specs.declared.sheets.CheckAnswer.{CheckAnswer}
-use Rattle.compiled.specs.declared.sheets.CheckAnswer.TheVariants as check
+use Rattle.compiled.specs.Component.{written_at, component_in, component_at}
+use Rattle.compiled.specs.declared.components.Written.{Written}
+use Rattle.compiled.specs.Sheet.{CompiledSelector, head_at, styles_at, Parts, parts_at, selector_of, selector_at, selectors_at, ending, whole_at, decode}
+use Rattle.compiled.specs.declared.sheets.Head.{Head}
+use Rattle.compiled.specs.Answer.{read_answer}
+use Rattle.compiled.specs.declared.places.Fault.{Fault}
+use Rattle.compiled.specs.declared.places.Read.{Read}
+use Rattle.std.proofs.Common.{Result, Ok, Err}
+use Rattle.compiled.proofs.Answers.{answer_read, answer-fault}
+use Rattle.compiled.proofs.Following.{mapped-read, mapped-fault}
 use Rattle.compiled.proofs.Bounds.{reaches_end, component-reaches, head-reaches, styles-reach}
 
 -- ---- one component
--- what an answer says
-abbrev written_of : ComponentAnswer → Decoded Written
-written_of (component.Mark n kind) = read n (mark kind)
-written_of (component.Name n kind start size) = read n (name kind (record { start = start; size = size }))
-written_of (component.Numbers n a b) = read n (numbers a b)
-written_of (component.Names n a b start size) = read n (names (record { start = a; size = b }) (record { start = start; size = size }))
-written_of (component.Fault p) = fault p
-
--- an answer on a component says all that was read of it
-written-of : (d : Decoded Written) → written_of (component_answer d) ≡ d
-unfolding component_answer written_answer
-written-of (read n (mark kind)) = refl
-written-of (read n (name kind x)) = refl
-written-of (read n (numbers a b)) = refl
-written-of (read n (names x y)) = refl
-written-of (fault p) = refl
-
-module _ (s : List ℕ) (at : ℕ) (r : ComponentAnswer) (e : r ≡ component_answer (written_at s at)) where
+module _ (s : List ℕ) (at : ℕ) (r : Result (Read Written) Fault) (e : r ≡ read_answer (written_at s at)) where
   -- the component is the one that the answer says, with its texts cut from the bytes
-  component-is : (q : ComponentAnswer) → r ≡ q → component_at s at ≡ mapped (component_in s) (written_of q)
+  pub at_component : (x : Read Written) → r ≡ Ok x → component_at s at ≡ read x.next (component_in s x.value)
   unfolding component_at
-  component-is q p = ap (mapped (component_in s)) (sym (written-of (written_at s at)) ∙ ap written_of (sym e ∙ p))
-
-  -- an answer that is a mark says that star, child or descendant was read
-  pub at_mark : (n kind : ℕ) → r ≡ component.Mark n kind → component_at s at ≡ read n (mark_of kind)
-  unfolding mapped component_in
-  at_mark n kind p = component-is _ p
-
-  -- class, element, hash or attribute
-  pub at_name : (n kind start size : ℕ) → r ≡ component.Name n kind start size → component_at s at ≡ read n (named_of kind (part s start size))
-  unfolding mapped component_in text_in
-  at_name n kind start size p = component-is _ p
-
-  -- an answer with two numbers says that nth was read
-  pub at-numbers : (n a b : ℕ) → r ≡ component.Numbers n a b → component_at s at ≡ read n (nth (signed_of a) (signed_of b))
-  unfolding mapped component_in
-  at-numbers n a b p = component-is _ p
-
-  -- an attribute that is equal to a value
-  pub at_names : (n a b start size : ℕ) → r ≡ component.Names n a b start size → component_at s at ≡ read n (attribute_equal (part s a b) (part s start size))
-  unfolding mapped component_in text_in
-  at_names n a b start size p = component-is _ p
+  at_component x p = mapped-read (component_in s) (written_at s at) x.next x.value (answer_read (written_at s at) r e x p)
 
   -- an answer with a fault says that no component was read
-  pub at-fault : (p : ℕ) → r ≡ component.Fault p → component_at s at ≡ fault p
-  unfolding mapped
-  at-fault p q = component-is _ q
-
--- ---- one style
--- the reading that an answer on a style stands for
-abbrev style_numbers_of : StyleAnswer → Decoded StyleNumbers
-style_numbers_of (style.Style n x) = read n x
-style_numbers_of (style.Fault p) = fault p
-
--- an answer on a style says all that was read of it
-style-numbers-of : (d : Decoded StyleNumbers) → style_numbers_of (style_answer d) ≡ d
-unfolding style_answer
-style-numbers-of (read n x) = refl
-style-numbers-of (fault p) = refl
-
-module _ (s : List ℕ) (at : ℕ) (r : StyleAnswer) (e : r ≡ style_answer (style_numbers_at s at)) where
-  -- the style is the one that the answer says, with its text cut from the bytes
-  style-is : (q : StyleAnswer) → r ≡ q → style_at s at ≡ mapped (style_in s) (style_numbers_of q)
-  unfolding style_at
-  style-is q p = ap (mapped (style_in s)) (sym (style-numbers-of (style_numbers_at s at)) ∙ ap style_numbers_of (sym e ∙ p))
-
-  -- the style of its numbers, the compiled bytes being the text store
-  pub at-style : (n : ℕ) (x : StyleNumbers) → r ≡ style.Style n x → style_at s at ≡ read n (style_in s x)
-  unfolding mapped
-  at-style n x p = style-is _ p
-
-  -- an answer with a fault says that no style was read
-  pub at-style-fault : (p : ℕ) → r ≡ style.Fault p → style_at s at ≡ fault p
-  unfolding mapped
-  at-style-fault p q = style-is _ q
+  pub at-fault : (f : Fault) → r ≡ Err f → component_at s at ≡ fault f.place
+  unfolding component_at
+  at-fault f p = mapped-fault (component_in s) (written_at s at) f.place (answer-fault (written_at s at) r e f p)
 
 -- ---- what was read in two steps
 -- the steps of a reading that succeeded
@@ -269,12 +199,3 @@ sheet-steps t m ss e =
     let c = ended t b.place m ss b.value b.rest in
     let p : b.place ≡ m = let q = c.0 in cc in
     record { count = a.value; behind-count = a.place; count-read = a.first; selectors-read = b.first ∙ c.0; whole = sym p ∙ c.1 }
-
--- what the check answers of a sheet
-pub sheet-there : (t : List ℕ) (r : CheckAnswer) → r ≡ check_answer (decode t) → r ≡ check.Sheet → (ss : List CompiledSelector) × (decode t ≡ read (length t) ss)
-unfolding check_answer
-sheet-there t r e p = go (decode t) refl (sym p ∙ e)
-  where
-    go : (d : Decoded (List CompiledSelector)) → decode t ≡ d → check.Sheet ≡ check_answer d → (ss : List CompiledSelector) × (decode t ≡ read (length t) ss)
-    go (read n ss) q h = (ss, q ∙ ap (λ (m : ℕ). read m ss) (sheet-steps t n ss q).whole)
-    go (fault k) q h = absurd (let z : ◌≡◌ {A = ℕ} 0 1 = cc in omega arith)

@@ -2,7 +2,7 @@
 use mathlib.Core.Path.{◌≡◌, refl, sym, ap, ◌∙◌}
 use mathlib.Core.Bool.{Bool, true, false}
 use mathlib.Core.List.{List, ◌++◌, append-nil}
-use Prim.Native.Nat.{ℕ, ◌+◌, ◌≤◌, ◌<◌}
+use Prim.Native.Nat.{ℕ, zero, suc, ◌+◌, ◌≤◌, ◌<◌}
 use native.Mathlib.Omega.{arith}
 use lib.ListN.{length, drop, length-take}
 use Rattle.combinators.specs.Choice.{pick, or, is}
@@ -187,6 +187,13 @@ module _ (t : List ℕ) (slot : ℕ) (v : Value) (o₀ o₁ : Store) where
             stated (style.content (part t v.number v.second)) _
             (sym (pick-false _ _ _ _ (is-no _ _ a) (pick-false _ _ _ _ (is-no _ _ b) (pick-false _ _ _ _ (is-no _ _ c) (pick-false _ _ _ _ (is-no _ _ d) refl)))))
             refl p
+
+-- either colour is written as its slot and its number
+pub colours-written : (t : List ℕ) (slot : ℕ) (v : Value) (o₀ o₁ : Store) → slot ≤ background_slot → o₁ ≡ emits o₀ (number_bytes slot ++ number_bytes v.number)
+    → o₁ ≡ emits o₀ (slot_bytes (style_of t slot v))
+colours-written t zero v o₀ o₁ h p = colour-written t zero v o₀ o₁ refl p
+colours-written t (suc zero) v o₀ o₁ h p = background-written t (suc zero) v o₀ o₁ (λ z. omega (arith, z)) refl p
+colours-written t (suc (suc n)) v o₀ o₁ h p = absurd (omega arith)
 
 -- a style: its flag, its start, then its slot
 pub style-written : (t : List ℕ) (x : StyleNumbers) (o₀ o₁ o₂ o₃ : Store) (n : ℕ) → n ≡ flag x.important → o₁ ≡ emits o₀ (number_bytes n)

@@ -6,7 +6,10 @@ use Rattle.syntax.specs.Signed.{signed_number, signed_of}
 use Rattle.syntax.specs.RuleLayout.{star_kind, class_kind, element_kind, hash_kind, child_kind, descendant_kind, nth_kind, attribute_kind, attribute_equal_kind, component_kind}
 use Rattle.compiled.specs.Decoded.{Decoded, read, fault, and_then, mapped}
 use Rattle.compiled.specs.Number.{group_bytes, number_bytes, limited, groups_at, number_at, ranged_at}
-use Rattle.compiled.specs.Text.{text_bytes, Span, span_at, text_in}
+use Rattle.compiled.specs.Text.{text_bytes, span_at, text_in}
+use Rattle.compiled.specs.declared.texts.Span.{Span}
+use Rattle.compiled.specs.declared.components.Written.{Written}
+use Rattle.compiled.specs.declared.components.Written.TheVariants.{Mark, Name, Numbers, Names}
 
 -- ---- written
 
@@ -29,14 +32,6 @@ component_bytes c = number_bytes (component_kind c) ++ component_body c
 
 -- ---- read
 
--- what the bytes of a component say: star, child and descendant are their kind alone; class, element, hash and attribute have the place of a
--- text; nth has two numbers; an attribute that is equal to a value has the places of two texts
-pub data Written : Type 0 where
-  mark : ℕ → Written
-  name : ℕ → Span → Written
-  numbers : ℕ → ℕ → Written
-  names : Span → Span → Written
-
 unfoldable pub is_mark : ℕ → Bool
 is_mark kind = or (is kind star_kind) (or (is kind child_kind) (is kind descendant_kind))
 
@@ -45,23 +40,23 @@ is_name kind = or (is kind class_kind) (or (is kind element_kind) (or (is kind h
 
 -- at n, behind the kind: one text, two numbers, two texts
 unfoldable pub name_at : List ℕ → ℕ → ℕ → Decoded Written
-name_at t kind n = mapped (λ x. name kind x) (span_at t n)
+name_at t kind n = mapped (λ x. Name kind x) (span_at t n)
 
 unfoldable pub second_number_at : List ℕ → ℕ → ℕ → Decoded Written
-second_number_at t a n = mapped (λ b. numbers a b) (number_at t n)
+second_number_at t a n = mapped (λ b. Numbers a b) (number_at t n)
 
 unfoldable pub numbers_at : List ℕ → ℕ → Decoded Written
 numbers_at t n = and_then (number_at t n) (λ m a. second_number_at t a m)
 
 unfoldable pub second_name_at : List ℕ → Span → ℕ → Decoded Written
-second_name_at t x n = mapped (λ y. names x y) (span_at t n)
+second_name_at t x n = mapped (λ y. Names x y) (span_at t n)
 
 unfoldable pub names_at : List ℕ → ℕ → Decoded Written
 names_at t n = and_then (span_at t n) (λ m x. second_name_at t x m)
 
 unfoldable pub body_at : List ℕ → ℕ → ℕ → Decoded Written
 body_at t kind n =
-    pick (is_mark kind) (read n (mark kind))
+    pick (is_mark kind) (read n (Mark kind))
     (pick (is kind nth_kind) (numbers_at t n)
     (pick (is kind attribute_equal_kind) (names_at t n)
     (name_at t kind n)))
@@ -77,10 +72,10 @@ unfoldable pub named_of : ℕ → List ℕ → Component
 named_of kind x = pick (is kind class_kind) (class x) (pick (is kind element_kind) (element x) (pick (is kind hash_kind) (hash x) (attribute x)))
 
 unfoldable pub component_in : List ℕ → Written → Component
-component_in t (mark kind) = mark_of kind
-component_in t (name kind x) = named_of kind (text_in t x)
-component_in t (numbers a b) = nth (signed_of a) (signed_of b)
-component_in t (names x y) = attribute_equal (text_in t x) (text_in t y)
+component_in t (Mark kind) = mark_of kind
+component_in t (Name kind x) = named_of kind (text_in t x)
+component_in t (Numbers a b) = nth (signed_of a) (signed_of b)
+component_in t (Names x y) = attribute_equal (text_in t x) (text_in t y)
 
 unfoldable pub component_at : List ℕ → ℕ → Decoded Component
 component_at t i = mapped (component_in t) (written_at t i)

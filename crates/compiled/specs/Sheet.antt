@@ -13,6 +13,7 @@ use Rattle.compiled.specs.Decoded.{Decoded, read, fault, and_then, mapped, count
 use Rattle.compiled.specs.Number.{group_bytes, number_bytes, limited, groups_at, number_at, ranged_at}
 use Rattle.compiled.specs.Text.{text_bytes, span_at, text_in}
 use Rattle.compiled.specs.Component.{component_body, component_bytes, is_mark, name_at, body_at, written_at, mark_of, named_of, component_in, component_at}
+use Rattle.compiled.specs.declared.sheets.Head.{Head}
 use Rattle.compiled.specs.Style.{style_body, style_bytes, number_up_to, value_at, valued_at, slot_at, started_at, style_numbers_at, style_at}
 
 -- "compiled bytes over 65,536" are refused
@@ -47,11 +48,6 @@ encode ss = number_bytes (length ss) ++ texts_many selector_bytes ss
 -- ---- read
 
 -- the numbers before a selector's components, where the selector before is of the origin `least`
-pub record Head : Type 0 where
-  pub origin : ℕ
-  pub pseudo : ℕ
-  pub count : ℕ
-
 unfoldable pub count_at : List ℕ → ℕ → ℕ → ℕ → Decoded Head
 count_at t origin pseudo n = mapped (λ count. record { origin = origin; pseudo = pseudo; count = count }) (number_at t n)
 

@@ -3,16 +3,12 @@ use Rattle.std.specs.Prelude.{ℕ, ◌+◌, ◌≡◌, refl, List, [], ◌∷◌
 use Rattle.combinators.specs.Choice.{pick}
 use Rattle.combinators.specs.Part.{part}
 use Rattle.compiled.specs.Decoded.{Decoded, read, fault, and_then, mapped}
+use Rattle.compiled.specs.declared.texts.Span.{Span}
 use Rattle.compiled.specs.Number.{group_bytes, number_bytes, limited, groups_at, number_at}
 
 -- a text is its length, then its bytes: "Texts are compared as bytes and need not be UTF-8"
 unfoldable pub text_bytes : List ℕ → List ℕ
 text_bytes x = number_bytes (length x) ++ x
-
--- where a text lies: its first byte, which follows the length, and how many there are
-pub record Span : Type 0 where
-  pub start : ℕ
-  pub size : ℕ
 
 -- a text that runs out is a fault where its length starts
 unfoldable pub span_at : List ℕ → ℕ → Decoded Span

@@ -1,18 +1,17 @@
 // Components of a compiled sheet: a kind, then what the component has.
-ghost use Rattle.std.specs.Prelude.{◌≡◌, ◌++◌, ◌+◌, length};
+ghost use Rattle.std.specs.Prelude.{◌≡◌, ◌++◌, ◌+◌, length, IfSome};
 ghost use Rattle.combinators.specs.Store.{emits};
 ghost use Rattle.combinators.specs.Part.{part};
 ghost use Rattle.syntax.specs.RuleLayout.{nth_kind, attribute_equal_kind, component_from};
 ghost use Rattle.compiled.specs.Number.{number_bytes};
 ghost use Rattle.compiled.specs.Text.{text_bytes};
 ghost use Rattle.compiled.specs.Decoded.{counted};
-ghost use Rattle.compiled.specs.Component.{is_mark, name_at, second_number_at, numbers_at, second_name_at, names_at, body_at, written_at, component_at, is_name, component_bytes};
-ghost use Rattle.compiled.specs.Answer.{place_answer, component_answer, component_within, ShortSize};
+ghost use Rattle.compiled.specs.Component.{is_mark, name_at, numbers_at, names_at, body_at, written_at, component_at, is_name, component_bytes};
+ghost use Rattle.compiled.specs.Answer.{read_answer, place_answer, component_within, ShortSize};
 
-use crate::numbers::{GROUP_VALUES, NumberAnswer, emit_number, read_number, read_ranged};
-use crate::places::PlaceAnswer;
-use crate::texts::{TextAnswer, emit_text_part, read_text};
-use combinators::bytes::wide;
+use crate::numbers::{GROUP_VALUES, emit_number, read_number, read_ranged};
+use crate::places::{Fault, Read};
+use crate::texts::{Span, emit_text_part, read_text};
 use syntax::rows::{
     ATTRIBUTE, ATTRIBUTE_EQUAL, CHILD, CLASS, DESCENDANT, ELEMENT, HASH, NTH, STAR,
 };
@@ -25,251 +24,132 @@ pub const TO_TEXT: usize = 2;
 // The size of a component that is its kind alone.
 pub const MARK_SIZE: usize = 1;
 
-// A component, each with the place behind it first: star, child and descendant with their kind; class, element, hash and attribute with their kind,
-// where their text starts and how long it is; the two numbers of nth; the two texts of an attribute that is equal to a value. Or the place of the
-// fault.
-#[derive(Clone, Copy)]
-pub enum ComponentAnswer {
-    Mark(usize, u32),
-    Name {
-        next: usize,
-        kind: u32,
-        start: usize,
-        size: usize,
-    },
-    Numbers {
-        next: usize,
-        first: u32,
-        second: u32,
-    },
-    Names {
-        next: usize,
-        start: usize,
-        size: usize,
-        second_start: usize,
-        second_size: usize,
-    },
-    Fault(usize),
+// What the bytes of a component say: star, child and descendant are their kind alone; class, element, hash and attribute have a text; nth has two
+// numbers; an attribute that is equal to a value has two texts.
+#[derive(Clone, Copy, PartialEq, Eq)]
+pub enum Written {
+    Mark(u32),
+    Name(u32, Span),
+    Numbers(u32, u32),
+    Names(Span, Span),
 }
 
 // Whether a component is its kind alone.
 pub fn is_mark(kind: u32) -> bool
     ensures { result ≡ is_mark kind }
 {
-    if kind == STAR {
-        return true;
-    }
-    if kind == CHILD {
-        return true;
-    }
-    kind == DESCENDANT
+    matches!(kind, STAR | CHILD | DESCENDANT)
 }
 
 // Whether a component is its kind and one text.
-fn is_name(kind: u32) -> bool
+pub fn is_name(kind: u32) -> bool
     ensures { result ≡ is_name kind }
 {
-    if kind == CLASS {
-        return true;
-    }
-    if kind == ELEMENT {
-        return true;
-    }
-    if kind == HASH {
-        return true;
-    }
-    kind == ATTRIBUTE
+    matches!(kind, CLASS | ELEMENT | HASH | ATTRIBUTE)
 }
 
 // Behind the kind, the text.
-fn read_name(s: &[u8], at: usize, kind: u32) -> ComponentAnswer
-    ensures { result ≡ component_answer (name_at s.now kind at) }
+fn read_name(s: &[u8], at: usize, kind: u32) -> Result<Read<Written>, Fault>
+    ensures { result ≡ read_answer (name_at s.now kind at) }
 {
-    match read_text(s, at) {
-        TextAnswer::Text { next, start, size } => {
-            return ComponentAnswer::Name {
-                next,
-                kind,
-                start,
-                size,
-            };
-        }
-        TextAnswer::Fault(place) => {
-            return ComponentAnswer::Fault(place);
-        }
-    }
-}
-
-// The second number of nth, where the first is `a`.
-fn read_second_number(s: &[u8], at: usize, a: u32) -> ComponentAnswer
-    ensures { result ≡ component_answer (second_number_at s.now a at) }
-{
-    match read_number(s, at) {
-        NumberAnswer::Number(next, b) => {
-            return ComponentAnswer::Numbers {
-                next,
-                first: a,
-                second: b,
-            };
-        }
-        NumberAnswer::Fault(place) => {
-            return ComponentAnswer::Fault(place);
-        }
-    }
+    let text = read_text(s, at)?;
+    Ok(Read {
+        next: text.next,
+        value: Written::Name(kind, text.value),
+    })
 }
 
 // Behind the kind, the two numbers of nth.
-fn read_numbers(s: &[u8], at: usize) -> ComponentAnswer
-    ensures { result ≡ component_answer (numbers_at s.now at) }
+fn read_numbers(s: &[u8], at: usize) -> Result<Read<Written>, Fault>
+    ensures { result ≡ read_answer (numbers_at s.now at) }
 {
-    match read_number(s, at) {
-        NumberAnswer::Number(next, a) => {
-            return read_second_number(s, next, a);
-        }
-        NumberAnswer::Fault(place) => {
-            return ComponentAnswer::Fault(place);
-        }
-    }
-}
-
-// The second text of an attribute that is equal to a value, where the first starts at `start` and has `size` bytes.
-fn read_second_name(s: &[u8], at: usize, start: usize, size: usize) -> ComponentAnswer
-    ensures { result ≡ component_answer (second_name_at s.now (record { start = start; size = size }) at) }
-{
-    match read_text(s, at) {
-        TextAnswer::Text {
-            next,
-            start: second,
-            size: second_size,
-        } => {
-            return ComponentAnswer::Names {
-                next,
-                start,
-                size,
-                second_start: second,
-                second_size,
-            };
-        }
-        TextAnswer::Fault(place) => {
-            return ComponentAnswer::Fault(place);
-        }
-    }
+    let a = read_number(s, at)?;
+    let b = read_number(s, a.next)?;
+    Ok(Read {
+        next: b.next,
+        value: Written::Numbers(a.value, b.value),
+    })
 }
 
 // Behind the kind, the two texts.
-fn read_names(s: &[u8], at: usize) -> ComponentAnswer
-    ensures { result ≡ component_answer (names_at s.now at) }
+fn read_names(s: &[u8], at: usize) -> Result<Read<Written>, Fault>
+    ensures { result ≡ read_answer (names_at s.now at) }
 {
-    match read_text(s, at) {
-        TextAnswer::Text { next, start, size } => {
-            return read_second_name(s, next, start, size);
-        }
-        TextAnswer::Fault(place) => {
-            return ComponentAnswer::Fault(place);
-        }
-    }
+    let name = read_text(s, at)?;
+    let value = read_text(s, name.next)?;
+    Ok(Read {
+        next: value.next,
+        value: Written::Names(name.value, value.value),
+    })
 }
 
 // What stands behind the kind.
-fn read_body(s: &[u8], at: usize, kind: u32) -> ComponentAnswer
-    ensures { result ≡ component_answer (body_at s.now kind at) }
+fn read_body(s: &[u8], at: usize, kind: u32) -> Result<Read<Written>, Fault>
+    ensures { result ≡ read_answer (body_at s.now kind at) }
 {
     if is_mark(kind) {
-        return ComponentAnswer::Mark(at, kind);
+        Ok(Read {
+            next: at,
+            value: Written::Mark(kind),
+        })
+    } else if kind == NTH {
+        read_numbers(s, at)
+    } else if kind == ATTRIBUTE_EQUAL {
+        read_names(s, at)
+    } else {
+        read_name(s, at, kind)
     }
-    if kind == NTH {
-        return read_numbers(s, at);
-    }
-    if kind == ATTRIBUTE_EQUAL {
-        return read_names(s, at);
-    }
-    read_name(s, at, kind)
 }
 
 // The component at `at`.
-pub fn read_component(s: &[u8], at: usize) -> ComponentAnswer
-    ensures value { result ≡ component_answer (written_at s.now at) }
+pub fn read_component(s: &[u8], at: usize) -> Result<Read<Written>, Fault>
+    ensures value { result ≡ read_answer (written_at s.now at) }
     ensures component_within { component_within (length s.now) result }
 {
-    match read_ranged(s, at, STAR, ATTRIBUTE_EQUAL) {
-        NumberAnswer::Number(next, kind) => {
-            return read_body(s, next, kind);
-        }
-        NumberAnswer::Fault(place) => {
-            return ComponentAnswer::Fault(place);
-        }
-    }
+    let kind = read_ranged(s, at, STAR, ATTRIBUTE_EQUAL)?;
+    read_body(s, kind.next, kind.value)
 }
 
-// The size of the component at `at` where it is short, as most are: its kind alone, or a kind and a text, each number of one byte. Of any other 0.
-pub fn short_size(s: &[u8], at: usize) -> usize
-    ensures { ShortSize s.now at result }
+// The size of the component at `at` where it is short, as most are: its kind alone, or a kind and a text, each number of one byte.
+pub fn short_size(s: &[u8], at: usize) -> Option<usize>
+    ensures { IfSome result (λ size. ShortSize s.now at size) }
 {
-    if at < s.len() {
-        let kind = wide(s[at]);
-        if is_mark(kind) {
-            return MARK_SIZE;
-        }
-        if is_name(kind) {
-            let left = s.len() - at;
-            if left > TO_LENGTH {
-                let size = wide(s[at + TO_LENGTH]);
-                if (size as u64) < GROUP_VALUES {
-                    if size as usize + TO_TEXT <= left {
-                        return size as usize + TO_TEXT;
-                    }
-                }
-            }
+    if s.len() <= at {
+        return None;
+    }
+    let kind = u32::from(s[at]);
+    if is_mark(kind) {
+        return Some(MARK_SIZE);
+    }
+    let left = s.len() - at;
+    if is_name(kind) && left > TO_LENGTH && u64::from(s[at + TO_LENGTH]) < GROUP_VALUES {
+        let size = usize::from(s[at + TO_LENGTH]) + TO_TEXT;
+        if size <= left {
+            return Some(size);
         }
     }
-    0
+    None
 }
 
 // The place behind the component at `at`. Most are short, of which the size alone is asked.
-pub fn skip_component(s: &[u8], at: usize) -> PlaceAnswer
+pub fn skip_component(s: &[u8], at: usize) -> Result<usize, Fault>
     ensures { result ≡ place_answer (component_at s.now at) }
 {
-    let size = short_size(s, at);
-    if size > 0 {
-        return PlaceAnswer::At(at + size);
-    }
-    match read_component(s, at) {
-        ComponentAnswer::Mark(next, _) => {
-            return PlaceAnswer::At(next);
-        }
-        ComponentAnswer::Name { next, .. } => {
-            return PlaceAnswer::At(next);
-        }
-        ComponentAnswer::Numbers { next, .. } => {
-            return PlaceAnswer::At(next);
-        }
-        ComponentAnswer::Names { next, .. } => {
-            return PlaceAnswer::At(next);
-        }
-        ComponentAnswer::Fault(place) => {
-            return PlaceAnswer::Fault(place);
-        }
+    match short_size(s, at) {
+        Some(size) => Ok(at + size),
+        None => Ok(read_component(s, at)?.next),
     }
 }
 
 // The place behind `count` components from `at` on.
-pub fn skip_components(s: &[u8], at: usize, count: u32) -> PlaceAnswer
+pub fn skip_components(s: &[u8], at: usize, count: u32) -> Result<usize, Fault>
     ensures { result ≡ place_answer (counted (component_at s.now) count at) }
 {
-    let mut i = at;
-    let mut left = count;
-    while left > 0 {
-        match skip_component(s, i) {
-            PlaceAnswer::At(next) => {
-                i = next;
-            }
-            PlaceAnswer::Fault(place) => {
-                return PlaceAnswer::Fault(place);
-            }
-        }
-        left -= 1;
+    let mut next = at;
+    for _ in 0..count {
+        next = skip_component(s, next)?;
     }
-    PlaceAnswer::At(i)
+    Ok(next)
 }
 
 // Writes a kind and the text that starts at `start` in `texts` and has `size` bytes, or as many as there are; the fill behind them.

@@ -1,8 +1,26 @@
-// What a reader answers that only passes over bytes.
+// What a reader answers: what was read, with the place behind it, or where the bytes are at fault.
+ghost use Rattle.std.specs.Prelude.{◌≡◌};
+ghost use Rattle.combinators.specs.Refusal.{refused_at, bad_bytes};
 
-// The place behind what was passed over, or the place of the fault.
-#[derive(Clone, Copy)]
-pub enum PlaceAnswer {
-    At(usize),
-    Fault(usize),
+use combinators::refusals::{BAD_BYTES, Refusal, refused_at};
+
+// Where the number or the text that fails starts, or the first byte left over.
+#[derive(Clone, Copy, PartialEq, Eq)]
+pub struct Fault {
+    pub place: usize,
+}
+
+// A value that was read, and the place behind it.
+#[derive(Clone, Copy, PartialEq, Eq)]
+pub struct Read<T> {
+    pub next: usize,
+    pub value: T,
+}
+
+impl From<Fault> for Refusal {
+    ghost from_gives = { λ fault refusal. refusal ≡ refused_at bad_bytes fault.place };
+
+    fn from(fault: Fault) -> Refusal {
+        refused_at(BAD_BYTES, fault.place)
+    }
 }

@@ -4,43 +4,34 @@ ghost use Rattle.combinators.specs.Store.{emits};
 ghost use Rattle.combinators.specs.Part.{part};
 ghost use Rattle.compiled.specs.Number.{number_limit};
 ghost use Rattle.compiled.specs.Text.{text_bytes, span_at};
-ghost use Rattle.compiled.specs.Answer.{text_answer, text_within};
+ghost use Rattle.compiled.specs.Answer.{read_answer, text_within};
 
-use crate::numbers::{NumberAnswer, emit_number, read_number};
+use crate::numbers::{emit_number, read_number};
+use crate::places::{Fault, Read};
 use combinators::stores::emit_part;
 use combinators::texts::part_of;
 
-// The place behind a text, where it starts and how long it is; or the place of the fault.
-#[derive(Clone, Copy)]
-pub enum TextAnswer {
-    Text {
-        next: usize,
-        start: usize,
-        size: usize,
-    },
-    Fault(usize),
+// Where a text lies: its first byte, which follows the length, and how many there are.
+#[derive(Clone, Copy, PartialEq, Eq)]
+pub struct Span {
+    pub start: usize,
+    pub size: usize,
 }
 
 // The text at `at`.
-pub fn read_text(s: &[u8], at: usize) -> TextAnswer
-    ensures value { result ≡ text_answer (span_at s.now at) }
+pub fn read_text(s: &[u8], at: usize) -> Result<Read<Span>, Fault>
+    ensures value { result ≡ read_answer (span_at s.now at) }
     ensures text_within { text_within (length s.now) result }
 {
-    match read_number(s, at) {
-        NumberAnswer::Number(start, count) => {
-            let size = count as usize;
-            if size <= s.len() - start {
-                return TextAnswer::Text {
-                    next: start + size,
-                    start,
-                    size,
-                };
-            }
-            return TextAnswer::Fault(at);
-        }
-        NumberAnswer::Fault(place) => {
-            return TextAnswer::Fault(place);
-        }
+    let Read { next: start, value } = read_number(s, at)?;
+    let size = value as usize;
+    if size <= s.len() - start {
+        Ok(Read {
+            next: start + size,
+            value: Span { start, size },
+        })
+    } else {
+        Err(Fault { place: at })
     }
 }
 

@@ -11,13 +11,15 @@ use Rattle.sheets.specs.SheetAnswer.{sheet_limit}
 use Rattle.origins.specs.Checks.{any_too_long, all_valid, Lent}
 use Rattle.origins.specs.Reading.{sheets_of}
 use Rattle.origins.proofs.ChecksLaws.{none-long, lent_by}
-use Rattle.compiler.specs.CompileAnswer.{numbers_of, CompileLeft, unchanged, compiled_left, compile_of}
-use Rattle.compiler.specs.declared.compile.CompileAnswer.{CompileAnswer}
-use Rattle.compiler.specs.declared.compile.CompileAnswer.TheVariants.{TooLong, ShortStore, NotUtf8}
+use Rattle.compiler.specs.CompileAnswer.{refusal_of, numbers_of, CompileLeft, unchanged, compiled_left, compile_of}
+use Rattle.std.specs.Prelude.{Result, Err}
+use Rattle.compiler.specs.declared.compile.Compiled.{Compiled}
+use Rattle.compiler.specs.declared.compile.CompileError.{CompileError}
+use Rattle.compiler.specs.declared.compile.CompileError.TheVariants.{TooLong, ShortStore, NotUtf8}
 
 -- ---- `compile`, in the order of the refusals
 module _ (agent user author compiled texts rules tokens brackets : List ℕ) where
-  abbrev Left : CompileAnswer → Type 0
+  abbrev Left : Result Compiled CompileError → Type 0
   Left a =
       ◌≡◌ {A = CompileLeft} (record { answer = numbers_of a; compiled = compiled; texts = texts; rules = rules; tokens = tokens; brackets = brackets })
       (compile_of agent user author compiled texts rules tokens brackets)
@@ -27,8 +29,8 @@ module _ (agent user author compiled texts rules tokens brackets : List ℕ) whe
 
   module _ {t : Bool} (e : t ≡ any_too_long (length agent) (length user) (length author)) where
     -- the return where one of the sheets is too long
-    pub too_long_lem : t ≡ true → Left TooLong
-    unfolding compile_of unchanged numbers_of
+    pub too_long_lem : t ≡ true → Left (Err TooLong)
+    unfolding compile_of unchanged numbers_of refusal_of
     too_long_lem f = pick_true _ _ _ _ (sym e ∙ f) refl
 
     module _ (f : t ≡ false) where
@@ -46,8 +48,8 @@ module _ (agent user author compiled texts rules tokens brackets : List ℕ) whe
 
       module _ {v : Bool} (g : v ≡ stores_suffice count (length rules) (length tokens) (length brackets) (length texts)) where
         -- the return where the stores are too short for the three sheets
-        pub short-store : v ≡ false → Left ShortStore
-        unfolding compile_of unchanged numbers_of
+        pub short-store : v ≡ false → Left (Err ShortStore)
+        unfolding compile_of unchanged numbers_of refusal_of
         short-store h = pick-false _ _ _ _ (sym e ∙ f) (pick-false _ _ _ _ (sym g ∙ h) refl)
 
         module _ (h : v ≡ true) where
@@ -57,8 +59,8 @@ module _ (agent user author compiled texts rules tokens brackets : List ℕ) whe
 
           module _ {x : Bool} (i : x ≡ all_valid agent user author) where
             -- the return where one of the sheets is no UTF-8
-            pub not-utf8 : x ≡ false → Left NotUtf8
-            unfolding compile_of unchanged numbers_of
+            pub not-utf8 : x ≡ false → Left (Err NotUtf8)
+            unfolding compile_of unchanged numbers_of refusal_of
             not-utf8 j = pick-false _ _ _ _ (sym e ∙ f) (pick_true _ _ _ _ (sym g ∙ h) (pick-false _ _ _ _ (sym i ∙ j) refl))
 
             -- behind all tests, what writing the sheets leaves is what the call leaves

@@ -14,16 +14,17 @@ use Rattle.sheets.proofs.SheetLaws.{stored}
 use Rattle.origins.specs.Checks.{Lent}
 use Rattle.origins.specs.Reading.{Sheets, panicked, sheets_of, sheets_rows, sheets_texts, sheets_rules, sheets_answer, SheetsRoom}
 use Rattle.origins.specs.declared.reading.SheetsRules.{SheetsRules}
-use Rattle.origins.specs.declared.reading.SheetsRead.{SheetsRead}
-use Rattle.origins.specs.declared.reading.SheetsRead.TheVariants as all
+use Rattle.std.specs.Prelude.{Result, Ok, Err}
+use Rattle.origins.specs.declared.reading.SheetPanic.{SheetPanic}
 use Rattle.origins.proofs.SheetsKnown.{zeros_of, room-cleared, Came, came, panic-known, rows_held, texts_held, texts-length, texts-lie}
 use Rattle.compiled.specs.Sheet.{encode}
 use Rattle.compiler.specs.Selectors.{selectors_of}
-use Rattle.compiler.specs.CompileAnswer.{room_of, numbers_of, CompileLeft, zeroed, answered, answered_within, compiled_left}
+use Rattle.compiler.specs.CompileAnswer.{refusal_of, room_of, numbers_of, CompileLeft, zeroed, answered, answered_within, compiled_left}
 use Rattle.compiler.specs.Written.{selectors_from, Lying, fill_of, written_in}
 use Rattle.compiler.specs.declared.answers.CompileNumbers.{CompileNumbers}
-use Rattle.compiler.specs.declared.compile.CompileAnswer.{CompileAnswer}
-use Rattle.compiler.specs.declared.compile.CompileAnswer.TheVariants.{Compiled, Panic, NoRoom}
+use Rattle.compiler.specs.declared.compile.Compiled.{Compiled}
+use Rattle.compiler.specs.declared.compile.CompileError.{CompileError}
+use Rattle.compiler.specs.declared.compile.CompileError.TheVariants.{Panic, NoRoom}
 use Rattle.compiler.proofs.SheetsLying.{selectors-are, lying}
 use Rattle.compiler.proofs.WritingLaws.{room_within}
 
@@ -79,11 +80,11 @@ module _ {agent user author rules₀ tokens₀ brackets₀ texts₀ : List ℕ} 
   abbrev meant : Sheets
   meant = sheets_of agent user author
 
-  abbrev Left : CompileAnswer → List ℕ → List ℕ → List ℕ → List ℕ → List ℕ → Type 0
+  abbrev Left : Result Compiled CompileError → List ℕ → List ℕ → List ℕ → List ℕ → List ℕ → Type 0
   Left a k t y x b =
       ◌≡◌ {A = CompileLeft} (record { answer = numbers_of a; compiled = k; texts = t; rules = y; tokens = x; brackets = b }) (compiled_left compiled₀ texts₀ rules₀ tokens₀ brackets₀ meant)
 
-  module _ {r : SheetsRead} {y₂ x₂ b₂ t₂ : List ℕ} (er : r ≡ sheets_answer meant) (ey : y₂ ≡ sets y₁ 0 (sheets_rows meant)) (ex : x₂ ≡ x₁) (eb : b₂ ≡ b₁)
+  module _ {r : Result SheetsRules SheetPanic} {y₂ x₂ b₂ t₂ : List ℕ} (er : r ≡ sheets_answer meant) (ey : y₂ ≡ sets y₁ 0 (sheets_rows meant)) (ex : x₂ ≡ x₁) (eb : b₂ ≡ b₁)
       (et : t₂ ≡ sets t₁ 0 (sheets_texts meant)) where
     -- the store of tokens is zero throughout
     tokens-zero : x₂ ≡ replicate (length tokens₀) 0
@@ -94,16 +95,16 @@ module _ {agent user author rules₀ tokens₀ brackets₀ texts₀ : List ℕ} 
     brackets-zero = eb ∙ cb ∙ zeros_of brackets₀ brackets₀ refl
 
     -- where the crate panics all is zero
-    pub panics : {which p : ℕ} → r ≡ all.Panic which p → Left (Panic which p) k₁ t₂ y₂ x₂ b₂
-    unfolding compiled_left zeroed numbers_of sheets_rows sheets_texts
-    panics {which} {p} g =
-        let q : meant ≡ panicked which p = panic-known meant which p (sym g ∙ er) in
+    pub panics : {p : SheetPanic} → r ≡ Err p → Left (Err (Panic p)) k₁ t₂ y₂ x₂ b₂
+    unfolding compiled_left zeroed numbers_of refusal_of sheets_rows sheets_texts
+    panics {p} g =
+        let q : meant ≡ panicked p.text p.place = panic-known meant p (sym g ∙ er) in
         let ey' : y₂ ≡ y₁ = ey ∙ ap (λ (s : Sheets). sets y₁ 0 (sheets_rows s)) q in
         let et' : t₂ ≡ t₁ = et ∙ ap (λ (s : Sheets). sets t₁ 0 (sheets_texts s)) q in
         left_by refl (ck ∙ zeros_of compiled₀ compiled₀ refl) (et' ∙ ct ∙ zeros_of texts₀ texts₀ refl) (ey' ∙ cy ∙ zeros_of rules₀ rules₀ refl) tokens-zero brackets-zero
         ∙ ap (compiled_left compiled₀ texts₀ rules₀ tokens₀ brackets₀) (sym q)
 
-    module _ {s : SheetsRules} (g : r ≡ all.Rules s) where
+    module _ {s : SheetsRules} (g : r ≡ Ok s) where
       -- the three sheets came to rules, and s says where they lie
       m : Came meant s
       m = came meant s (sym g ∙ er)
@@ -157,12 +158,12 @@ module _ {agent user author rules₀ tokens₀ brackets₀ texts₀ : List ℕ} 
           q-is = eq ∙ ap room_of k-long
 
           -- the bytes fit into the room: the answer is the compiled sheet
-          pub fits : w ≤ q → Left (Compiled w s.end) k₃ t₂ y₃ x₃ b₂
+          pub fits : w ≤ q → Left (Ok (record { bytes = w; texts = s.end })) k₃ t₂ y₃ x₃ b₂
           unfolding compiled_left answered_within answered numbers_of sheets_texts sheets_rules bytes
           fits h =
               let z = fill-fits (room_of (length k₁)) w bytes w-is (omega (arith, h, q-is)) in
               let ex' : s.end ≡ length (texts_held o m) = ap (λ (v : SheetsRules). v.end) m.lie ∙ sym (texts-length o m) in
-              left_by (ap numbers_of (ap₂ Compiled z.1 ex'))
+              left_by (ap₂ (λ (b t : ℕ). numbers_of (Ok (record { bytes = b; texts = t }))) z.1 ex')
               (k-is ∙ written-whole (room_of (length k₁)) bytes k₁ (room_within (length k₁)) z.0 ∙ ap (λ (l : List ℕ). sets l 0 bytes) ck
               ∙ stored bytes compiled₀ (omega (arith, z.0, same-room, room_within (length compiled₀))))
               (texts₂ ∙ texts-lie o m) rules-zero (es ∙ tokens-zero) brackets-zero
@@ -170,8 +171,8 @@ module _ {agent user author rules₀ tokens₀ brackets₀ texts₀ : List ℕ} 
               ∙ ap (compiled_left compiled₀ texts₀ rules₀ tokens₀ brackets₀) (sym m.is)
 
           -- the bytes pass the room: the answer is refusal 10, and the buffers are cleared
-          pub over : q < w → {k₄ t₄ : List ℕ} → k₄ ≡ cleared 0 k₃ → t₄ ≡ cleared 0 t₂ → Left NoRoom k₄ t₄ y₃ x₃ b₂
-          unfolding compiled_left answered_within zeroed numbers_of bytes
+          pub over : q < w → {k₄ t₄ : List ℕ} → k₄ ≡ cleared 0 k₃ → t₄ ≡ cleared 0 t₂ → Left (Err NoRoom) k₄ t₄ y₃ x₃ b₂
+          unfolding compiled_left answered_within zeroed numbers_of refusal_of bytes
           over h {k₄} {t₄} ek₄ et₄ =
               let z = fill-over (room_of (length k₁)) w bytes w-is (omega (arith, h, q-is)) in
               left_by refl (ek₄ ∙ zeros_of k₃ compiled₀ (k-long ∙ ap length ck ∙ length-cleared 0 compiled₀))

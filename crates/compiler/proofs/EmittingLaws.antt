@@ -1,7 +1,11 @@
 -- A loop that reads values one behind the other and writes the bytes of each, until the store is full.
+use Rattle.combinators.specs.Choice.{is}
 use mathlib.Core.Path.{◌≡◌, refl, sym, ap, ap₂, ◌∙◌}
 use mathlib.Core.Bool.{Bool, true, false}
 use mathlib.Core.List.{List, [], ◌∷◌, ◌++◌}
+use mathlib.Core.Logic.{⊎_elim, ◌⊎◌, inl, inr}
+use borrow.Author.Tests.{le-ltb, eq-eqb, ne_eqb}
+use lib.Dec.{eqb, ltb}
 use Prim.Native.Nat.{ℕ, zero, suc, ◌+◌, ◌-◌, ◌≤◌, ◌<◌}
 use native.Mathlib.Omega.{arith}
 use lib.ListN.{length, drop}
@@ -11,22 +15,25 @@ use Rattle.combinators.proofs.Rules.{is-yes, is-no, is_true}
 use Rattle.syntax.specs.Stream.{Read, read_many, texts_many}
 use Rattle.compiler.specs.Writing.{past}
 
+-- two numbers are the same or not
+same_or : (a b : ℕ) → (a ≡ b) ⊎ (¬ (a ≡ b))
+same_or zero zero = inl refl
+same_or zero (suc b) = inr (λ e. absurd (omega arith))
+same_or (suc a) zero = inr (λ e. absurd (omega arith))
+same_or (suc a) (suc b) = ⊎_elim (λ e. inl (ap suc e)) (λ n. inr (λ e. n (omega arith))) (same_or a b)
+
 -- ---- bytes passed the end of a store
 module _ (n f : ℕ) where
   -- a fill within the room is not past it
-  pub before-end : f ≤ n → false ≡ past n f
+  pub before-end : f ≤ n → ltb n f ≡ past n f
   unfolding past
-  before-end h = sym (is-no f (n + 1) (λ (e : f ≡ n + 1). omega (arith, h, e)))
+  before-end h = le-ltb n f h ∙ sym (is-no f (n + 1) (λ (e : f ≡ n + 1). omega (arith, h, e)))
 
-  -- a fill that is more than one past the room does not tell that bytes passed its end
-  pub beyond-end : 1 < f - n → false ≡ past n f
-  unfolding past
-  beyond-end h = sym (is-no f (n + 1) (λ (e : f ≡ n + 1). omega (arith, h, e)))
-
-  -- a fill of one past the room tells that bytes passed its end
-  pub at-end : n < f → f - n ≤ 1 → true ≡ past n f
-  unfolding past
-  at-end h k = sym (is-yes f (n + 1) (omega (arith, h, k)))
+  -- a fill past the room tells that bytes passed its end exactly if it is one past
+  pub beyond-end : n < f → eqb (f - n) 1 ≡ past n f
+  unfolding past is
+  beyond-end h =
+      ⊎_elim (λ (e : f - n ≡ 1). eq-eqb _ _ e ∙ sym (eq-eqb f (n + 1) (omega arith))) (λ (e : ¬ (f - n ≡ 1)). ne_eqb _ _ e ∙ sym (ne_eqb f (n + 1) (λ k. e (omega arith)))) (same_or (f - n) 1)
 
   -- where the test says that bytes passed the end, the fill is one past the room
   pub past-known : {r : Bool} → r ≡ past n f → r ≡ true → f ≡ n + 1
@@ -56,6 +63,10 @@ module _ {A : Type 0} (u : List ℕ → Read A) (w : A → List ℕ) (rows : Lis
   -- before the first value all of them are left to write
   pub emitting-begin : Emitting count at st₀ fill
   emitting-begin = record { left = refl; long = refl }
+
+  -- with none read so far all of them are left
+  pub emitting-all : Emitting (count - 0) at st₀ fill
+  emitting-all = let e : count - 0 ≡ count = omega arith in rw e emitting-begin
 
   -- the bytes of n values are those of the first and of the n - 1 behind it
   one_less : (n place next : ℕ) → 0 < n → drop next rows ≡ (u (drop place rows)).rest
@@ -89,3 +100,11 @@ module _ {A : Type 0} (u : List ℕ → Read A) (w : A → List ℕ) (rows : Lis
         let xs : List ℕ = texts_many w (read_many u n (drop place rows)).value in
         let e : emits (record { bytes = st; fill = f }) xs ≡ record { bytes = st; fill = f } = rw h (past_end st xs) in
         sym e ∙ c.left
+
+  -- a turn, by how many values were read before
+  pub emitting-next : (i place : ℕ) (st : List ℕ) (f : ℕ) → Emitting (count - i) place st f → i < count → (z : List ℕ) (g : ℕ)
+      → record { bytes = z; fill = g } ≡ emits (record { bytes = st; fill = f }) (w (u (drop place rows)).value) → length z ≡ length st
+      → (next : ℕ) → drop next rows ≡ (u (drop place rows)).rest → Emitting (count - (i + 1)) next z g
+  emitting-next i place st f c h z g e k next d =
+      let q : count - (i + 1) ≡ count - i - 1 = omega arith in
+      rw q (emitting-more (count - i) place st f c (omega arith) z g e k next d)

@@ -152,6 +152,10 @@ module _ (rows : List ℕ) (count at origin : ℕ) (tokens₀ texts st₀ : List
   pub writing-begin : RulesLent count (drop at rows) tokens₀ → Writing count at tokens₀ st₀ fill
   writing-begin o = record { emitted = emitting-begin (read_rule texts) (rule_bytes origin) rows count at st₀ fill; lent = o; same = refl }
 
+  -- with none written so far all of them are left
+  pub writing-all : RulesLent count (drop at rows) tokens₀ → Writing (count - 0) at tokens₀ st₀ fill
+  writing-all o = let e : count - 0 ≡ count = omega arith in rw e (writing-begin o)
+
   module _ (n place : ℕ) (tokens st : List ℕ) (f : ℕ) (c : Writing n place tokens st f) where
     -- a turn: one rule is written, and the rules behind it are left
     pub writing_more : 0 < n → (x : List ℕ) → x ≡ tokens → (z : List ℕ) (g : ℕ)
@@ -176,6 +180,14 @@ module _ (rows : List ℕ) (count at origin : ℕ) (tokens₀ texts st₀ : List
     writing-past h =
         (c.same, rules-written origin _ _ _ (emitting-past (read_rule texts) (rule_bytes origin) rows count at st₀ fill n place st f c.emitted h))
 
+  -- a turn, by how many rules were written before
+  pub writing-next : (i place : ℕ) (tokens st : List ℕ) (f : ℕ) → Writing (count - i) place tokens st f → i < count → (x : List ℕ) → x ≡ tokens → (z : List ℕ) (g : ℕ)
+      → record { bytes = z; fill = g } ≡ emits (record { bytes = st; fill = f }) (rule_bytes origin (read_rule texts (drop place rows)).value) → length z ≡ length st
+      → (next : ℕ) → ((texts : List ℕ) → drop next rows ≡ (read_rule texts (drop place rows)).rest) → Writing (count - (i + 1)) next x z g
+  writing-next i place tokens st f c h x ex z g e k next d =
+      let q : count - (i + 1) ≡ count - i - 1 = omega arith in
+      rw q (writing_more (count - i) place tokens st f c (omega arith) x ex z g e k next d)
+
 -- ---- turns of `count_selectors`
 module _ (rows : List ℕ) (count at : ℕ) where
   -- how many selectors n rules from a place on have
@@ -189,6 +201,10 @@ module _ (rows : List ℕ) (count at : ℕ) where
   -- before the first rule all of them are left to count
   pub counting-begin : Counting 0 at count
   counting-begin = record { left = λ origin texts. omega arith }
+
+  -- with none counted so far all of them are left
+  pub counting-all : Counting 0 at (count - 0)
+  counting-all = let e : count - 0 ≡ count = omega arith in rw e counting-begin
 
   -- n rules have the selectors of the first and of the n - 1 behind it
   one_less : (origin : ℕ) (texts : List ℕ) (n place next : ℕ) → 0 < n → drop next rows ≡ (read_rule texts (drop place rows)).rest
@@ -229,3 +245,11 @@ module _ (rows : List ℕ) (count at : ℕ) where
     -- with no rule left the selectors of all rules are counted
     pub counting-done : n ≤ 0 → (origin : ℕ) (texts : List ℕ) → total ≡ selectors_from origin texts count at
     counting-done h origin texts = omega (arith, c.left origin texts, none_left origin texts n place h)
+
+  -- a turn, by how many rules were counted before
+  pub counting-next : (total place i : ℕ) → Counting total place (count - i) → i < count → (r : ℕ)
+      → ((origin : ℕ) (texts : List ℕ) → r ≡ length (rule_selectors origin (read_rule texts (drop place rows)).value))
+      → (next : ℕ) → ((texts : List ℕ) → drop next rows ≡ (read_rule texts (drop place rows)).rest) → Counting (total + r) next (count - (i + 1))
+  counting-next total place i c h r e next d =
+      let q : count - (i + 1) ≡ count - i - 1 = omega arith in
+      rw q (counting_more total place (count - i) c (omega arith) r e next d)

@@ -1,7 +1,8 @@
 -- Returns and turns of the functions that write a selector.
+use Rattle.combinators.specs.Choice.{pick, is}
 use mathlib.Core.Path.{◌≡◌, refl, sym, ap, ◌∙◌}
 use mathlib.Core.List.{List, [], ◌∷◌, ◌++◌, reverse, reverse-append}
-use Prim.Native.Nat.{ℕ, ◌+◌, ◌*◌, ◌-◌, ◌≤◌, ◌<◌}
+use Prim.Native.Nat.{ℕ, ◌+◌, ◌*◌, ◌-◌, ◌≤◌, ◌<◌, zero, suc, min}
 use native.Mathlib.Omega.{arith}
 use lib.ListN.{length, get_or, drop, length-reverse}
 use lib.Seq.{get_or-drop, drop-drop}
@@ -52,6 +53,10 @@ module _ (rows : List ℕ) (at count : ℕ) (texts st₀ : List ℕ) (fill : ℕ
   pub returning-begin : Returning count st₀ fill
   returning-begin = record { left = refl; long = refl; few = omega arith }
 
+  -- with none written so far all of them are left
+  pub returning-all : Returning (count - 0) st₀ fill
+  returning-all = let e : count - 0 ≡ count = omega arith in rw e returning-begin
+
   -- the bytes of n components, the last first, are those of the n-th and then of the n - 1 before it
   last-first : (n place : ℕ) → 0 < n → drop place rows ≡ drop (at + component_width * (n - 1)) rows
       → backwards n ≡ component_bytes (read_component texts (drop place rows)).value ++ backwards (n - 1)
@@ -84,21 +89,24 @@ module _ (rows : List ℕ) (at count : ℕ) (texts st₀ : List ℕ) (fill : ℕ
     pub returning-done : n ≤ 0 → record { bytes = st; fill = f } ≡ emits (record { bytes = st₀; fill = fill }) (backwards count)
     returning-done h = sym (ap (emits (record { bytes = st; fill = f })) (none_left n h) ∙ emits_none _) ∙ c.left
 
+  -- a turn, by how many components were written before
+  pub returning-next : (i : ℕ) (st : List ℕ) (f : ℕ) → Returning (count - i) st f → i < count → (place : ℕ) → drop place rows ≡ drop (at + component_width * (count - 1 - i)) rows
+      → (z : List ℕ) (g : ℕ) → record { bytes = z; fill = g } ≡ emits (record { bytes = st; fill = f }) (component_bytes (read_component texts (drop place rows)).value)
+      → length z ≡ length st → Returning (count - (i + 1)) z g
+  returning-next i st f c h place d z g e k =
+      let q : count - (i + 1) ≡ count - i - 1 = omega arith in
+      let l : count - 1 - i ≡ count - i - 1 = omega arith in
+      rw q (returning-more (count - i) st f c (omega arith) place (rw l at d) z g e k)
+
 -- ---- pseudo elements
--- the number of a selector without a pseudo element is 0
-pub pseudo-none : (n : ℕ) → n ≡ 0 → 0 ≡ pseudo_number (pseudo_from n)
-unfolding pseudo_number pseudo_from
-pseudo-none n e = ap pseudo_number (pick_true _ _ _ _ (is-yes n 0 e) refl)
-
--- the number of `::before` is 1
-pub pseudo-before : (n : ℕ) → ¬ (n ≡ 0) → n ≡ 1 → 1 ≡ pseudo_number (pseudo_from n)
-unfolding pseudo_number pseudo_from
-pseudo-before n d e = ap pseudo_number (pick-false _ _ _ _ (is-no n 0 d) (pick_true _ _ _ _ (is-yes n 1 e) refl))
-
--- any other number is that of `::after`, 2
-pub pseudo-after : (n : ℕ) → ¬ (n ≡ 0) → ¬ (n ≡ 1) → 2 ≡ pseudo_number (pseudo_from n)
-unfolding pseudo_number pseudo_from
-pseudo-after n d e = ap pseudo_number (pick-false _ _ _ _ (is-no n 0 d) (pick-false _ _ _ _ (is-no n 1 e) refl))
+-- a number above that of `::after` stands for it
+pub pseudo-least : (n : ℕ) → min n 2 ≡ pseudo_number (pseudo_from n)
+unfolding pseudo_number pseudo_from pick is
+pseudo-least zero = refl
+pseudo-least (suc zero) = refl
+pseudo-least (suc (suc n)) =
+    let e : min (suc (suc n)) 2 ≡ 2 = omega arith in
+    e ∙ ap pseudo_number (pick-false _ _ _ _ (is-no (suc (suc n)) 0 (λ h. absurd (omega arith))) (pick-false _ _ _ _ (is-no (suc (suc n)) 1 (λ h. absurd (omega arith))) refl))
 
 -- ---- the bytes of a selector at a place
 module _ (rows : List ℕ) (at origin : ℕ) (o₀ o₁ : Store) where

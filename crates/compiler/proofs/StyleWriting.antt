@@ -15,8 +15,9 @@ use Rattle.syntax.specs.declared.styles.StyleNumbers.{StyleNumbers}
 use Rattle.syntax.proofs.RowSizes.{length-style}
 use Rattle.syntax.specs.Stream.{texts_many}
 use Rattle.declarations.specs.StyleNumbers.{added_style, own_numbers_at, row_of_own, own_row, zero_row, hidden_row, own_rows, any_row, first_zero_row, style_numbers, style_count}
-use Rattle.declarations.specs.declared.styles.OwnStyle.{OwnStyle}
-use Rattle.declarations.specs.declared.styles.OwnStyle.TheVariants.{Style, NoStyle}
+use Rattle.std.specs.Int.{from_bool}
+use Rattle.std.specs.Option.{is_some}
+use Rattle.std.specs.Prelude.{Option, Some, None}
 use Rattle.declarations.proofs.StyleLaws.{count-styles, styles-few}
 use Rattle.declarations.proofs.Styling.{or_is, and_is}
 use Rattle.origins.proofs.WalkLaws.{many-length}
@@ -25,16 +26,12 @@ use Rattle.compiled.specs.Style.{style_bytes}
 use Rattle.compiled.specs.Sheet.{styles_bytes}
 
 -- ---- the style that a declaration asks for by itself
-module _ (t : List ℕ) (r : OwnStyle) (e : r ≡ own_numbers_at t) where
-  -- a declaration that has a style of its own takes one row
-  pub own-one : (x : StyleNumbers) → r ≡ Style x → (style_width * 1 ≡ length (own_row t)) × (1 ≤ 1)
+module _ (t : List ℕ) where
+  -- a declaration that has a style of its own takes one row, one that has none no row
+  pub own-count : (r : Option StyleNumbers) → r ≡ own_numbers_at t → (style_width * from_bool (is_some r) ≡ length (own_row t)) × (from_bool (is_some r) ≤ 1)
   unfolding own_row row_of_own
-  own-one x h = (sym (length-style x) ∙ ap (λ (o : OwnStyle). length (row_of_own o)) (sym h ∙ e), omega arith)
-
-  -- a declaration that has none takes no row
-  pub own-none : r ≡ NoStyle → (style_width * 0 ≡ length (own_row t)) × (0 ≤ 1)
-  unfolding own_row row_of_own
-  own-none h = (ap (λ (o : OwnStyle). length (row_of_own o)) (sym h ∙ e), omega arith)
+  own-count (Some x) e = (sym (length-style x) ∙ ap (λ (o : Option StyleNumbers). length (row_of_own o)) e, omega arith)
+  own-count None e = (ap (λ (o : Option StyleNumbers). length (row_of_own o)) e, omega arith)
 
 -- ---- turns of `count_styles`: what is counted and what is left make what was to be counted
 pub record Finding (rows : List ℕ) (count at own : ℕ) (height-zero overflow-hidden : Bool) (place n : ℕ) : Type 0 where
@@ -47,6 +44,10 @@ pub record Finding (rows : List ℕ) (count at own : ℕ) (height-zero overflow-
 pub finding-begin : (rows : List ℕ) (count at : ℕ) → Finding rows count at 0 false false at count
 unfolding or
 finding-begin rows count at = record { left = omega arith; height = refl; overflow = refl; few = omega arith }
+
+-- with none counted so far all of them are left
+pub finding-all : (rows : List ℕ) (count at : ℕ) → Finding rows count at 0 false false at (count - 0)
+finding-all rows count at = let e : count - 0 ≡ count = omega arith in rw e (finding-begin rows count at)
 
 -- the rows of n declarations are those of the first and of the n - 1 behind it
 rows_step : (n : ℕ) (t : List ℕ) → 0 < n → own_rows n t ≡ own_row t ++ own_rows (n - 1) (drop declaration_width t)
@@ -158,3 +159,12 @@ pub styles-written : (rows texts : List ℕ) (count : ℕ) (o₀ o₁ o₂ : Sto
 unfolding styles_bytes styles_at
 styles-written rows texts count o₀ o₁ o₂ p q =
     then o₀ o₁ o₂ _ _ (p ∙ ap (λ (n : ℕ). emits o₀ (number_bytes n)) (sym (many-length (read_style texts) count rows))) q
+
+-- a turn of `count_styles`, by how many declarations were counted before
+pub finding-next : (rows : List ℕ) (count at own : ℕ) (height-zero overflow-hidden : Bool) (place i : ℕ)
+    → Finding rows count at own height-zero overflow-hidden place (count - i) → i < count → (r : ℕ) → style_width * r ≡ length (own_row (drop place rows)) → r ≤ 1
+    → (x y : Bool) → x ≡ zero_row (drop place rows) → y ≡ hidden_row (drop place rows) → (next : ℕ) → drop next rows ≡ drop (place + declaration_width) rows
+    → Finding rows count at (own + r) (height-zero || x) (overflow-hidden || y) next (count - (i + 1))
+finding-next rows count at own height-zero overflow-hidden place i c h r er l x y ex ey next d =
+    let q : count - (i + 1) ≡ count - i - 1 = omega arith in
+    rw q (finding-more rows count at own height-zero overflow-hidden place (count - i) c (omega arith) r er l x y ex ey next d)

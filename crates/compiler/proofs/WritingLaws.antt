@@ -2,7 +2,7 @@
 use mathlib.Core.Path.{◌≡◌, refl, ap, sym, ◌∙◌}
 use mathlib.Core.List.{List, [], ◌∷◌, ◌++◌, append_assoc}
 use mathlib.Core.Logic.{⊎_elim}
-use Prim.Native.Nat.{ℕ, ◌+◌, ◌-◌, ◌^◌, ◌≤◌, ◌<◌}
+use Prim.Native.Nat.{ℕ, ◌+◌, ◌-◌, ◌^◌, ◌≤◌, ◌<◌, min}
 use native.Mathlib.Nat.{zero-add}
 use native.Mathlib.Omega.{arith}
 use borrow.Author.Tests.{lt-ltb, le-ltb, le-leb, lt-leb}
@@ -36,6 +36,11 @@ room-limit n h = pick_true _ _ _ _ (lt-ltb compiled_limit n h) refl
 pub room_whole : (n : ℕ) → n ≤ compiled_limit → n ≡ room_of n
 unfolding room_of
 room_whole n h = pick-false _ _ _ _ (le-ltb compiled_limit n h) refl
+
+-- the smaller of the two is the room
+pub room_least : (n : ℕ) → min n compiled_limit ≡ room_of n
+room_least n =
+    ⊎_elim (λ (h : compiled_limit < n). (let e : min n compiled_limit ≡ compiled_limit = omega arith in e) ∙ room-limit n h) (λ (h : n ≤ compiled_limit). (let e : min n compiled_limit ≡ n = omega arith in e) ∙ room_whole n h) (lt-or-ge compiled_limit n)
 
 -- it is no more than there is
 pub room_within : (n : ℕ) → room_of n ≤ n

@@ -1,5 +1,5 @@
 -- What `compile` answers and leaves: the refusals of document 01 in the order of their numbers, or the compiled sheet.
-use Rattle.std.specs.Prelude.{ℕ, ◌+◌, List, leb, ltb, length, replicate}
+use Rattle.std.specs.Prelude.{ℕ, ◌+◌, Result, Ok, Err, List, leb, ltb, length, replicate}
 use Rattle.combinators.specs.Choice.{pick}
 use Rattle.combinators.specs.LeastLengths.{stores_suffice}
 use Rattle.combinators.specs.Refusal.{no_refusal, refused, refused_in, too_long, short_store, not_utf8, panic, no_room}
@@ -10,8 +10,9 @@ use Rattle.origins.specs.Reading.{Sheets, rules, panicked, sheets_of, sheets_tex
 use Rattle.compiled.specs.Sheet.{compiled_limit, encode}
 use Rattle.compiler.specs.Selectors.{selectors_of}
 use Rattle.compiler.specs.declared.answers.CompileNumbers.{CompileNumbers}
-use Rattle.compiler.specs.declared.compile.CompileAnswer.{CompileAnswer}
-use Rattle.compiler.specs.declared.compile.CompileAnswer.TheVariants.{Compiled, TooLong, ShortStore, NotUtf8, Panic, NoRoom}
+use Rattle.compiler.specs.declared.compile.Compiled.{Compiled}
+use Rattle.compiler.specs.declared.compile.CompileError.{CompileError}
+use Rattle.compiler.specs.declared.compile.CompileError.TheVariants.{TooLong, ShortStore, NotUtf8, Panic, NoRoom}
 
 -- ---- the room of a buffer of n bytes: "10 the compiled sheet would exceed its buffer or 65,536 bytes"
 unfoldable pub room_of : ℕ → ℕ
@@ -22,13 +23,16 @@ abbrev pub refused_compile : Refusal → CompileNumbers
 refused_compile r = record { refusal = r; bytes = 0; texts = 0 }
 
 -- "Where an answer is an enum, a definition gives this paper's number and values for each of its cases, and the promises use that definition."
-unfoldable pub numbers_of : CompileAnswer → CompileNumbers
-numbers_of (Compiled bytes texts) = record { refusal = no_refusal; bytes = bytes; texts = texts }
-numbers_of TooLong = refused_compile (refused too_long)
-numbers_of ShortStore = refused_compile (refused short_store)
-numbers_of NotUtf8 = refused_compile (refused not_utf8)
-numbers_of (Panic which byte) = refused_compile (refused_in panic which byte)
-numbers_of NoRoom = refused_compile (refused no_room)
+unfoldable pub refusal_of : CompileError → Refusal
+refusal_of TooLong = refused too_long
+refusal_of ShortStore = refused short_store
+refusal_of NotUtf8 = refused not_utf8
+refusal_of (Panic p) = refused_in panic p.text p.place
+refusal_of NoRoom = refused no_room
+
+unfoldable pub numbers_of : Result Compiled CompileError → CompileNumbers
+numbers_of (Ok c) = record { refusal = no_refusal; bytes = c.bytes; texts = c.texts }
+numbers_of (Err e) = refused_compile (refusal_of e)
 
 -- ---- what is left of the call, its answer and the five buffers: "Each contract determines result and every writable byte, refusals too, by an equation with a
 -- definition wherever there can be one"

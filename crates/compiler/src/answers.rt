@@ -1,8 +1,8 @@
 // What `compile` answers, in document 01's numbers.
 ghost use Rattle.std.specs.Prelude.{◌≡◌};
-ghost use Rattle.compiler.specs.CompileAnswer.{refused_compile, numbers_of};
+ghost use Rattle.compiler.specs.CompileAnswer.{refusal_of, refused_compile, numbers_of};
 
-use crate::compile::CompileAnswer;
+use crate::compile::{CompileError, Compiled};
 use combinators::refusals::{
     NO_ROOM, NOT_UTF8, PANIC, Refusal, SHORT_STORE, TOO_LONG, no_refusal, refused, refused_in,
 };
@@ -13,6 +13,20 @@ pub struct CompileNumbers {
     pub refusal: Refusal,
     pub bytes: usize,
     pub texts: usize,
+}
+
+impl From<CompileError> for Refusal {
+    ghost from_gives = { λ error refusal. refusal ≡ refusal_of error };
+
+    fn from(error: CompileError) -> Refusal {
+        match error {
+            CompileError::TooLong => refused(TOO_LONG),
+            CompileError::ShortStore => refused(SHORT_STORE),
+            CompileError::NotUtf8 => refused(NOT_UTF8),
+            CompileError::Panic(panic) => refused_in(PANIC, panic.text, panic.place),
+            CompileError::NoRoom => refused(NO_ROOM),
+        }
+    }
 }
 
 fn refused_compile(refusal: Refusal) -> CompileNumbers
@@ -26,32 +40,15 @@ fn refused_compile(refusal: Refusal) -> CompileNumbers
 }
 
 // What an answer stands for.
-pub fn numbers_of(answer: CompileAnswer) -> CompileNumbers
+pub fn numbers_of(answer: Result<Compiled, CompileError>) -> CompileNumbers
     ensures { result ≡ numbers_of answer }
 {
     match answer {
-        CompileAnswer::Compiled(bytes, texts) => {
-            let refusal = no_refusal();
-            return CompileNumbers {
-                refusal,
-                bytes,
-                texts,
-            };
-        }
-        CompileAnswer::TooLong => {
-            return refused_compile(refused(TOO_LONG));
-        }
-        CompileAnswer::ShortStore => {
-            return refused_compile(refused(SHORT_STORE));
-        }
-        CompileAnswer::NotUtf8 => {
-            return refused_compile(refused(NOT_UTF8));
-        }
-        CompileAnswer::Panic(text, byte) => {
-            return refused_compile(refused_in(PANIC, text, byte));
-        }
-        CompileAnswer::NoRoom => {
-            return refused_compile(refused(NO_ROOM));
-        }
+        Ok(compiled) => CompileNumbers {
+            refusal: no_refusal(),
+            bytes: compiled.bytes,
+            texts: compiled.texts,
+        },
+        Err(error) => refused_compile(Refusal::from(error)),
     }
 }

@@ -1,6 +1,7 @@
 // `compile`: three sheets into the bytes of a compiled sheet. Refusals are looked for in the order of their numbers; nothing is written before all
 // texts are known to be UTF-8, and all sheets are read before the room for the bytes is judged.
 ghost use Rattle.std.specs.Prelude.{◌≡◌};
+ghost use Rattle.compiler.specs.declared.compile.CompileError.TheVariants as CompileError;
 ghost use Rattle.combinators.specs.Store.{cleared};
 ghost use Rattle.origins.specs.Checks.{Lent};
 ghost use Rattle.origins.specs.Reading.{sheets_of};
@@ -10,18 +11,32 @@ use crate::writing::{room_of, write_within};
 use combinators::least::stores_suffice;
 use combinators::stores::{clear_bytes, clear_numbers};
 use origins::checks::{all_valid, any_too_long};
-use origins::reading::{SheetsRead, read_sheets};
+use origins::reading::{SheetPanic, read_sheets};
 use sheets::sheet::clear_stores;
 
-// How many bytes the compiled sheet has, and the texts that its rules name; or the refusal, with the sheet and the byte where the crate panics.
-#[derive(Clone, Copy)]
-pub enum CompileAnswer {
-    Compiled(usize, usize),
+// How many bytes the compiled sheet has, and the texts that its rules name.
+#[derive(Clone, Copy, Debug, PartialEq, Eq)]
+pub struct Compiled {
+    pub bytes: usize,
+    pub texts: usize,
+}
+
+// Why sheets are refused; of a panic the sheet and the byte where the crate panics.
+#[derive(Clone, Copy, Debug, PartialEq, Eq)]
+pub enum CompileError {
     TooLong,
     ShortStore,
     NotUtf8,
-    Panic(usize, usize),
+    Panic(SheetPanic),
     NoRoom,
+}
+
+impl From<SheetPanic> for CompileError {
+    ghost from_gives = { λ panic error. error ≡ CompileError.Panic panic };
+
+    fn from(panic: SheetPanic) -> CompileError {
+        CompileError::Panic(panic)
+    }
 }
 
 // Zeros throughout all buffers.
@@ -52,27 +67,24 @@ fn compile_texts(
     rules: &mut [u32],
     tokens: &mut [u32],
     brackets: &mut [u8],
-) -> CompileAnswer
+) -> Result<Compiled, CompileError>
     requires { Lent agent.now user.now author.now rules.old tokens.old brackets.old texts.old }
     ensures { record { answer = numbers_of result; compiled = compiled.new; texts = texts.new; rules = rules.new; tokens = tokens.new; brackets = brackets.new }
         ≡ compiled_left compiled.old texts.old rules.old tokens.old brackets.old (sheets_of agent.now user.now author.now) }
 {
     clear_all(compiled, texts, rules, tokens, brackets);
-    match read_sheets(agent, user, author, rules, tokens, brackets, texts) {
-        SheetsRead::Panic(text, byte) => {
-            return CompileAnswer::Panic(text, byte);
-        }
-        SheetsRead::Rules(sheets) => {
-            let bytes = write_within(rules, texts, sheets, tokens, compiled);
-            clear_numbers(rules, 0);
-            if bytes <= room_of(compiled.len()) {
-                return CompileAnswer::Compiled(bytes, sheets.end);
-            }
-            clear_bytes(compiled, 0);
-            clear_bytes(texts, 0);
-            return CompileAnswer::NoRoom;
-        }
+    let sheets = read_sheets(agent, user, author, rules, tokens, brackets, texts)?;
+    let bytes = write_within(rules, texts, sheets, tokens, compiled);
+    clear_numbers(rules, 0);
+    if bytes > room_of(compiled.len()) {
+        clear_bytes(compiled, 0);
+        clear_bytes(texts, 0);
+        return Err(CompileError::NoRoom);
     }
+    Ok(Compiled {
+        bytes,
+        texts: sheets.end,
+    })
 }
 
 // Compiles three sheets into `compiled`; `texts` then holds the texts that their rules name.
@@ -85,26 +97,26 @@ pub fn compile(
     rules: &mut [u32],
     tokens: &mut [u32],
     brackets: &mut [u8],
-) -> CompileAnswer
+) -> Result<Compiled, CompileError>
     ensures { record { answer = numbers_of result; compiled = compiled.new; texts = texts.new; rules = rules.new; tokens = tokens.new; brackets = brackets.new }
         ≡ compile_of agent.now user.now author.now compiled.old texts.old rules.old tokens.old brackets.old }
 {
     if any_too_long(agent.len(), user.len(), author.len()) {
-        return CompileAnswer::TooLong;
+        return Err(CompileError::TooLong);
     }
-    if stores_suffice(
+    if !stores_suffice(
         agent.len() + user.len() + author.len(),
         rules.len(),
         tokens.len(),
         brackets.len(),
         texts.len(),
     ) {
-        if all_valid(agent, user, author) {
-            return compile_texts(
-                agent, user, author, compiled, texts, rules, tokens, brackets,
-            );
-        }
-        return CompileAnswer::NotUtf8;
+        return Err(CompileError::ShortStore);
     }
-    CompileAnswer::ShortStore
+    if !all_valid(agent, user, author) {
+        return Err(CompileError::NotUtf8);
+    }
+    compile_texts(
+        agent, user, author, compiled, texts, rules, tokens, brackets,
+    )
 }

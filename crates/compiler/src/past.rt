@@ -8,11 +8,5 @@ const ABOVE: usize = 1;
 pub fn is_past(length: usize, fill: usize) -> bool
     ensures { result ≡ past length fill }
 {
-    if fill <= length {
-        return false;
-    }
-    if fill - length > ABOVE {
-        return false;
-    }
-    true
+    fill > length && fill - length == ABOVE
 }

@@ -36,14 +36,12 @@ fn emit_selectors(
 {
     let mut f = fill;
     let mut place = at;
-    let mut left = selectors;
-    while left > 0 {
+    for _ in 0..selectors {
         if is_past(store.len(), f) {
             return f;
         }
         f = emit_selector(rows, place, origin, tokens, styles, texts, store, f);
         place = skip_selector(rows, place);
-        left -= 1;
     }
     f
 }
@@ -115,14 +113,12 @@ pub fn emit_rules(
 {
     let mut f = fill;
     let mut place = at;
-    let mut left = count;
-    while left > 0 {
+    for _ in 0..count {
         if is_past(store.len(), f) {
             return f;
         }
         f = emit_rule(rows, place, origin, tokens, texts, store, f);
         place = skip_rule(rows, place);
-        left -= 1;
     }
     f
 }
@@ -146,11 +142,9 @@ pub fn count_selectors(rows: &[u32], at: usize, count: usize) -> usize
 {
     let mut total = 0;
     let mut place = at;
-    let mut left = count;
-    while left > 0 {
+    for _ in 0..count {
         total += count_rule(rows, place) as usize;
         place = skip_rule(rows, place);
-        left -= 1;
     }
     total
 }

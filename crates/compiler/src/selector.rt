@@ -14,7 +14,7 @@ use compiled::components::emit_component;
 use compiled::sheets::emit_head;
 use syntax::rows::{
     COMPONENT_FIRST, COMPONENT_KIND, COMPONENT_SECOND, COMPONENT_TEXT, COMPONENT_WIDTH,
-    PSEUDO_AFTER, PSEUDO_BEFORE, PSEUDO_NONE, SELECTOR_COMPONENTS, SELECTOR_HEAD, SELECTOR_PSEUDO,
+    PSEUDO_AFTER, SELECTOR_COMPONENTS, SELECTOR_HEAD, SELECTOR_PSEUDO,
 };
 use syntax::walk::forward;
 
@@ -49,26 +49,19 @@ fn emit_components(
         (texts_many component_bytes (reverse (read_many (read_component texts.now) count (drop at rows.now)).value)) }
 {
     let mut f = fill;
-    let mut left = count;
-    while left > 0 {
-        left -= 1;
-        let place = forward(rows, at, COMPONENT_WIDTH * left as usize);
+    for i in 0..count {
+        let before = count - 1 - i;
+        let place = forward(rows, at, COMPONENT_WIDTH * before as usize);
         f = emit_component_at(rows, place, texts, store, f);
     }
     f
 }
 
-// The number of the pseudo element that a selector row has.
+// The number of the pseudo element that a selector row has: any other than none and `::before` is `::after`, the last.
 fn pseudo_number(pseudo: u32) -> u32
     ensures { result ≡ pseudo_number (pseudo_from pseudo) }
 {
-    if pseudo == PSEUDO_NONE {
-        return PSEUDO_NONE;
-    }
-    if pseudo == PSEUDO_BEFORE {
-        return PSEUDO_BEFORE;
-    }
-    PSEUDO_AFTER
+    pseudo.min(PSEUDO_AFTER)
 }
 
 // Writes what stands before the components of the selector whose row starts at `at`; the fill behind it.

@@ -10,7 +10,7 @@ ghost use Rattle.compiled.specs.Sheet.{styles_bytes};
 use crate::past::is_past;
 use compiled::numbers::emit_number;
 use compiled::styles::emit_style;
-use declarations::styles::{OwnStyle, hides_overflow, is_zero_height, own_style_at};
+use declarations::styles::{hides_overflow, is_zero_height, own_style_at};
 use syntax::rows::{DECLARATION_WIDTH, STYLE_WIDTH, flag_of};
 use syntax::styles::style_at;
 use syntax::walk::forward;
@@ -20,14 +20,7 @@ fn count_own_style(rows: &[u32], at: usize) -> u32
     ensures result_value { style_width * result ≡ length (own_row (drop at rows.now)) }
     ensures upper_bound { result ≤ 1 }
 {
-    match own_style_at(rows, at) {
-        OwnStyle::Style(_) => {
-            return 1;
-        }
-        OwnStyle::NoStyle => {
-            return 0;
-        }
-    }
+    u32::from(own_style_at(rows, at).is_some())
 }
 
 // How many styles `count` declarations from `at` on ask for.
@@ -38,13 +31,11 @@ pub fn count_styles(rows: &[u32], at: usize, count: u32) -> u32
     let mut height_zero = false;
     let mut overflow_hidden = false;
     let mut place = at;
-    let mut left = count;
-    while left > 0 {
+    for _ in 0..count {
         own += count_own_style(rows, place);
-        height_zero = height_zero | is_zero_height(rows, place);
-        overflow_hidden = overflow_hidden | hides_overflow(rows, place);
+        height_zero |= is_zero_height(rows, place);
+        overflow_hidden |= hides_overflow(rows, place);
         place = forward(rows, place, DECLARATION_WIDTH);
-        left -= 1;
     }
     own + flag_of(height_zero & overflow_hidden)
 }
@@ -66,14 +57,12 @@ fn emit_style_rows(rows: &[u32], count: u32, texts: &[u8], store: &mut [u8], fil
 {
     let mut f = fill;
     let mut place = 0;
-    let mut left = count;
-    while left > 0 {
+    for _ in 0..count {
         if is_past(store.len(), f) {
             return f;
         }
         f = emit_style_at(rows, place, texts, store, f);
         place = forward(rows, place, STYLE_WIDTH);
-        left -= 1;
     }
     f
 }

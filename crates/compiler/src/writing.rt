@@ -19,10 +19,7 @@ use syntax::rows::{AGENT_ORIGIN, AUTHOR_ORIGIN, USER_ORIGIN};
 pub fn room_of(n: usize) -> usize
     ensures { result ≡ room_of n }
 {
-    if n > COMPILED_LIMIT {
-        return COMPILED_LIMIT;
-    }
-    n
+    n.min(COMPILED_LIMIT)
 }
 
 // How many selectors the three sheets have.

@@ -1,7 +1,7 @@
 -- What the code finds at a byte, and at an index of the digits, says what the definitions say.
-use Prim.Native.Nat.{ℕ, suc, ◌+◌, ◌-◌, ◌<◌, ◌≤◌}
+use Prim.Native.Nat.{ℕ, suc, ◌+◌, ◌<◌, ◌≤◌}
 use mathlib.Core.Path.{◌≡◌, refl, sym, ap, ◌∙◌}
-use mathlib.Core.Bool.{Bool, true, false}
+use mathlib.Core.Bool.{true, false}
 use mathlib.Core.Logic.{⊎_elim}
 use mathlib.Core.List.{List, [], ◌∷◌}
 use native.Mathlib.Nat.{zero-add, add-zero}
@@ -11,29 +11,12 @@ use borrow.Author.Tests.{lt-ltb, le-ltb}
 use lib.Dec.{ltb}
 use lib.ListN.{length, get_or, drop, drop_of_length-le}
 use lib.Seq.{drop-cons, drop-drop}
-use Rattle.combinators.specs.Ascii.{digit_zero, digit_nine}
-use Rattle.combinators.specs.Choice.{pick, within}
+use Rattle.combinators.specs.Choice.{pick}
 use Rattle.combinators.proofs.Lists.{first}
-use Rattle.combinators.proofs.Rules.{lt-or-ge, pick_true, pick-false, is-yes, is-no, and-gives, and-gives-false, told, within-true}
+use Rattle.combinators.proofs.Rules.{lt-or-ge, pick_true, pick-false, is-yes, is-no, and-gives, and-gives-false}
 use Rattle.decimal.specs.Decimal.{digit, digits}
 use Rattle.decimal.specs.Places.{all_zero, at_most}
 use Rattle.decimal.specs.Looked.{looked_at, digits_test}
-
--- ---- a byte x, and the test whether it is a digit
-module _ (x : ℕ) (r : Bool) (e : r ≡ within x digit_zero digit_nine) where
-  -- the digit zero can be taken from a digit
-  pub digit-ge : r ≡ true → digit_zero ≤ x
-  digit-ge p = (within-true x digit_zero digit_nine (told _ _ _ e p)).0
-
-  -- which leaves what it is worth
-  pub digit-worth : r ≡ true → x - digit_zero ≡ digit x
-  unfolding digit
-  digit-worth p = pick_true _ _ _ _ (told _ _ _ e p) refl
-
-  -- any other byte counts as 0
-  pub no_digit : r ≡ false → 0 ≡ digit x
-  unfolding digit
-  no_digit p = pick-false _ _ _ _ (told _ _ _ e p) refl
 
 -- ---- the digits of s from i on
 -- at its end there are none

@@ -6,7 +6,7 @@ ghost use Rattle.std.specs.Prelude.{◌≡◌};
 ghost use Rattle.decimal.specs.Decimal.{digit, rounds_to_zero};
 ghost use Rattle.decimal.specs.Looked.{digits_test, zero_test};
 
-use combinators::bytes::{between, peek};
+use combinators::bytes::peek;
 
 // The decimal places of 2^-150, all of them: read as one number they are 5^150.
 const PLACES: [u8; 150] = [
@@ -29,13 +29,14 @@ pub struct ZeroTest {
 }
 
 // What a digit is worth; any other byte counts as 0.
+#[tactic(auto, unfolding(crate::specs::Decimal::digit, combinators::specs::Choice::pick, combinators::specs::Choice::within, combinators::specs::Choice::and))]
 fn digit_of(b: u8) -> u8
     ensures { result ≡ digit b }
 {
-    if between(b, b'0', b'9') {
-        return b - b'0';
+    match b {
+        b'0'..=b'9' => b - b'0',
+        _ => 0,
     }
-    0
 }
 
 // Whether digits are at most those of `table`, behind which stand zeros. The first that differ decide, and none behind them is looked
@@ -43,8 +44,7 @@ fn digit_of(b: u8) -> u8
 fn test_digits(s: &[u8], table: &[u8]) -> ZeroTest
     ensures { result ≡ digits_test table.now s.now }
 {
-    let mut i = 0;
-    while i < s.len() {
+    for i in 0..s.len() {
         let d = digit_of(s[i]);
         let t = peek(table, i);
         if d != t {
@@ -53,11 +53,10 @@ fn test_digits(s: &[u8], table: &[u8]) -> ZeroTest
                 looked: i + 1,
             };
         }
-        i += 1;
     }
     ZeroTest {
         zero: true, // a tie goes to the even number, which 0 is
-        looked: i,
+        looked: s.len(),
     }
 }
 
@@ -69,13 +68,13 @@ pub fn zero_test(integer: &[u8], fraction: &[u8]) -> ZeroTest
     let whole = test_digits(integer, &NO_PLACES);
     if whole.zero {
         let rest = test_digits(fraction, &PLACES);
-        let looked = integer.len() + rest.looked;
-        return ZeroTest {
+        ZeroTest {
             zero: rest.zero,
-            looked,
-        };
+            looked: integer.len() + rest.looked,
+        }
+    } else {
+        whole
     }
-    whole
 }
 
 // The answer alone, for who does not ask how many digits it took.

@@ -1,5 +1,5 @@
 -- `parse_color_attribute`: its colour, and what is left in the stores, from what its parts left.
-use mathlib.Core.Path.{◌≡◌, refl, sym, ◌∙◌}
+use mathlib.Core.Path.{◌≡◌, sym, subst, ◌∙◌}
 use mathlib.Core.Bool.{Bool, true, false}
 use mathlib.Core.List.{List}
 use Prim.Native.Nat.{ℕ, ◌-◌, ◌*◌, ◌^◌, ◌<◌}
@@ -17,34 +17,24 @@ use Rattle.values.specs.Layout.{texts_of, value_left, Room}
 use Rattle.values.specs.View.{Counted, tokens_at}
 use Rattle.values.specs.Colour.{colour_of}
 use Rattle.values.specs.ColourAnswer.{colour_answer}
-use Rattle.values.specs.declared.colours.ColourAnswer as answer
-use Rattle.values.specs.declared.statements.ValueAnswer.{ValueAnswer}
-use Rattle.values.specs.declared.statements.ValueAnswer.TheVariants as value
-use Rattle.declarations.specs.Attribute.{trimmed, faulty_colour, or_faulty, or_faulty_by, colour_attribute}
+use Rattle.std.specs.Prelude.{Option, Some, None, Result, Ok, Err, MatchOption}
+use Rattle.values.specs.declared.statements.Unbalanced.{Unbalanced}
+use Rattle.values.specs.declared.statements.Value as value
+use Rattle.declarations.specs.Attribute.{trimmed, faulty_colour, or_faulty, colour_attribute}
 use Rattle.declarations.specs.Leaving.{colour_left}
 use Rattle.declarations.proofs.Declaring as declaring
 
--- ---- `or_faulty`: a colour stays
--- where a colour was found, the faulty syntax is not asked, and the colour is the answer
-pub colour-stays : (a : answer.ColourAnswer) (v : ℕ) (s : List ℕ) → a ≡ answer.TheVariants.Colour v → answer.TheVariants.Colour v ≡ or_faulty_by a s
-unfolding or_faulty_by
-colour-stays a v s e = rw e
-
--- without one it is that of the text
-pub text-colour : (a r : answer.ColourAnswer) (s : List ℕ) → a ≡ answer.TheVariants.NoColour → r ≡ colour_answer (faulty_colour (trimmed s)) → r ≡ or_faulty_by a s
-unfolding or_faulty_by
-text-colour a r s e q = rw e q
-
--- on colours as the code answers them it says what `or_faulty` says on colours
-faulty-answer : (f : Found Colour) (s : List ℕ) → or_faulty_by (colour_answer f) s ≡ colour_answer (or_faulty f s)
-unfolding or_faulty_by colour_answer or_faulty on_found
-faulty-answer (found c) s = refl
-faulty-answer missing s = refl
+-- ---- a colour that was read stays; without one it is that of the text that lacks its `#`
+or-else : (f : Found Colour) (s : List ℕ) (a r : Option ℕ) → a ≡ colour_answer f → MatchOption a (r ≡ colour_answer (faulty_colour (trimmed s))) (λ v. r ≡ Some v)
+    → r ≡ colour_answer (or_faulty f s)
+unfolding colour_answer or_faulty on_found
+or-else (found c) s a r e m = subst (λ (o : Option ℕ). MatchOption o (r ≡ colour_answer (faulty_colour (trimmed s))) (λ v. r ≡ Some v)) e m
+or-else missing s a r e m = subst (λ (o : Option ℕ). MatchOption o (r ≡ colour_answer (faulty_colour (trimmed s))) (λ v. r ≡ Some v)) e m
 
 -- ---- the colour of an attribute, by its statement
 module _ (s : List ℕ) where
   -- where a bracket is wrong, the attribute has no colour
-  attribute-none : (statement_of false s).balanced ≡ false → colour_answer (colour_attribute s) ≡ answer.TheVariants.NoColour
+  attribute-none : (statement_of false s).balanced ≡ false → colour_answer (colour_attribute s) ≡ None
   unfolding colour_attribute value_of value_from on_parsed pick colour_answer on_found
   attribute-none h = rw h
 
@@ -54,7 +44,7 @@ module _ (s : List ℕ) where
   attribute-some h = rw h
 
 -- ---- what is left, from what `parse_value` left
-module _ (s tokens brackets store : List ℕ) (fill : ℕ) (room : Room (length s) fill tokens brackets store) {a : ValueAnswer} {x b z : List ℕ}
+module _ (s tokens brackets store : List ℕ) (fill : ℕ) (room : Room (length s) fill tokens brackets store) {a : Result value.Value Unbalanced} {x b z : List ℕ}
     (e : record { answer = a; rows = x; brackets = b; store = z } ≡ value_left (statement_of false s) tokens brackets store fill) where
   abbrev r : Statement
   r = statement_of false s
@@ -65,14 +55,14 @@ module _ (s tokens brackets store : List ℕ) (fill : ℕ) (room : Room (length 
     store-wiped q = q ∙ rw (em, declaring.store_is s tokens brackets store fill e) (wiped-over store fill (length (texts_of r.tokens)) (texts_of r.tokens) (omega arith))
 
     -- the colour, and the stores wiped
-    attribute-left : {c : answer.ColourAnswer} {x' b' z' : List ℕ} → c ≡ colour_answer (colour_attribute s) → x' ≡ wiped 0 (token_width * k) x → b' ≡ wiped 0 k b → z' ≡ wiped fill m z
+    attribute-left : {c : Option ℕ} {x' b' z' : List ℕ} → c ≡ colour_answer (colour_attribute s) → x' ≡ wiped 0 (token_width * k) x → b' ≡ wiped 0 k b → z' ≡ wiped fill m z
         → record { answer = c; tokens = x'; brackets = b'; store = z' } ≡ colour_left s tokens brackets store fill
     unfolding colour_left
     attribute-left ec ex eb ez =
         rw (ec, declaring.tokens-wiped s tokens brackets store fill e ek ex, declaring.brackets-zero s tokens brackets store fill e ek eb, store-wiped ez)
 
   -- ---- a bracket is wrong
-  module _ {k m : ℕ} (ea : a ≡ value.NoValue k m) where
+  module _ {u k m : ℕ} (ea : a ≡ Err (record { taken = u; count = k; text = m })) where
     -- the answer tells how many tokens, and how many bytes of text, were used
     none_here : declaring.Unvalued r k m
     none_here = declaring.none_said s tokens brackets store fill e ea
@@ -83,11 +73,11 @@ module _ (s tokens brackets store : List ℕ) (fill : ℕ) (room : Room (length 
 
     -- without a value there is no colour, and what was used is zero again
     pub none_left : {x' b' z' : List ℕ} → x' ≡ wiped 0 (token_width * k) x → b' ≡ wiped 0 k b → z' ≡ wiped fill m z
-        → record { answer = answer.TheVariants.NoColour; tokens = x'; brackets = b'; store = z' } ≡ colour_left s tokens brackets store fill
+        → record { answer = None; tokens = x'; brackets = b'; store = z' } ≡ colour_left s tokens brackets store fill
     none_left ex eb ez = attribute-left none_here.count none_here.text (sym (attribute-none s none_here.balanced)) ex eb ez
 
   -- ---- a value was read: its colour is looked for
-  module _ {t k m : ℕ} {i : Bool} (ea : a ≡ value.Value t k m i) where
+  module _ {t k m : ℕ} {i : Bool} (ea : a ≡ Ok (record { taken = t; count = k; text = m; important = i })) where
     -- the answer tells the bytes taken, how many tokens and bytes of text there are, and the mark
     some-here : declaring.Valued r t k m i
     some-here = declaring.some-said s tokens brackets store fill e ea
@@ -106,10 +96,10 @@ module _ (s tokens brackets store : List ℕ) (fill : ℕ) (room : Room (length 
       tokens-read = declaring.tokens-left s tokens brackets store fill e some-here.count room some-here.important ej
 
       -- so the colour read from them, or else from the text, is the attribute's
-      colour-is : {g c : answer.ColourAnswer} → g ≡ colour_answer (colour_of (tokens_at x z j)) → c ≡ or_faulty_by g s → c ≡ colour_answer (colour_attribute s)
-      colour-is eg ec = ec ∙ rw (eg, tokens-read, attribute-some s some-here.balanced) (faulty-answer (colour_of (without_mark (tokens_of r.tokens))) s)
+      colour-is : {g c : Option ℕ} → g ≡ colour_answer (colour_of (tokens_at x z j)) → MatchOption g (c ≡ colour_answer (faulty_colour (trimmed s))) (λ v. c ≡ Some v) → c ≡ colour_answer (colour_attribute s)
+      colour-is {g} {c} eg ec = rw (attribute-some s some-here.balanced) (or-else (colour_of (without_mark (tokens_of r.tokens))) s g c (rw tokens-read at eg) ec)
 
       -- that colour, and the stores wiped
-      pub some_left : {g c : answer.ColourAnswer} {x' b' z' : List ℕ} → g ≡ colour_answer (colour_of (tokens_at x z j)) → c ≡ or_faulty_by g s → x' ≡ wiped 0 (token_width * k) x
+      pub some_left : {g c : Option ℕ} {x' b' z' : List ℕ} → g ≡ colour_answer (colour_of (tokens_at x z j)) → MatchOption g (c ≡ colour_answer (faulty_colour (trimmed s))) (λ v. c ≡ Some v) → x' ≡ wiped 0 (token_width * k) x
           → b' ≡ wiped 0 k b → z' ≡ wiped fill m z → record { answer = c; tokens = x'; brackets = b'; store = z' } ≡ colour_left s tokens brackets store fill
       some_left eg ec ex eb ez = attribute-left some-here.count some-here.text (colour-is eg ec) ex eb ez

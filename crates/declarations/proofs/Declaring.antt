@@ -8,7 +8,7 @@ use native.Mathlib.Nat.{add-zero}
 use native.Mathlib.Omega.{arith}
 use lib.ListN.{length, take, drop, length-append, length-drop}
 use lib.Seq.{sets, length-sets}
-use Rattle.combinators.specs.Choice.{pick, or, is}
+use Rattle.combinators.specs.Choice.{pick}
 use Rattle.combinators.specs.Parsed.{Parsed, ok, err, on_parsed}
 use Rattle.combinators.specs.Store.{wiped}
 use Rattle.combinators.specs.Part.{part}
@@ -28,22 +28,21 @@ use Rattle.values.specs.Value.{Statement, statement_of, tokens_of, is_important,
 use Rattle.values.specs.Layout.{rows_of, texts_of, brackets_after, left, ValueLeft, value_answer, value_left, Room}
 use Rattle.values.specs.View.{Counted, tokens_at}
 use Rattle.values.specs.Property.{decl_of}
-use Rattle.values.specs.DeclAnswer.{decl_of_numbers, decl_answer}
-use Rattle.values.specs.declared.properties.Decl as declared
-use Rattle.values.specs.declared.statements.ValueAnswer.{ValueAnswer}
-use Rattle.values.specs.declared.statements.ValueAnswer.TheVariants as value
+use Rattle.values.specs.DeclAnswer.{decl_answer, text_length}
+use Rattle.std.specs.Prelude.{Option, Some, None, Result, Ok, Err}
+use Rattle.values.specs.declared.statements.Unbalanced.{Unbalanced}
+use Rattle.values.specs.declared.statements.Value as value
 use Rattle.values.proofs.DeclLaws.{Textless, decl-text, decl-length}
 use Rattle.values.proofs.Sizes.{Sized, statement-sized, rows_long}
 use Rattle.values.proofs.ValueLaws.{rows-room, texts-room, texts-bits}
 use Rattle.values.proofs.Views.{statement-back}
 use Rattle.values.proofs.Unmarked.{tokens-count, tokens-unmarked, texts-same, Begins, texts-begin, wiped-inner, part_apart, brackets-wiped}
 use Rattle.declarations.specs.Rules.{property_of, value_behind, declaration_of}
-use Rattle.declarations.specs.DeclRow.{named_decl, shift, kept_text, row_value, row_by}
+use Rattle.declarations.specs.DeclRow.{named_decl, shift, kept_text, kind_of, row_value, row_by}
 use Rattle.declarations.specs.Leaving.{kept, kept_of, Used, used_by, text_kept, Leaves, leaves, property_answer, declaration_answer, declaration_left, PutRoom, decl_said, Put, PropertyRead, RulesRoom}
 use Rattle.declarations.specs.declared.rules.Property.{Property}
-use Rattle.declarations.specs.declared.rules.Property.TheVariants as property
-use Rattle.declarations.specs.declared.rules.DeclarationAnswer.{DeclarationAnswer}
-use Rattle.declarations.specs.declared.rules.DeclarationAnswer.TheVariants as answer
+use Rattle.declarations.specs.declared.rules.NoProperty.{NoProperty}
+use Rattle.declarations.specs.declared.rules.DeclarationRead.{DeclarationRead}
 use Rattle.declarations.proofs.PropertyLaws.{Headed, headed}
 
 -- a store that holds a text holds what it begins with
@@ -53,7 +52,7 @@ held-begin l f xs ys b h = record { more = b.more ++ h.more; held = h.held ∙ a
 -- ---- a declaration's row and text
 -- its row, from the code's numbers
 row_is : (i s f : ℕ) (d : Decl) → row_by i s f (decl_answer d) ≡ decl_row i s f d
-unfolding row_by row_value decl_answer decl_of_numbers decl_row pick or is
+unfolding row_by kind_of row_value text_length decl_answer decl_row
 row_is i s f (color c) = refl
 row_is i s f (background_color c) = refl
 row_is i s f (height z) = refl
@@ -93,13 +92,13 @@ module _ (names : Bool) (z : List ℕ) (f n : ℕ) (name : List ℕ) (en : part 
 
   -- an unknown declaration keeps its name where names are asked for, and else no text
   keeps-unknown : (b : Bool) → names ≡ b → Keeps (unknown name)
-  unfolding kept_text shift decl_answer decl_of_numbers named_decl decl_text pick is part
+  unfolding kept_text shift decl_answer text_length named_decl decl_text pick part
   keeps-unknown true e = rw (e, long, add-zero f) en
   keeps-unknown false e = rw e
 
   -- a content keeps the texts of the value's tokens, which lie behind the name
   keeps-content : Keeps (content (texts_many text_of ks))
-  unfolding kept_text shift decl_answer decl_of_numbers named_decl decl_text pick is
+  unfolding kept_text shift decl_answer text_length named_decl decl_text pick
   keeps-content = held-part z (f + n) (texts_many text_of ks) ht
 
   -- whatever a name and tokens declare, the store keeps the declaration's text
@@ -131,14 +130,14 @@ module _ (s : List ℕ) (v : ℕ) (name : List ℕ) (e : property_of s ≡ ok v 
 module _ (names : Bool) (at : ℕ) (s rules : List ℕ) (place : ℕ) (tokens brackets store : List ℕ) (fill : ℕ) (u : Used) (eu : used_by s ≡ u) where
   -- where no declaration reads, all that was used is wiped, and nothing else changes
   left-err : declaration_of s ≡ err → (x b z : List ℕ) → x ≡ wiped 0 (token_width * u.tokens) tokens → b ≡ wiped 0 u.tokens brackets → z ≡ wiped fill u.bytes store
-      → record { answer = answer.NoDeclaration; rules = rules; tokens = x; brackets = b; store = z } ≡ declaration_left names at s rules place tokens brackets store fill
+      → record { answer = None; rules = rules; tokens = x; brackets = b; store = z } ≡ declaration_left names at s rules place tokens brackets store fill
   unfolding declaration_left leaves declaration_answer kept_of on_parsed declaration_rows declaration_texts rows_many texts_many
   left-err e x b z ex eb ez = rw (e, eu, ex, eb, ez)
 
   -- where d reads, its row and its text are left, and the rest that was used is wiped
   left-ok : (n : ℕ) (d : Declaration) → declaration_of s ≡ ok n d → (k : ℕ) → k ≡ text_kept names d → (y x b z : List ℕ) → y ≡ sets rules place (declaration_row fill (kept names at d))
       → x ≡ wiped 0 (token_width * u.tokens) tokens → b ≡ wiped 0 u.tokens brackets → z ≡ sets (wiped fill u.bytes store) fill (declaration_text (kept names at d))
-      → record { answer = answer.Declaration n k; rules = y; tokens = x; brackets = b; store = z } ≡ declaration_left names at s rules place tokens brackets store fill
+      → record { answer = Some (record { taken = n; text = k }); rules = y; tokens = x; brackets = b; store = z } ≡ declaration_left names at s rules place tokens brackets store fill
   unfolding declaration_left leaves declaration_answer kept_of on_parsed declaration_rows declaration_texts rows_many texts_many
   left-ok n d e k ek y x b z ey ex eb ez =
       rw (e, eu, ek, ey, ex, eb, ez, append-nil (declaration_row fill (kept names at d)), append-nil (declaration_text (kept names at d)))
@@ -151,38 +150,43 @@ pub record Valued (r : Statement) (n k m : ℕ) (i : Bool) : Type 0 where
   pub text : m ≡ length (texts_of r.tokens)
   pub important : i ≡ is_important (tokens_of r.tokens)
 
--- an answer with a value comes of right brackets alone, and has the numbers of that case
-valued_by : (b : Bool) (p q t n k m : ℕ) (j i : Bool) → value.Value n k m i ≡ pick b (value.Value p q t j) (value.NoValue q t)
-    → (b ≡ true) × (n ≡ p) × (k ≡ q) × (m ≡ t) × (i ≡ j)
-unfolding pick
-valued_by true p q t n k m j i e = (refl, cc, cc, cc, cc)
-valued_by false p q t n k m j i e = absurd (let z : ◌≡◌ {A = ℕ} 0 1 = cc in omega arith)
-
--- an answer with a value says the statement's bytes, tokens, length of text and mark
-valued : (r : Statement) (n k m : ℕ) (i : Bool) → value.Value n k m i ≡ value_answer r → Valued r n k m i
+-- an answer with a value comes of right brackets alone, and says the statement's bytes, tokens, length of text and mark
+valued : (r : Statement) (n : value.Value) → Ok n ≡ value_answer r → Valued r n.taken n.count n.text n.important
 unfolding value_answer
-valued r n k m i e =
-    let p = valued_by r.balanced _ _ _ n k m _ i e in
-    record { balanced = p.0; taken = p.1; count = p.2; text = p.3; important = p.4 }
+valued r n e = go r.balanced refl e
+  where
+    go : (b : Bool) → r.balanced ≡ b → ◌≡◌ {A = Result value.Value Unbalanced} (Ok n) (pick b (Ok (record { taken = r.taken; count = length r.tokens; text = length (texts_of r.tokens); important = is_important (tokens_of r.tokens) })) (Err (record { taken = r.taken; count = length r.tokens; text = length (texts_of r.tokens) }))) → Valued r n.taken n.count n.text n.important
+    go true h e =
+        unfold pick in
+        let q : n ≡ record { taken = r.taken; count = length r.tokens; text = length (texts_of r.tokens); important = is_important (tokens_of r.tokens) } = cc in
+        record {
+          balanced = h;
+          taken = ap (λ (m : value.Value). m.taken) q;
+          count = ap (λ (m : value.Value). m.count) q;
+          text = ap (λ (m : value.Value). m.text) q;
+          important = ap (λ (m : value.Value). m.important) q;
+        }
+    go false h e = unfold pick in absurd (cc)
 
 pub record Unvalued (r : Statement) (k m : ℕ) : Type 0 where
   pub balanced : r.balanced ≡ false
   pub count : k ≡ length r.tokens
   pub text : m ≡ length (texts_of r.tokens)
 
--- an answer without a value comes of a wrong bracket alone, and has the numbers of that case
-unvalued-by : (b : Bool) (p q t k m : ℕ) (j : Bool) → value.NoValue k m ≡ pick b (value.Value p q t j) (value.NoValue q t) → (b ≡ false) × (k ≡ q) × (m ≡ t)
-unfolding pick
-unvalued-by true p q t k m j e = absurd (let z : ◌≡◌ {A = ℕ} 0 1 = cc in omega arith)
-unvalued-by false p q t k m j e = (refl, cc, cc)
-
--- an answer without a value says how many tokens were read, and how long their texts are
-unvalued : (r : Statement) (k m : ℕ) → value.NoValue k m ≡ value_answer r → Unvalued r k m
+-- an answer without a value comes of a wrong bracket alone, and says how many tokens were read, and how long their texts are
+unvalued : (r : Statement) (n : Unbalanced) → Err n ≡ value_answer r → Unvalued r n.count n.text
 unfolding value_answer
-unvalued r k m e = let p = unvalued-by r.balanced _ _ _ k m _ e in record { balanced = p.0; count = p.1; text = p.2 }
+unvalued r n e = go r.balanced refl e
+  where
+    go : (b : Bool) → r.balanced ≡ b → ◌≡◌ {A = Result value.Value Unbalanced} (Err n) (pick b (Ok (record { taken = r.taken; count = length r.tokens; text = length (texts_of r.tokens); important = is_important (tokens_of r.tokens) })) (Err (record { taken = r.taken; count = length r.tokens; text = length (texts_of r.tokens) }))) → Unvalued r n.count n.text
+    go true h e = unfold pick in absurd (cc)
+    go false h e =
+        unfold pick in
+        let q : n ≡ record { taken = r.taken; count = length r.tokens; text = length (texts_of r.tokens) } = cc in
+        record { balanced = h; count = ap (λ (m : Unbalanced). m.count) q; text = ap (λ (m : Unbalanced). m.text) q }
 
 -- ---- what `parse_value` left of a text
-module _ (s tokens brackets store : List ℕ) (fill : ℕ) {a : ValueAnswer} {x b z : List ℕ}
+module _ (s tokens brackets store : List ℕ) (fill : ℕ) {a : Result value.Value Unbalanced} {x b z : List ℕ}
     (e : record { answer = a; rows = x; brackets = b; store = z } ≡ value_left (statement_of false s) tokens brackets store fill) where
   abbrev stated : Statement
   stated = statement_of false s
@@ -208,12 +212,12 @@ module _ (s tokens brackets store : List ℕ) (fill : ℕ) {a : ValueAnswer} {x 
   store_is = ap (λ (l : ValueLeft). l.store) e
 
   -- the answer's numbers, where a bracket is wrong
-  pub none_said : {k m : ℕ} → a ≡ value.NoValue k m → Unvalued stated k m
-  none_said {k} {m} ea = unvalued stated k m (sym ea ∙ answer-is)
+  pub none_said : {u k m : ℕ} → a ≡ Err (record { taken = u; count = k; text = m }) → Unvalued stated k m
+  none_said ea = unvalued stated _ (sym ea ∙ answer-is)
 
   -- an answer with a value says that the brackets are right, and has the value's numbers
-  pub some-said : {t k m : ℕ} {i : Bool} → a ≡ value.Value t k m i → Valued stated t k m i
-  some-said {t} {k} {m} {i} ea = valued stated t k m i (sym ea ∙ answer-is)
+  pub some-said : {t k m : ℕ} {i : Bool} → a ≡ Ok (record { taken = t; count = k; text = m; important = i }) → Valued stated t k m i
+  some-said ea = valued stated _ (sym ea ∙ answer-is)
 
   module _ {k : ℕ} (ek : k ≡ length stated.tokens) where
     -- wiping the rows that were written leaves the store wiped by the value's rows
@@ -307,7 +311,7 @@ module _ (names : Bool) (at : ℕ) (s rules : List ℕ) (place : ℕ) (tokens br
   fill-fits = omega (arith, name-short, value-within, room.room.bits)
 
   -- what `parse_value` left: the tokens of the value, and their texts behind the name
-  module _ {a : ValueAnswer} {x b z : List ℕ}
+  module _ {a : Result value.Value Unbalanced} {x b z : List ℕ}
       (e : record { answer = a; rows = x; brackets = b; store = z } ≡ value_left (statement_of false (take (length s - v) (drop v s))) tokens brackets store (fill + n)) where
     -- what is left is that of the value of the text from v on
     left_is : record { answer = a; rows = x; brackets = b; store = z } ≡ value_left value-of tokens brackets store (fill + n)
@@ -328,7 +332,7 @@ module _ (names : Bool) (at : ℕ) (s rules : List ℕ) (place : ℕ) (tokens br
       store-wiped = rw (em, read.long, stored) (wiped-inner store fill n (length (texts_of value-of.tokens)) (texts_of value-of.tokens) (omega arith))
 
     -- a bracket is wrong
-    module _ {k m : ℕ} (ea : a ≡ value.NoValue k m) where
+    module _ {o k m : ℕ} (ea : a ≡ Err (record { taken = o; count = k; text = m })) where
       -- the answer's numbers are the counts of a value with a wrong bracket
       none_here : Unvalued value-of k m
       none_here = none_said (drop v s) tokens brackets store (fill + n) left_is ea
@@ -343,7 +347,7 @@ module _ (names : Bool) (at : ℕ) (s rules : List ℕ) (place : ℕ) (tokens br
 
       -- the return where a bracket is wrong: no declaration, and all that was used is wiped
       pub none_left : {x' b' z' : List ℕ} → x' ≡ wiped 0 (token_width * k) x → b' ≡ wiped 0 k b → z' ≡ wiped fill (n + m) z
-          → record { answer = answer.NoDeclaration; rules = rules; tokens = x'; brackets = b'; store = z' } ≡ declaration_left names at s rules place tokens brackets store fill
+          → record { answer = None; rules = rules; tokens = x'; brackets = b'; store = z' } ≡ declaration_left names at s rules place tokens brackets store fill
       none_left {x'} {b'} {z'} ex eb ez =
           let u = none_here in
           left-err names at s rules place tokens brackets store fill _ (used-is s v name read.reads) (declaration-err s v name read.reads u.balanced) x' b' z'
@@ -351,7 +355,7 @@ module _ (names : Bool) (at : ℕ) (s rules : List ℕ) (place : ℕ) (tokens br
           (brackets-zero (drop v s) tokens brackets store (fill + n) left_is u.count eb) (ez ∙ store-wiped u.text)
 
     -- a value was read, of k tokens and m bytes of text
-    module _ {t k m : ℕ} {i : Bool} (ea : a ≡ value.Value t k m i) where
+    module _ {t k m : ℕ} {i : Bool} (ea : a ≡ Ok (record { taken = t; count = k; text = m; important = i })) where
       -- the answer's numbers are those of a value with right brackets
       some-here : Valued value-of t k m i
       some-here = some-said (drop v s) tokens brackets store (fill + n) left_is ea
@@ -428,12 +432,12 @@ module _ (names : Bool) (at : ℕ) (s rules : List ℕ) (place : ℕ) (tokens br
 
           -- the return where a value was read: the declaration's row and text are put down, and the rest is wiped
           pub some_left : {q : ℕ} {y x' b' z' : List ℕ} → Put names i (at + w) x j rules place z fill n m q y z' → x' ≡ wiped 0 (token_width * k) x → b' ≡ wiped 0 k b
-              → record { answer = answer.Declaration (v + t) q; rules = y; tokens = x'; brackets = b'; store = z' } ≡ declaration_left names at s rules place tokens brackets store fill
+              → record { answer = Some (record { taken = v + t; text = q }); rules = y; tokens = x'; brackets = b'; store = z' } ≡ declaration_left names at s rules place tokens brackets store fill
           unfolding text_kept kept declaration_text declaration_row
           some_left {q} {y} {x'} {b'} {z'} put ex eb =
               let u = some-here in
               let D = named_decl names decl in
-              let eq : q ≡ length (decl_text D) = put.kept ∙ ap (λ (d : declared.Decl). d.text) said-is ∙ decl-length D in
+              let eq : q ≡ length (decl_text D) = put.kept ∙ ap text_length said-is ∙ decl-length D in
               let er : row_by (flag i) (at + w) fill (decl_answer D) ≡ decl_row (flag (is_important (tokens_of value-of.tokens))) (at + skip_whitespace s) fill D =
               rw (u.important, ew) (row_is (flag (is_important (tokens_of value-of.tokens))) (at + skip_whitespace s) fill D)
               in
@@ -456,19 +460,21 @@ record Headword (p : Parsed (List ℕ)) (v n : ℕ) : Type 0 where
   long : n ≡ length name
 
 -- an answer with a name comes of a property that reads, and has its place and the length of its name
-headword : (p : Parsed (List ℕ)) (m v n : ℕ) → property.Name v n ≡ on_parsed p (λ w name. property.Name w (length name)) (property.NoName m) → Headword p v n
+headword : (p : Parsed (List ℕ)) (m : ℕ) (n : Property) → ◌≡◌ {A = Result Property NoProperty} (Ok n) (on_parsed p (λ w name. Ok (record { value = w; name = length name })) (Err (record { name = m }))) → Headword p n.value n.name
 unfolding on_parsed
-headword (ok w b) m v n e = let q : v ≡ w = cc in record { name = b; reads = rw q; long = cc }
-headword err m v n e = absurd (let z : ◌≡◌ {A = ℕ} 0 1 = cc in omega arith)
+headword (ok w b) m n e =
+    let q : n ≡ record { value = w; name = length b } = cc in
+    record { name = b; reads = ap (λ (x : Property). ok x.value b) (sym q); long = ap (λ (x : Property). x.name) q }
+headword err m n e = absurd (cc)
 
 -- an answer without a name comes of a property that does not read
-headless : (p : Parsed (List ℕ)) (m n : ℕ) → property.NoName n ≡ on_parsed p (λ w name. property.Name w (length name)) (property.NoName m) → (p ≡ err) × (n ≡ m)
+headless : (p : Parsed (List ℕ)) (m : ℕ) (n : NoProperty) → ◌≡◌ {A = Result Property NoProperty} (Err n) (on_parsed p (λ w name. Ok (record { value = w; name = length name })) (Err (record { name = m }))) → (p ≡ err) × (n.name ≡ m)
 unfolding on_parsed
-headless (ok w b) m n e = absurd (let z : ◌≡◌ {A = ℕ} 0 1 = cc in omega arith)
-headless err m n e = (refl, cc)
+headless (ok w b) m n e = absurd (cc)
+headless err m n e = let q : n ≡ record { name = m } = cc in (refl, ap (λ (x : NoProperty). x.name) q)
 
 module _ (names : Bool) (at : ℕ) (s rules : List ℕ) (place : ℕ) (tokens brackets store : List ℕ) (fill : ℕ)
-    (room : RulesRoom s at rules place tokens brackets store fill) {p : Property} (ep : p ≡ property_answer s) {z : List ℕ} (ez : z ≡ sets store fill (name_text (ident_of s))) where
+    (room : RulesRoom s at rules place tokens brackets store fill) {p : Result Property NoProperty} (ep : p ≡ property_answer s) {z : List ℕ} (ez : z ≡ sets store fill (name_text (ident_of s))) where
   -- the store keeps its length, and so the room
   z-long : length z ≡ length store
   z-long = ap length ez ∙ length-sets store fill (name_text (ident_of s))
@@ -485,11 +491,11 @@ module _ (names : Bool) (at : ℕ) (s rules : List ℕ) (place : ℕ) (tokens br
       }
 
   -- a name and ':'
-  module _ {v n : ℕ} (ea : p ≡ property.Name v n) where
+  module _ {v n : ℕ} (ea : p ≡ Ok (record { value = v; name = n })) where
     -- the answer has the property's value place and the length of its name
     word : Headword (property_of s) v n
     unfolding property_answer
-    word = headword (property_of s) (length (name_text (ident_of s))) v n (sym ea ∙ ep)
+    word = headword (property_of s) (length (name_text (ident_of s))) _ (sym ea ∙ ep)
 
     -- the property takes no more than the text, and its name is the one that was written
     of_word : Headed s v word.name
@@ -515,16 +521,16 @@ module _ (names : Bool) (at : ℕ) (s rules : List ℕ) (place : ℕ) (tokens br
         rw z-is (wiped-over store fill (used_by s).bytes word.name (omega (arith, ap (λ (u : Used). u.bytes) (used-is s v word.name word.reads))))
 
     -- what is left of the store with the name is what is left of the store without it
-    pub declared-left : {l : Leaves DeclarationAnswer} → l ≡ declaration_left names at s rules place tokens brackets z fill → l ≡ declaration_left names at s rules place tokens brackets store fill
+    pub declared-left : {l : Leaves (Option DeclarationRead)} → l ≡ declaration_left names at s rules place tokens brackets z fill → l ≡ declaration_left names at s rules place tokens brackets store fill
     unfolding declaration_left leaves
     declared-left e = e ∙ rw wiped-name
 
   -- no property reads: there is no declaration, and the name is wiped
-  module _ {n : ℕ} (ea : p ≡ property.NoName n) where
+  module _ {n : ℕ} (ea : p ≡ Err (record { name = n })) where
     -- the property does not read, and n is how much of a name was written
     lacks : (property_of s ≡ err) × (n ≡ length (name_text (ident_of s)))
     unfolding property_answer
-    lacks = headless (property_of s) (length (name_text (ident_of s))) n (sym ea ∙ ep)
+    lacks = headless (property_of s) (length (name_text (ident_of s))) _ (sym ea ∙ ep)
 
     -- what is used is that name alone, and no token
     used-name : used_by s ≡ record { tokens = 0; bytes = n }
@@ -538,7 +544,7 @@ module _ (names : Bool) (at : ℕ) (s rules : List ℕ) (place : ℕ) (tokens br
 
     -- the return where no property reads: no declaration, and the name is wiped
     pub unnamed-left : {z' : List ℕ} → z' ≡ wiped fill n z
-        → record { answer = answer.NoDeclaration; rules = rules; tokens = tokens; brackets = brackets; store = z' } ≡ declaration_left names at s rules place tokens brackets store fill
+        → record { answer = None; rules = rules; tokens = tokens; brackets = brackets; store = z' } ≡ declaration_left names at s rules place tokens brackets store fill
     unnamed-left {z'} e =
         left-err names at s rules place tokens brackets store fill _ used-name unread tokens brackets z' (sym (wiped-none 0 tokens)) (sym (wiped-none 0 brackets))
         (e ∙ rw ez (wiped-over store fill n (name_text (ident_of s)) (omega (arith, lacks.1))))

@@ -10,10 +10,7 @@ use Rattle.syntax.specs.Layout.{colour_number}
 use Rattle.values.specs.Words.{Found, found, missing, on_found}
 use Rattle.values.specs.Colour.{rgb, without_plus, parse_hex}
 use Rattle.values.specs.ColourAnswer.{number_answer, colour_answer}
-use Rattle.values.specs.declared.colours.ColourAnswer as answer
-use Rattle.values.specs.declared.colours.ColourAnswer.TheVariants.{NoColour}
-use Rattle.values.specs.declared.colours.NumberAnswer.{NumberAnswer}
-use Rattle.values.specs.declared.colours.NumberAnswer.TheVariants.{Number, NoNumber}
+use Rattle.std.specs.Prelude.{Option, Some, None}
 use Rattle.values.proofs.ColourLaws.{no-colour, a-colour, number-found, number-missing, read-le}
 use Rattle.values.proofs.WordLaws.{found-holds}
 use Rattle.declarations.specs.Attribute.{pairs, faulty_colour}
@@ -59,27 +56,27 @@ module _ (t : List ℕ) where
 -- ---- `pair_colour`
 
 -- a number that is read from a pair is a byte
-pub pair-le : (s : List ℕ) (x : NumberAnswer) (v : ℕ) → x ≡ number_answer (parse_hex 255 s) → x ≡ Number v → v ≤ 255
+pub pair-le : (s : List ℕ) (x : Option ℕ) (v : ℕ) → x ≡ number_answer (parse_hex 255 s) → x ≡ Some v → v ≤ 255
 unfolding parse_hex
 pair-le s x v e h = read-le is_hex_digit 16 hex_digit 255 (without_plus s) v (number-found x _ e v h)
 
 module _ (t : List ℕ) where
   -- the returns: the first pair is no number
-  pub first-none : (x : NumberAnswer) → x ≡ number_answer (parse_hex 255 (take 2 t)) → x ≡ NoNumber → NoColour ≡ colour_answer (pairs t)
+  pub first-none : (x : Option ℕ) → x ≡ number_answer (parse_hex 255 (take 2 t)) → x ≡ None → None ≡ colour_answer (pairs t)
   first-none x ex h = no-colour _ (sym (first-missing t (number-missing x _ ex h)))
 
   -- the answer where the second pair is no number
-  pub second_none : (y : NumberAnswer) → y ≡ number_answer (parse_hex 255 (take 2 (drop 2 t))) → y ≡ NoNumber → NoColour ≡ colour_answer (pairs t)
+  pub second_none : (y : Option ℕ) → y ≡ number_answer (parse_hex 255 (take 2 (drop 2 t))) → y ≡ None → None ≡ colour_answer (pairs t)
   second_none y ey h = no-colour _ (sym (second-missing t (number-missing y _ ey h)))
 
   -- the answer where the third pair is no number
-  pub third-none : (z : NumberAnswer) → z ≡ number_answer (parse_hex 255 (take 2 (drop 4 t))) → z ≡ NoNumber → NoColour ≡ colour_answer (pairs t)
+  pub third-none : (z : Option ℕ) → z ≡ number_answer (parse_hex 255 (take 2 (drop 4 t))) → z ≡ None → None ≡ colour_answer (pairs t)
   third-none z ez h = no-colour _ (sym (third-missing t (number-missing z _ ez h)))
 
   -- the answer where all three are
-  pub three-pairs : (x : NumberAnswer) → x ≡ number_answer (parse_hex 255 (take 2 t)) → (r : ℕ) → x ≡ Number r
-      → (y : NumberAnswer) → y ≡ number_answer (parse_hex 255 (take 2 (drop 2 t))) → (g : ℕ) → y ≡ Number g
-      → (z : NumberAnswer) → z ≡ number_answer (parse_hex 255 (take 2 (drop 4 t))) → (b : ℕ) → z ≡ Number b
-      → (w : ℕ) → w ≡ colour_number (rgb r g b) → answer.TheVariants.Colour w ≡ colour_answer (pairs t)
+  pub three-pairs : (x : Option ℕ) → x ≡ number_answer (parse_hex 255 (take 2 t)) → (r : ℕ) → x ≡ Some r
+      → (y : Option ℕ) → y ≡ number_answer (parse_hex 255 (take 2 (drop 2 t))) → (g : ℕ) → y ≡ Some g
+      → (z : Option ℕ) → z ≡ number_answer (parse_hex 255 (take 2 (drop 4 t))) → (b : ℕ) → z ≡ Some b
+      → (w : ℕ) → w ≡ colour_number (rgb r g b) → Some w ≡ colour_answer (pairs t)
   three-pairs x ex r hx y ey g hy z ez b hz w ew =
       a-colour _ _ w ew (all_found t r g b (number-found x _ ex r hx) (number-found y _ ey g hy) (number-found z _ ez b hz))

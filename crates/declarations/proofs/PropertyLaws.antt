@@ -11,15 +11,14 @@ use Rattle.combinators.specs.Parsed.{Parsed, ok, err, on_parsed}
 use Rattle.combinators.proofs.Lists.{byte-there}
 use Rattle.lexer.specs.Name.{ident_of, name_answer, name_text}
 use Rattle.lexer.specs.Whitespace.{skip_whitespace}
-use Rattle.lexer.specs.declared.names.Name.{Name}
-use Rattle.lexer.specs.declared.names.Name.TheVariants as code
+use Rattle.std.specs.Prelude.{Option, Some, None, Ok, Err}
+use Rattle.lexer.specs.declared.Written.{Written}
 use Rattle.lexer.proofs.Bounds.{Fits, bound-two, bound-short}
 use Rattle.lexer.proofs.Comments.{skip-from-le}
 use Rattle.lexer.proofs.IdentBounds.{ident-fits}
 use Rattle.lexer.proofs.NameAnswers.{NameRead, named-from, unnamed-from}
 use Rattle.declarations.specs.Rules.{colon_behind, property_of}
 use Rattle.declarations.specs.Leaving.{property_answer}
-use Rattle.declarations.specs.declared.rules.Property.TheVariants as property
 
 -- ---- the meaning, where there is a name
 module _ (s : List ℕ) (n : ℕ) (name : List ℕ) (e : ident_of s ≡ ok n name) where
@@ -40,23 +39,23 @@ no_name s e = rw e
 
 -- ---- the answer
 -- a property that is read is answered with the place of its value and the length of its name
-answer-hit : (s : List ℕ) (v : ℕ) (name : List ℕ) → property_of s ≡ ok v name → property.Name v (length name) ≡ property_answer s
+answer-hit : (s : List ℕ) (v : ℕ) (name : List ℕ) → property_of s ≡ ok v name → Ok (record { value = v; name = length name }) ≡ property_answer s
 unfolding property_answer on_parsed
 answer-hit s v name e = rw e
 
 -- where no property reads, the answer has the length of the name that was written
-answer-miss : (s : List ℕ) → property_of s ≡ err → (m : ℕ) → m ≡ length (name_text (ident_of s)) → property.NoName m ≡ property_answer s
+answer-miss : (s : List ℕ) → property_of s ≡ err → (m : ℕ) → m ≡ length (name_text (ident_of s)) → Err (record { name = m }) ≡ property_answer s
 unfolding property_answer on_parsed
 answer-miss s e m em = rw (e, em)
 
 -- ---- the returns of `parse_property`
-module _ (s : List ℕ) {x : Name} (ex : x ≡ name_answer (ident_of s)) where
+module _ (s : List ℕ) {x : Option Written} (ex : x ≡ name_answer (ident_of s)) where
   -- the return where no name reads: nothing was written
-  pub property-none : x ≡ code.NoName → property.NoName 0 ≡ property_answer s
+  pub property-none : x ≡ None → Err (record { name = 0 }) ≡ property_answer s
   unfolding name_text
   property-none h = let e = unnamed-from (ident_of s) (sym h ∙ ex) in answer-miss s (no_name s e) 0 (rw e)
 
-  module _ {n m : ℕ} (h : x ≡ code.Text n m) where
+  module _ {n m : ℕ} (h : x ≡ Some (record { taken = n; length = m })) where
     -- the answer has the bytes that the name takes and the length of its text
     found : NameRead (ident_of s) n m
     found = named-from (ident_of s) n m (sym h ∙ ex)
@@ -74,7 +73,7 @@ module _ (s : List ℕ) {x : Name} (ex : x ≡ name_answer (ident_of s)) where
       -- and a test for ':'
       module _ {t : Bool} (et : t ≡ is (get_or s c 0) ascii.colon) where
         -- the return where no ':' follows the name
-        pub property-miss : t ≡ false → property.NoName m ≡ property_answer s
+        pub property-miss : t ≡ false → Err (record { name = m }) ≡ property_answer s
         unfolding name_text
         property-miss f =
             answer-miss s (colon-missing s n found.name found.reads c ec (sym et ∙ f)) m
@@ -85,7 +84,7 @@ module _ (s : List ℕ) {x : Name} (ex : x ≡ name_answer (ident_of s)) where
         colon-before f = byte-there s c ascii.colon (omega arith) (sym et ∙ f)
 
         -- the return where ':' follows: the value starts behind it and the white space there
-        pub property-hit : t ≡ true → {v : ℕ} → v ≡ c + 1 + skip_whitespace (drop (c + 1) s) → property.Name v m ≡ property_answer s
+        pub property-hit : t ≡ true → {v : ℕ} → v ≡ c + 1 + skip_whitespace (drop (c + 1) s) → Ok (record { value = v; name = m }) ≡ property_answer s
         property-hit f {v} ev = rw (ev, found.long) (answer-hit s _ found.name (colon-there s n found.name found.reads c ec (sym et ∙ f)))
 
 -- ---- what a property takes: its name, which is shorter, and ':' at least

@@ -2,11 +2,11 @@
 use mathlib.Core.Path.{◌≡◌, refl, ap, ◌∙◌}
 use mathlib.Core.Bool.{Bool, true, false}
 use mathlib.Core.List.{List}
-use Prim.Native.Nat.{ℕ, ◌+◌, ◌-◌, ◌≤◌, ◌<◌}
+use Prim.Native.Nat.{ℕ, ◌+◌, ◌≤◌}
 use native.Mathlib.Omega.{arith}
 use lib.ListN.{length, drop, length-take}
 use lib.Seq.{sets}
-use Rattle.combinators.specs.Choice.{pick, is}
+use Rattle.combinators.specs.Choice.{pick}
 use Rattle.combinators.specs.Store.{wiped}
 use Rattle.combinators.specs.Part.{part}
 use Rattle.lexer.specs.Token.{Token, text_of}
@@ -15,33 +15,16 @@ use Rattle.syntax.specs.Layout.{flag, decl_text}
 use Rattle.syntax.specs.Stream.{texts_many}
 use Rattle.values.specs.Property.{decl_of}
 use Rattle.values.specs.View.{tokens_at}
-use Rattle.values.specs.DeclAnswer.{decl_of_numbers, decl_answer}
+use Rattle.values.specs.DeclAnswer.{decl_answer, text_length}
 use Rattle.values.specs.declared.properties.Decl as declared
 use Rattle.values.proofs.DeclLaws.{Textless, decl-text}
 use Rattle.declarations.specs.DeclRow.{named_decl, named_by, shift, kept_text, Keeping, row_by, Narrow}
 use Rattle.declarations.specs.Leaving.{PutRoom, decl_said, Put}
 
--- ---- `unmarked`: the count of tokens without the two of a mark
-module _ (count : ℕ) where
-  -- of fewer than two tokens with a mark none is left
-  pub unmarked-few : (b : Bool) → b ≡ true → count < 2 → 0 ≡ pick b (count - 2) count
-  unfolding pick
-  unmarked-few b e h = let z : 0 ≡ count - 2 = omega arith in rw e z
-
-  -- of two tokens or more with a mark, all but two are left
-  pub unmarked-two : (b : Bool) → b ≡ true → count - 2 ≡ pick b (count - 2) count
-  unfolding pick
-  unmarked-two b e = rw e
-
-  -- without a mark all tokens are left
-  pub unmarked-all : (b : Bool) → b ≡ false → count ≡ pick b (count - 2) count
-  unfolding pick
-  unmarked-all b e = rw e
-
 -- ---- a declaration as the code has it, without its name if asked
 -- leaving out the name in the code's answer is the answer for the declaration without its name
 pub named-answer : (names : Bool) (d : Decl) → named_by names (decl_answer d) ≡ decl_answer (named_decl names d)
-unfolding named_by decl_answer named_decl decl_of_numbers pick is
+unfolding named_by decl_answer named_decl pick
 named-answer names (color c) = refl
 named-answer names (background_color c) = refl
 named-answer names (height z) = refl
@@ -68,8 +51,8 @@ Bounded n t (content b) = length b ≤ t
 Bounded n t (unknown b) = length b ≤ n
 
 -- is among n bytes of name and t bytes behind them
-pub text-among : (names : Bool) (n t : ℕ) (d : Decl) → Bounded n t d → shift (decl_answer (named_decl names d)) n + (decl_answer (named_decl names d)).text ≤ n + t
-unfolding shift decl_answer named_decl decl_of_numbers Bounded pick is
+pub text-among : (names : Bool) (n t : ℕ) (d : Decl) → Bounded n t d → shift (decl_answer (named_decl names d)) n + text_length (decl_answer (named_decl names d)) ≤ n + t
+unfolding shift decl_answer named_decl text_length Bounded pick
 text-among names n t (color c) b = omega arith
 text-among names n t (background_color c) b = omega arith
 text-among names n t (height z) b = omega arith
@@ -121,7 +104,7 @@ module _ (names important : Bool) {start : ℕ} {tokens : List ℕ} {count : ℕ
   bounded = decl-bounded (part store f n) (tokens_at tokens store count) n t (part-le store f n) room.texts
 
   -- the text to be kept lies among the n bytes of name and the t bytes behind them
-  among : shift y n + y.text ≤ n + t
+  among : shift y n + text_length y ≤ n + t
   unfolding decl_said
   among = rw said-is (text-among names n t said bounded)
 
@@ -135,10 +118,10 @@ module _ (names important : Bool) {start : ℕ} {tokens : List ℕ} {count : ℕ
 
   -- with the text moved down and the row written, the declaration is put down
   pub put-done : {rules rules' store' : List ℕ} {place : ℕ} → store' ≡ sets (wiped f (n + t) store) f (kept_text y store f n)
-      → rules' ≡ sets rules place (row_by (flag important) start f y) → Put names important start tokens count rules place store f n t y.text rules' store'
+      → rules' ≡ sets rules place (row_by (flag important) start f y) → Put names important start tokens count rules place store f n t (text_length y) rules' store'
   put-done {rules} {rules'} {store'} {place} es er =
       record {
-        kept = ap (λ (d : declared.Decl). d.text) said-is;
+        kept = ap text_length said-is;
         row = er ∙ ap (λ d. sets rules place (row_by (flag important) start f d)) said-is;
         left = es ∙ ap (λ d. sets (wiped f (n + t) store) f (kept_text d store f n)) said-is;
       }

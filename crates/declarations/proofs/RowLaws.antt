@@ -1,39 +1,18 @@
 -- Declarations written to rows, and their texts kept.
 use mathlib.Core.Path.{◌≡◌, refl, sym, ap, ◌∙◌}
-use mathlib.Core.Bool.{Bool, true, false}
 use mathlib.Core.List.{List, [], ◌∷◌}
 use Prim.Native.Nat.{ℕ, ◌+◌, ◌-◌}
 use native.Mathlib.Omega.{arith}
 use lib.ListN.{length, drop, replicate, length-replicate, length-drop}
 use lib.Seq.{sets, length-take-le}
-use Rattle.combinators.specs.Choice.{pick}
 use Rattle.combinators.specs.Store.{emits, wiped}
 use Rattle.combinators.specs.Part.{part}
 use Rattle.combinators.proofs.Emitted.{then, sets-emitted}
-use Rattle.combinators.proofs.Rules.{is-yes, is-no}
 use Rattle.combinators.proofs.Wiped.{sets_over, wiped-apart, wiped-add}
-use Rattle.syntax.specs.Layout.{unknown_kind}
-use Rattle.values.specs.DeclAnswer.{decl_of_numbers}
+use Rattle.values.specs.DeclAnswer.{text_length}
 use Rattle.values.specs.declared.properties.Decl as declared
 use Rattle.declarations.specs.Moved.{Downward}
-use Rattle.declarations.specs.DeclRow.{named_by, shift, kept_text, Keeping, row_value, row_by}
-
--- ---- `named`: a declaration with the name of its property, or without
-module _ (d : declared.Decl) (names : Bool) where
-  -- where names are kept an unknown declaration keeps its name
-  pub named-kept : d.kind ≡ unknown_kind → names ≡ true → d ≡ named_by names d
-  unfolding named_by decl_of_numbers pick
-  named-kept h e = rw (is-yes _ _ h, e)
-
-  -- where they are not it has none
-  pub named-dropped : d.kind ≡ unknown_kind → names ≡ false → record { kind = d.kind; value = d.value; text = 0 } ≡ named_by names d
-  unfolding named_by decl_of_numbers pick
-  named-dropped h e = rw (is-yes _ _ h, e)
-
-  -- another declaration has no name
-  pub named_other : ¬ (d.kind ≡ unknown_kind) → d ≡ named_by names d
-  unfolding named_by decl_of_numbers pick
-  named_other h = rw (is-no _ _ h)
+use Rattle.declarations.specs.DeclRow.{shift, kept_text, Keeping, kind_of, row_value, row_by}
 
 -- ---- `keep_text`: the text of a declaration moved down to the fill, and zeros behind it
 module _ (d : declared.Decl) (store : List ℕ) (f n t : ℕ) (k : Keeping d store f n t) where
@@ -41,21 +20,21 @@ module _ (d : declared.Decl) (store : List ℕ) (f n t : ℕ) (k : Keeping d sto
   from = f + shift d n
 
   -- the text is moved down, within the store
-  pub keep-down : (m : ℕ) → m ≡ shift d n → Downward store (f + m) f d.text
+  pub keep-down : (m : ℕ) → m ≡ shift d n → Downward store (f + m) f (text_length d)
   keep-down m e = record { down = omega arith; inside = omega (arith, k.inside, k.among) }
 
   -- the part that is kept has all bytes of the declaration's text
-  length-kept : length (part store from d.text) ≡ d.text
+  length-kept : length (part store from (text_length d)) ≡ (text_length d)
   unfolding part
-  length-kept = length-take-le d.text (drop from store) (omega (arith, length-drop from store, k.inside, k.among))
+  length-kept = length-take-le (text_length d) (drop from store) (omega (arith, length-drop from store, k.inside, k.among))
 
   -- so the text is left, and zeros behind it
-  pub kept-left : (m : ℕ) → m ≡ shift d n → (y z : List ℕ) → y ≡ sets store f (part store (f + m) d.text) → z ≡ wiped (f + d.text) (n + t - d.text) y
+  pub kept-left : (m : ℕ) → m ≡ shift d n → (y z : List ℕ) → y ≡ sets store f (part store (f + m) (text_length d)) → z ≡ wiped (f + (text_length d)) (n + t - (text_length d)) y
       → z ≡ sets (wiped f (n + t) store) f (kept_text d store f n)
   unfolding kept_text
   kept-left m em y z ey ez =
-      let x = part store from d.text in
-      let N = d.text in
+      let x = part store from (text_length d) in
+      let N = text_length d in
       let M = n + t - N in
       let l = length-kept in
       let e : n + t ≡ N + M = omega (arith, k.among) in
@@ -73,11 +52,11 @@ module _ (d : declared.Decl) (store : List ℕ) (f n t : ℕ) (k : Keeping d sto
 module _ (d : declared.Decl) (l : List ℕ) (at i s f : ℕ) (v : ℕ) (ev : v ≡ row_value f d) (m : ℕ) (em : m ≡ i) where
   -- five numbers emitted in turn, kind, mark, start, value and length of text, leave the declaration's row
   pub row-left : (l₁ l₂ l₃ l₄ l₅ : List ℕ) (f₁ f₂ f₃ f₄ f₅ : ℕ)
-      → record { bytes = l₁; fill = f₁ } ≡ emits (record { bytes = l; fill = at }) (d.kind ∷ [])
+      → record { bytes = l₁; fill = f₁ } ≡ emits (record { bytes = l; fill = at }) (kind_of d ∷ [])
       → record { bytes = l₂; fill = f₂ } ≡ emits (record { bytes = l₁; fill = f₁ }) (m ∷ [])
       → record { bytes = l₃; fill = f₃ } ≡ emits (record { bytes = l₂; fill = f₂ }) (s ∷ [])
       → record { bytes = l₄; fill = f₄ } ≡ emits (record { bytes = l₃; fill = f₃ }) (v ∷ [])
-      → record { bytes = l₅; fill = f₅ } ≡ emits (record { bytes = l₄; fill = f₄ }) (d.text ∷ [])
+      → record { bytes = l₅; fill = f₅ } ≡ emits (record { bytes = l₄; fill = f₄ }) ((text_length d) ∷ [])
       → l₅ ≡ sets l at (row_by i s f d)
   unfolding row_by
   row-left l₁ l₂ l₃ l₄ l₅ f₁ f₂ f₃ f₄ f₅ a b c e g =

@@ -21,8 +21,8 @@ use Rattle.values.specs.Layout.{Room}
 use Rattle.values.proofs.Turns.{more-turns}
 use Rattle.declarations.specs.Rules.{declaration_of, Rules, starts_at, more_rules, declarations_of}
 use Rattle.declarations.specs.Leaving.{kept, kept_of, Used, unused, used_by, used_then, text_kept, used_more, used_rules, Leaves, leaves, declaration_answer, declaration_left, rules_answer, rules_of, more_left, rules_left, RulesRoom, MoreRoom, MoreRead}
-use Rattle.declarations.specs.declared.rules.DeclarationAnswer.{DeclarationAnswer}
-use Rattle.declarations.specs.declared.rules.DeclarationAnswer.TheVariants as answer
+use Rattle.std.specs.Prelude.{Option, Some, None}
+use Rattle.declarations.specs.declared.rules.DeclarationRead.{DeclarationRead}
 use Rattle.declarations.specs.declared.rules.RulesRead.{RulesRead}
 use Rattle.declarations.proofs.Declaring.{Takes, takes}
 use Rattle.declarations.proofs.RuleLaws.{leaves-then, more-next, more-none, more-stop}
@@ -121,24 +121,26 @@ record Declared (names : Bool) (p : Parsed Declaration) (n k : ℕ) : Type 0 whe
   keeps : k ≡ text_kept names declaration
 
 -- an answer with a declaration comes of one that reads, and has its bytes and the length of its text
-declared-by : (names : Bool) (p : Parsed Declaration) (n k : ℕ) → answer.Declaration n k ≡ declaration_answer names p → Declared names p n k
+declared-by : (names : Bool) (p : Parsed Declaration) (n : DeclarationRead) → Some n ≡ declaration_answer names p → Declared names p n.taken n.text
 unfolding declaration_answer on_parsed
-declared-by names (ok m d) n k e = let q : n ≡ m = cc in record { declaration = d; reads = rw q; keeps = cc }
-declared-by names err n k e = absurd (let z : ◌≡◌ {A = ℕ} 0 1 = cc in omega arith)
+declared-by names (ok m d) n e =
+    let q : n ≡ record { taken = m; text = text_kept names d } = cc in
+    record { declaration = d; reads = ap (λ (r : DeclarationRead). ok r.taken d) (sym q); keeps = ap (λ (r : DeclarationRead). r.text) q }
+declared-by names err n e = absurd (cc)
 
 -- an answer without one comes of a declaration that does not read
-undeclared-by : (names : Bool) (p : Parsed Declaration) → answer.NoDeclaration ≡ declaration_answer names p → p ≡ err
+undeclared-by : (names : Bool) (p : Parsed Declaration) → None ≡ declaration_answer names p → p ≡ err
 unfolding declaration_answer on_parsed
-undeclared-by names (ok m d) e = absurd (let z : ◌≡◌ {A = ℕ} 0 1 = cc in omega arith)
+undeclared-by names (ok m d) e = absurd (cc)
 undeclared-by names err e = refl
 
 -- what `parse_declaration` left, by what it read
-module _ (names : Bool) (at : ℕ) (s rules : List ℕ) (place : ℕ) (tokens brackets store : List ℕ) (fill : ℕ) {a : DeclarationAnswer} {y x b z : List ℕ}
+module _ (names : Bool) (at : ℕ) (s rules : List ℕ) (place : ℕ) (tokens brackets store : List ℕ) (fill : ℕ) {a : Option DeclarationRead} {y x b z : List ℕ}
     (e : record { answer = a; rules = y; tokens = x; brackets = b; store = z } ≡ declaration_left names at s rules place tokens brackets store fill) where
   -- the answer is that of the declaration at the start of the text
   pub answer-is : a ≡ declaration_answer names (declaration_of s)
   unfolding declaration_left leaves
-  answer-is = ap (λ (l : Leaves DeclarationAnswer). l.answer) e
+  answer-is = ap (λ (l : Leaves (Option DeclarationRead)). l.answer) e
 
   -- where no declaration reads, what was used is zero again
   pub none_is : declaration_of s ≡ err → {B : Type 0} (r : B)
@@ -147,7 +149,7 @@ module _ (names : Bool) (at : ℕ) (s rules : List ℕ) (place : ℕ) (tokens br
   unfolding declaration_left leaves kept_of on_parsed declaration_rows declaration_texts rows_many texts_many
   none_is h {B} r =
       let q : record { answer = a; rules = y; tokens = x; brackets = b; store = z } ≡ leaves (declaration_answer names err) [] (used_by s) rules place tokens brackets store fill = e ∙ rw h in
-      ap {B = Leaves B} (λ (l : Leaves DeclarationAnswer). record { answer = r; rules = l.rules; tokens = l.tokens; brackets = l.brackets; store = l.store }) q
+      ap {B = Leaves B} (λ (l : Leaves (Option DeclarationRead)). record { answer = r; rules = l.rules; tokens = l.tokens; brackets = l.brackets; store = l.store }) q
 
   -- where one reads, its row and its text are left
   pub one-is : (n : ℕ) (d : Declaration) → declaration_of s ≡ ok n d
@@ -157,7 +159,7 @@ module _ (names : Bool) (at : ℕ) (s rules : List ℕ) (place : ℕ) (tokens br
       let q : record { answer = a; rules = y; tokens = x; brackets = b; store = z }
       ≡ leaves (declaration_answer names (ok n d)) (kept names at d ∷ []) (used_by s) rules place tokens brackets store fill = e ∙ rw h
       in
-      ap (λ (l : Leaves DeclarationAnswer). record { answer = a; rules = l.rules; tokens = l.tokens; brackets = l.brackets; store = l.store }) q
+      ap (λ (l : Leaves (Option DeclarationRead)). record { answer = a; rules = l.rules; tokens = l.tokens; brackets = l.brackets; store = l.store }) q
 
 -- ---- a turn of `more_rules`: a ';' and a declaration behind it, or the end
 module _ {names : Bool} {at : ℕ} {s : List ℕ} {from : ℕ} {rules₀ : List ℕ} {place : ℕ} {tokens₀ brackets₀ store₀ : List ℕ} {fill : ℕ}
@@ -243,7 +245,7 @@ module _ {names : Bool} {at : ℕ} {s : List ℕ} {from : ℕ} {rules₀ : List 
           }
 
       -- what `parse_declaration` left: the declaration, written behind those before
-      module _ {a : DeclarationAnswer} {y x b z : List ℕ}
+      module _ {a : Option DeclarationRead} {y x b z : List ℕ}
           (e : record { answer = a; rules = y; tokens = x; brackets = b; store = z }
           ≡ declaration_left names (at + w) lent rules (place + declaration_width * count) tokens brackets store (fill + text)) where
         -- what is left is that of the text from w on
@@ -256,7 +258,7 @@ module _ {names : Bool} {at : ℕ} {s : List ℕ} {from : ℕ} {rules₀ : List 
         said = answer-is names (at + w) (drop w s) rules (place + declaration_width * count) tokens brackets store (fill + text) left_is
 
         -- where no declaration reads behind a semicolon the reading ends with what was read
-        pub ends-none : a ≡ answer.NoDeclaration → {r : RulesRead} → r ≡ here → Ends r y x b z
+        pub ends-none : a ≡ None → {r : RulesRead} → r ≡ here → Ends r y x b z
         ends-none ea {r} er =
             let n = undeclared-by names (declaration_of (drop w s)) (sym ea ∙ said) in
             let p = more-none names s taken w ew (sym et ∙ f) left_over.0 n in
@@ -269,10 +271,10 @@ module _ {names : Bool} {at : ℕ} {s : List ℕ} {from : ℕ} {rules₀ : List 
             )
 
         -- a declaration was read: it is counted, and the loop goes on behind it
-        module _ {n k : ℕ} (ea : a ≡ answer.Declaration n k) where
+        module _ {n k : ℕ} (ea : a ≡ Some (record { taken = n; text = k })) where
           -- the declaration at w reads, with the bytes and the length of text that are answered
           next : Declared names (declaration_of (drop w s)) n k
-          next = declared-by names (declaration_of (drop w s)) n k (sym ea ∙ said)
+          next = declared-by names (declaration_of (drop w s)) _ (sym ea ∙ said)
 
           -- what it takes and keeps is within its bounds
           took : Takes names (drop w s) n next.declaration
@@ -306,7 +308,7 @@ module _ {names : Bool} {at : ℕ} {s : List ℕ} {from : ℕ} {rules₀ : List 
                 enough = omega (arith, c.enough);
                 same =
                     rw next.keeps
-                    (ap (λ (r : Leaves DeclarationAnswer). leaves_from names at place fill (count + 1) (text + text_kept names d) m u r.rules r.tokens r.brackets r.store) i
+                    (ap (λ (r : Leaves (Option DeclarationRead)). leaves_from names at place fill (count + 1) (text + text_kept names d) m u r.rules r.tokens r.brackets r.store) i
                     ∙ from_next names at place fill count text rules tokens brackets store a w d (used_by (drop w s)) u m took.used
                     ∙ ahead-is _ _ (ap (λ j. more_rules j (drop taken s) taken) (sym q) ∙ p.0) (ap (λ j. used_more names j (drop taken s)) (sym q) ∙ p.1));
                 within = next-within;
@@ -334,10 +336,10 @@ module _ (names : Bool) (s : List ℕ) where
   rules-next n d e = (rw e, rw e)
 
 module _ (names : Bool) (at : ℕ) (s rules : List ℕ) (place : ℕ) (tokens brackets store : List ℕ) (fill : ℕ) (o : RulesRoom s at rules place tokens brackets store fill)
-    {a : DeclarationAnswer} {y x b z : List ℕ}
+    {a : Option DeclarationRead} {y x b z : List ℕ}
     (e : record { answer = a; rules = y; tokens = x; brackets = b; store = z } ≡ declaration_left names at s rules place tokens brackets store fill) where
   -- without a first declaration nothing is left
-  pub all_none : a ≡ answer.NoDeclaration → {r : RulesRead} → r ≡ record { taken = 0; count = 0; text = 0 }
+  pub all_none : a ≡ None → {r : RulesRead} → r ≡ record { taken = 0; count = 0; text = 0 }
       → record { answer = r; rules = y; tokens = x; brackets = b; store = z } ≡ rules_left names at s rules place tokens brackets store fill
   unfolding rules_left leaves rules_answer rules_of declaration_rows declaration_texts rows_many texts_many
   all_none ea {r} er =
@@ -346,10 +348,10 @@ module _ (names : Bool) (at : ℕ) (s rules : List ℕ) (place : ℕ) (tokens br
       none_is names at s rules place tokens brackets store fill e n r ∙ rw (er, p.0, p.1)
 
   -- the first declaration was read: others may follow behind a ';'
-  module _ {n k : ℕ} (ea : a ≡ answer.Declaration n k) where
+  module _ {n k : ℕ} (ea : a ≡ Some (record { taken = n; text = k })) where
     -- the first declaration reads, with the bytes and the length of text that are answered
     one-said : Declared names (declaration_of s) n k
-    one-said = declared-by names (declaration_of s) n k (sym ea ∙ answer-is names at s rules place tokens brackets store fill e)
+    one-said = declared-by names (declaration_of s) _ (sym ea ∙ answer-is names at s rules place tokens brackets store fill e)
 
     abbrev d : Declaration
     d = one-said.declaration
@@ -406,7 +408,7 @@ module _ (names : Bool) (at : ℕ) (s rules : List ℕ) (place : ℕ) (tokens br
       abbrev v : Used
       v = used_more names (length s) (drop n s)
 
-      abbrev one : Leaves DeclarationAnswer
+      abbrev one : Leaves (Option DeclarationRead)
       one = leaves a (kept names at d ∷ []) (used_by s) rules place tokens brackets store fill
 
       -- from the stores that the first one left
@@ -415,7 +417,7 @@ module _ (names : Bool) (at : ℕ) (s rules : List ℕ) (place : ℕ) (tokens br
       unfolding more_left
       more_left_lem =
           em
-          ∙ ap (λ (l : Leaves DeclarationAnswer). leaves (rules_answer more.taken behind) behind v l.rules (place + declaration_width) l.tokens l.brackets l.store (fill + k))
+          ∙ ap (λ (l : Leaves (Option DeclarationRead)). leaves (rules_answer more.taken behind) behind v l.rules (place + declaration_width) l.tokens l.brackets l.store (fill + k))
           (one-is names at s rules place tokens brackets store fill e n d one-said.reads)
           ∙ ap (λ j. leaves (rules_answer more.taken behind) behind v one.rules (place + declaration_width) one.tokens one.brackets one.store (fill + j)) one-said.keeps
 

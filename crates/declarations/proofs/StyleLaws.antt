@@ -21,8 +21,7 @@ use Rattle.syntax.proofs.Back.{flag-back, row-numbers-back, row-numbers-rest}
 use Rattle.syntax.proofs.RowSizes.{length-style}
 use Rattle.declarations.specs.Styles.{one, style_of, hides, hides_overflow, zero_height, any_decl, own_styles, first_zero, styles_of}
 use Rattle.declarations.specs.StyleNumbers.{no_value, added_style, style_for, own_numbers, declared_value, own_numbers_at, row_of_own, own_row, has_value, zero_row, hidden_row, own_rows, any_row, first_zero_row, style_numbers, style_count}
-use Rattle.declarations.specs.declared.styles.OwnStyle.{OwnStyle}
-use Rattle.declarations.specs.declared.styles.OwnStyle.TheVariants.{Style, NoStyle}
+use Rattle.std.specs.Prelude.{Option, Some, None}
 
 -- ---- cases
 
@@ -112,12 +111,12 @@ module _ (store : List ℕ) where
   -- ---- one declaration
 
   -- the styles that the code's answer says
-  unfoldable pub said_by : OwnStyle → List StyleDecl
-  said_by (Style x) = style_in store x ∷ []
-  said_by NoStyle = []
+  unfoldable pub said_by : Option StyleNumbers → List StyleDecl
+  said_by (Some x) = style_in store x ∷ []
+  said_by None = []
 
   -- that a display asks for
-  display-said : (i z : Bool) (s : ℕ) → said_by (pick z (style_for display_slot i (no_value s)) NoStyle) ≡ style_of i s (display z)
+  display-said : (i z : Bool) (s : ℕ) → said_by (pick z (style_for display_slot i (no_value s)) None) ≡ style_of i s (display z)
   unfolding said_by style_in value_in layout.style_of style_of one pick is
   display-said i true s = refl
   display-said i false s = refl
@@ -136,10 +135,10 @@ module _ (store : List ℕ) where
   declared-said t = own-said _ _ _
 
   -- the row of what a declaration asks for reads as that style, or none
-  reads-said : (o : OwnStyle) → Reads (row_of_own o) (said_by o)
+  reads-said : (o : Option StyleNumbers) → Reads (row_of_own o) (said_by o)
   unfolding row_of_own said_by
-  reads-said (Style x) = reads-one x
-  reads-said NoStyle = reads_none
+  reads-said (Some x) = reads-one x
+  reads-said None = reads_none
 
   -- the row of the declaration at the start of a stream reads as the style that it asks for
   reads-declared : (t : List ℕ) → Reads (own_row t) (style_of (read_declaration store t).value.important (read_declaration store t).value.start (read_declaration store t).value.decl)
@@ -220,10 +219,10 @@ module _ (store : List ℕ) where
   styles-meant rows count t = rw (count-styles rows count) (ap (λ (r : Read (List StyleDecl)). r.value) ((reads-styles rows count).reads t))
 
 -- a declaration asks for at most one style by itself
-own-long : (o : OwnStyle) → length (row_of_own o) ≤ style_width
+own-long : (o : Option StyleNumbers) → length (row_of_own o) ≤ style_width
 unfolding row_of_own
-own-long (Style x) = omega (arith, length-style x)
-own-long NoStyle = omega arith
+own-long (Some x) = omega (arith, length-style x)
+own-long None = omega arith
 
 -- the same of a row
 row-long : (t : List ℕ) → length (own_row t) ≤ style_width
@@ -353,7 +352,7 @@ row-behind i s f (content b) t = refl
 row-behind i s f (unknown b) t = refl
 
 -- the row of a style alone
-one-row : (x : StyleNumbers) (f : ℕ) (d : StyleDecl) → x ≡ numbers_from f d → row_of_own (Style x) ≡ rows_many style_row style_text f (d ∷ [])
+one-row : (x : StyleNumbers) (f : ℕ) (d : StyleDecl) → x ≡ numbers_from f d → row_of_own (Some x) ≡ rows_many style_row style_text f (d ∷ [])
 unfolding row_of_own rows_many style_row
 one-row x f d e = ap row_of_numbers e ∙ sym (append-nil _)
 

@@ -9,15 +9,16 @@ use lib.ListN.{length, get_or, drop}
 use lib.Seq.{sets, get_or-drop, drop-drop}
 use Rattle.combinators.specs.Choice.{pick, or, and, is}
 use Rattle.combinators.specs.Store.{Store, emits}
-use Rattle.combinators.proofs.Rules.{pick_true, pick-false, is-yes, is-no, or_left, or_right, or-none, and-gives, and-gives-false, or_assoc, or-false}
+use Rattle.combinators.proofs.Rules.{pick_true, pick-false, is-yes, is-no, or_left, and-gives, and-gives-false, or_assoc, or-false}
 use Rattle.combinators.proofs.Emitted.{emits_none, onto, then, sets-emitted, emits-fill}
 use Rattle.syntax.specs.Layout.{flag, flag_of, declaration_width, declaration_kind, declaration_important, declaration_start, declaration_value, declaration_second, declarations_at, style_width, value_numbers, row_of_numbers, styles_at}
 use Rattle.syntax.specs.declared.styles.StyleNumbers.{StyleNumbers}
 use Rattle.syntax.proofs.Streams.{sets-drop}
 use Rattle.declarations.specs.Styles.{styles_of}
 use Rattle.declarations.specs.StyleNumbers.{added_style, own_numbers, declared_value, own_numbers_at, row_of_own, own_row, has_value, zero_row, hidden_row, own_rows, any_row, first_zero_row, style_numbers, style_count, StylesRoom}
-use Rattle.declarations.specs.declared.styles.OwnStyle.{OwnStyle}
-use Rattle.declarations.specs.declared.styles.OwnStyle.TheVariants.{Style, NoStyle}
+use Rattle.std.specs.Prelude.{Option, Some, None, is_some, unwrap_or}
+use Rattle.std.specs.Option.{option_or}
+use Rattle.std.specs.Bool.{then_some}
 use Rattle.declarations.proofs.StyleLaws.{styles-meant, numbers-long, count-le}
 
 -- the row of a style, one number behind the other
@@ -29,7 +30,7 @@ row_put x i e o₀ o₁ o₂ o₃ o₄ o₅ p q r s u = then _ _ _ _ _ (then _ _
 -- ---- the row of a declaration at a place
 module _ (rows : List ℕ) (at k a : ℕ) (ek : k ≡ get_or rows (at + declaration_kind) 0) (ea : a ≡ get_or rows (at + declaration_value) 0) where
   -- the style that it asks for
-  pub own_at : (i b s : ℕ) → i ≡ get_or rows (at + declaration_important) 0 → b ≡ get_or rows (at + declaration_second) 0 → s ≡ get_or rows (at + declaration_start) 0 → (r : OwnStyle)
+  pub own_at : (i b s : ℕ) → i ≡ get_or rows (at + declaration_important) 0 → b ≡ get_or rows (at + declaration_second) 0 → s ≡ get_or rows (at + declaration_start) 0 → (r : Option StyleNumbers)
       → r ≡ own_numbers k (eqb i 1) (record { number = a; second = b; start = s }) → r ≡ own_numbers_at (drop at rows)
   unfolding own_numbers_at declared_value flag_of is
   own_at i b s ei eb es r e =
@@ -53,31 +54,41 @@ module _ (rows : List ℕ) (at k a : ℕ) (ek : k ≡ get_or rows (at + declarat
     unfolding has_value
     value-at r e = e ∙ rw (ek, ea, get_or-drop at rows declaration_kind 0, get_or-drop at rows declaration_value 0)
 
-    -- it is of the first
-    pub value-first : k ≡ m → eqb a v ≡ has_value m n v (drop at rows)
+    -- where it is of one of them the value decides
+    pub value-of-kind : (s : Bool) → s ≡ or (is k m) (is k n) → s ≡ true → eqb a v ≡ has_value m n v (drop at rows)
     unfolding is
-    value-first e = value-at _ (and-gives _ _ _ (or_left _ _ (is-yes k m e)) refl)
+    value-of-kind s es e = value-at _ (and-gives _ _ _ (sym es ∙ e) refl)
 
-    -- it is of the second
-    pub value-second : ¬ (k ≡ m) → k ≡ n → eqb a v ≡ has_value m n v (drop at rows)
-    unfolding is
-    value-second d e = value-at _ (and-gives _ _ _ (or_right _ _ (is-no k m d) (is-yes k n e)) refl)
+-- whether the kind k is one of two, by the code's tests
+module _ (k m n : ℕ) where
+  -- it is the first
+  pub first-kind : k ≡ m → eqb k m ≡ or (is k m) (is k n)
+  unfolding is
+  first-kind e = is-yes k m e ∙ sym (or_left _ _ (is-yes k m e))
 
-    -- a declaration of neither kind has no such value
-    pub value_none : ¬ (k ≡ m) → ¬ (k ≡ n) → false ≡ has_value m n v (drop at rows)
-    value_none d e = value-at _ (and-gives-false _ _ (or-none _ _ (is-no k m d) (is-no k n e)))
+  -- it is not, and the second test decides
+  pub second-kind : ¬ (k ≡ m) → eqb k n ≡ or (is k m) (is k n)
+  unfolding is or
+  second-kind d = rw (is-no k m d)
+
+-- a declaration of neither of two kinds has no such value
+pub value_none : (rows : List ℕ) (at k : ℕ) → k ≡ get_or rows (at + declaration_kind) 0 → (m n v : ℕ) (s : Bool) → s ≡ or (is k m) (is k n) → s ≡ false
+    → s ≡ has_value m n v (drop at rows)
+unfolding has_value
+value_none rows at k ek m n v s es e =
+    e ∙ and-gives-false _ _ (rw (get_or-drop at rows declaration_kind 0, ← ek) (sym es ∙ e))
 
 -- ---- what a declaration asks for by itself is written
-module _ (t : List ℕ) (r : OwnStyle) (e : r ≡ own_numbers_at t) (o₀ : Store) where
+module _ (t : List ℕ) (r : Option StyleNumbers) (e : r ≡ own_numbers_at t) (o₀ : Store) where
   -- a declaration that has a style puts its row
-  pub own_put : (x : StyleNumbers) → r ≡ Style x → (o₁ : Store) → o₁ ≡ emits o₀ (row_of_numbers x) → o₁ ≡ emits o₀ (own_row t)
+  pub own_put : (x : StyleNumbers) → r ≡ Some x → (o₁ : Store) → o₁ ≡ emits o₀ (row_of_numbers x) → o₁ ≡ emits o₀ (own_row t)
   unfolding own_row row_of_own
-  own_put x h o₁ p = p ∙ ap (λ (q : OwnStyle). emits o₀ (row_of_own q)) (sym h ∙ e)
+  own_put x h o₁ p = p ∙ ap (λ (q : Option StyleNumbers). emits o₀ (row_of_own q)) (sym h ∙ e)
 
   -- a declaration that has none puts nothing
-  pub own-none : r ≡ NoStyle → o₀ ≡ emits o₀ (own_row t)
+  pub own-none : r ≡ None → o₀ ≡ emits o₀ (own_row t)
   unfolding own_row row_of_own
-  own-none h = sym (emits_none o₀) ∙ ap (λ (q : OwnStyle). emits o₀ (row_of_own q)) (sym h ∙ e)
+  own-none h = sym (emits_none o₀) ∙ ap (λ (q : Option StyleNumbers). emits o₀ (row_of_own q)) (sym h ∙ e)
 
 -- ---- tests that the code joins
 
@@ -129,25 +140,29 @@ unfolding any_row
 any-done p t n z v d w = sym (or-false z (any_row p n t) (rw d)) ∙ w
 
 -- where the first zero height starts: noted, at this declaration, or at one of those behind it
-first-noted : (z x : Bool) (s n k : ℕ) → pick (z || x) (pick z s n) k ≡ pick z s (pick x n k)
+first-noted : (o : Option ℕ) (x : Bool) (n k : ℕ) → unwrap_or (option_or o (then_some x n)) k ≡ unwrap_or o (pick x n k)
 unfolding pick
-first-noted true x s n k = refl
-first-noted false true s n k = refl
-first-noted false false s n k = refl
+first-noted (Some s) x n k = refl
+first-noted None true n k = refl
+first-noted None false n k = refl
 
-first_step : (rows : List ℕ) (count at i : ℕ) (z x : Bool) (s s₁ v : ℕ) → i < count → x ≡ zero_row (drop at rows) → s₁ ≡ pick z s (get_or (drop at rows) declaration_start 0)
-    → pick z s (first_zero_row (count - i) (drop at rows)) ≡ v → pick (z || x) s₁ (first_zero_row (count - (i + 1)) (drop (at + declaration_width) rows)) ≡ v
+-- and whether there is one so far
+some-noted : (o : Option ℕ) (x : Bool) (n : ℕ) → is_some (option_or o (then_some x n)) ≡ (is_some o || x)
+some-noted (Some s) x n = refl
+some-noted None true n = refl
+some-noted None false n = refl
+
+first_step : (rows : List ℕ) (count at i : ℕ) (o : Option ℕ) (v : ℕ) → i < count
+    → unwrap_or o (first_zero_row (count - i) (drop at rows)) ≡ v
+    → unwrap_or (option_or o (then_some (zero_row (drop at rows)) (get_or (drop at rows) declaration_start 0))) (first_zero_row (count - (i + 1)) (drop (at + declaration_width) rows)) ≡ v
 unfolding first_zero_row
-first_step rows count at i z x s s₁ v h e es w =
+first_step rows count at i o v h w =
     let d : count - i ≡ suc (count - (i + 1)) = omega arith in
+    let x = zero_row (drop at rows) in
     let n = get_or (drop at rows) declaration_start 0 in
     let k = first_zero_row (count - (i + 1)) (drop (at + declaration_width) rows) in
-    let q : pick x n k ≡ first_zero_row (count - i) (drop at rows) = rw (d, drop-drop declaration_width at rows, e) in
-    rw es (first-noted z x s n k ∙ ap (pick z s) q ∙ w)
-
--- what was noted where one was found
-first_done : (z : Bool) (s k v : ℕ) → z ≡ true → pick z s k ≡ v → s ≡ v
-first_done z s k v e w = pick_true _ _ _ _ e refl ∙ w
+    let q : pick x n k ≡ first_zero_row (count - i) (drop at rows) = rw (d, drop-drop declaration_width at rows) in
+    first-noted o x n k ∙ ap (unwrap_or o) q ∙ w
 
 -- ---- what `styles_from_properties` leaves
 abbrev pub Styled : List ℕ → ℕ → List ℕ → List ℕ → ℕ → Type 0
@@ -176,72 +191,76 @@ styled rows count styles₀ styles place room e = (stored, (counted, (meant, rw 
     meant : (store : List ℕ) → styles_at styles store (place / style_width) ≡ styles_of (declarations_at rows store count)
     meant store = rw (stored, counted, sets-drop styles₀ 0 (style_numbers rows count) long) (styles-meant store rows count _)
 
--- ---- turns of `styles_from_properties`
-pub record Styling (rows : List ℕ) (count : ℕ) (styles₀ styles : List ℕ) (place : ℕ) (height-zero : Bool) (zero-start : ℕ) (overflow-hidden : Bool) (at i : ℕ) : Type 0 where
-  pub left : emits (record { bytes = styles; fill = place }) (own_rows (count - i) (drop at rows)) ≡ emits (record { bytes = styles₀; fill = 0 }) (own_rows count rows)
-  pub height : or height-zero (any_row zero_row (count - i) (drop at rows)) ≡ any_row zero_row count rows
-  pub first : pick height-zero zero-start (first_zero_row (count - i) (drop at rows)) ≡ first_zero_row count rows
-  pub overflow : or overflow-hidden (any_row hidden_row (count - i) (drop at rows)) ≡ any_row hidden_row count rows
-  pub there : at ≡ declaration_width * i
-  pub within : i ≤ count
-  pub long : length styles ≡ length styles₀
+-- ---- turns of `styles_from_properties`: where the first zero height starts is noted, and whether an overflow is hidden
+module _ (rows : List ℕ) (count : ℕ) (styles₀ : List ℕ) where
+  -- the declarations from the i-th on
+  abbrev behind : ℕ → List ℕ
+  behind i = drop (i * declaration_width) rows
 
--- before the first declaration nothing is written, and neither flag is set
-pub styling-begin : (rows : List ℕ) (count : ℕ) (styles : List ℕ) → Styling rows count styles styles 0 false 0 false 0 0
-unfolding or pick
-styling-begin rows count styles =
-    let d : count - 0 ≡ count = omega arith in
-    record { left = rw d; height = rw d; first = rw d; overflow = rw d; there = refl; within = omega arith; long = refl }
+  pub record Styling (styles : List ℕ) (place : ℕ) (noted : Option ℕ) (overflow-hidden : Bool) (i : ℕ) : Type 0 where
+    pub left : emits (record { bytes = styles; fill = place }) (own_rows (count - i) (behind i)) ≡ emits (record { bytes = styles₀; fill = 0 }) (own_rows count rows)
+    pub height : or (is_some noted) (any_row zero_row (count - i) (behind i)) ≡ any_row zero_row count rows
+    pub first : unwrap_or noted (first_zero_row (count - i) (behind i)) ≡ first_zero_row count rows
+    pub overflow : or overflow-hidden (any_row hidden_row (count - i) (behind i)) ≡ any_row hidden_row count rows
+    pub within : i ≤ count
+    pub long : length styles ≡ length styles₀
 
-module _ (rows : List ℕ) (count : ℕ) (styles₀ styles : List ℕ) (place : ℕ) (height-zero : Bool) (zero-start : ℕ) (overflow-hidden : Bool) (at i : ℕ)
-    (c : Styling rows count styles₀ styles place height-zero zero-start overflow-hidden at i) where
-  -- a turn: the style of one declaration is put, and whether it is a zero height or a hidden overflow is noted
-  pub styling-more : i < count → (styles₁ : List ℕ) (place₁ : ℕ)
-      → record { bytes = styles₁; fill = place₁ } ≡ emits (record { bytes = styles; fill = place }) (own_row (drop at rows)) → length styles₁ ≡ length styles
-      → (s : ℕ) (x y : Bool) → s ≡ pick height-zero zero-start (get_or (drop at rows) declaration_start 0) → x ≡ zero_row (drop at rows) → y ≡ hidden_row (drop at rows)
-      → Styling rows count styles₀ styles₁ place₁ (height-zero || x) s (overflow-hidden || y) (at + declaration_width) (i + 1)
-  styling-more h styles₁ place₁ e k s x y es ex ey =
-      record {
-        left = onto _ _ _ _ e ∙ sym (ap (emits (record { bytes = styles; fill = place })) (rows_step rows count at i h)) ∙ c.left;
-        height = any_step zero_row rows count at i height-zero x _ h ex c.height;
-        first = first_step rows count at i height-zero x zero-start s _ h ex es c.first;
-        overflow = any_step hidden_row rows count at i overflow-hidden y _ h ey c.overflow;
-        there = omega (arith, c.there);
-        within = omega arith;
-        long = k ∙ c.long;
-      }
+  -- before the first declaration nothing is written or noted
+  pub styling-begin : Styling styles₀ 0 None false 0
+  unfolding or
+  styling-begin =
+      let d : count - 0 ≡ count = omega arith in
+      record { left = rw d; height = rw d; first = rw d; overflow = rw d; within = omega arith; long = refl }
 
-  -- when all declarations are passed, the styles are those of the rows, with the one that is added where it is asked for
-  module _ (h : count ≤ i) (room : StylesRoom rows count styles₀) where
-    -- behind the last declaration none is left
-    none_left : count - i ≡ 0
-    none_left = omega arith
+  module _ (styles : List ℕ) (place : ℕ) (noted : Option ℕ) (overflow-hidden : Bool) (i : ℕ) (c : Styling styles place noted overflow-hidden i) where
+    -- a turn: the style of one declaration is put, and whether it is a zero height or a hidden overflow is noted
+    pub styling-more : i < count → (styles₁ : List ℕ) (place₁ : ℕ)
+        → record { bytes = styles₁; fill = place₁ } ≡ emits (record { bytes = styles; fill = place }) (own_row (behind i)) → length styles₁ ≡ length styles
+        → (o z : Option ℕ) → o ≡ option_or noted z → z ≡ then_some (zero_row (behind i)) (get_or (behind i) declaration_start 0) → (y : Bool) → y ≡ hidden_row (behind i)
+        → Styling styles₁ place₁ o (overflow-hidden || y) (i + 1)
+    styling-more h styles₁ place₁ e k o z eo ez y ey =
+        let at : i * declaration_width + declaration_width ≡ (i + 1) * declaration_width = omega arith in
+        let x = zero_row (behind i) in
+        let p = first_step rows count (i * declaration_width) i noted _ h c.first in
+        let q = some-noted noted x (get_or (behind i) declaration_start 0) in
+        record {
+          left = onto _ _ _ _ e ∙ rw (← at) (sym (ap (emits (record { bytes = styles; fill = place })) (rows_step rows count (i * declaration_width) i h))) ∙ c.left;
+          height = rw (eo, ez, q, ← at) (any_step zero_row rows count (i * declaration_width) i (is_some noted) x _ h refl c.height);
+          first = rw (eo, ez, ← at) p;
+          overflow = rw (← at) (any_step hidden_row rows count (i * declaration_width) i overflow-hidden y _ h ey c.overflow);
+          within = omega arith;
+          long = k ∙ c.long;
+        }
 
-    -- the styles that they ask for by themselves are written
-    own-styled : record { bytes = styles; fill = place } ≡ emits (record { bytes = styles₀; fill = 0 }) (own_rows count rows)
-    own-styled = sym (ap (emits _) (rows_none (count - i) (drop at rows) none_left) ∙ emits_none _) ∙ c.left
+    -- when all declarations are passed, the styles are those of the rows, with the one that is added where it is asked for
+    module _ (h : count ≤ i) (room : StylesRoom rows count styles₀) where
+      -- behind the last declaration none is left
+      none_left : count - i ≡ 0
+      none_left = omega arith
 
-    -- the flags say whether they add one
-    both : (height-zero && overflow-hidden) ≡ and (any_row zero_row count rows) (any_row hidden_row count rows)
-    both = and_is height-zero overflow-hidden ∙ rw (any-done zero_row _ _ height-zero _ none_left c.height, any-done hidden_row _ _ overflow-hidden _ none_left c.overflow)
+      -- the styles that they ask for by themselves are written
+      own-styled : record { bytes = styles; fill = place } ≡ emits (record { bytes = styles₀; fill = 0 }) (own_rows count rows)
+      own-styled = sym (ap (emits _) (rows_none (count - i) (behind i) none_left) ∙ emits_none _) ∙ c.left
 
-    -- where a zero height was found its start was noted
-    noted : (height-zero && overflow-hidden) ≡ true → zero-start ≡ first_zero_row count rows
-    noted b = first_done height-zero zero-start _ _ (both_left height-zero overflow-hidden b) c.first
+      -- what was noted says whether they add one
+      added : and (is_some noted) overflow-hidden ≡ and (any_row zero_row count rows) (any_row hidden_row count rows)
+      added = rw (any-done zero_row _ _ (is_some noted) _ none_left c.height, any-done hidden_row _ _ overflow-hidden _ none_left c.overflow)
 
-    -- both flags set: the style that is added is put behind the others
-    pub styling-added : (height-zero && overflow-hidden) ≡ true → (x : StyleNumbers) → x ≡ added_style zero-start → (styles₁ : List ℕ) (place₁ : ℕ)
-        → record { bytes = styles₁; fill = place₁ } ≡ emits (record { bytes = styles; fill = place }) (row_of_numbers x)
-        → Styled rows count styles₀ styles₁ (place₁ / style_width)
-    unfolding style_numbers
-    styling-added b x ex styles₁ place₁ e =
-        styled rows count styles₀ styles₁ place₁ room
-        (then _ _ _ _ _ own-styled (e ∙ ap (λ (y : StyleNumbers). emits (record { bytes = styles; fill = place }) (row_of_numbers y)) (ex ∙ ap added_style (noted b))) ∙ ap (λ l. emits (record { bytes = styles₀; fill = 0 }) (own_rows count rows ++ l)) (pick_true _ _ _ _ (sym both ∙ b) refl))
+      -- a zero height was found and a hidden overflow: the style that is added is put behind the others
+      pub styling-added : (s : ℕ) → noted ≡ Some s → overflow-hidden ≡ true → (x : StyleNumbers) → x ≡ added_style s → (styles₁ : List ℕ) (place₁ : ℕ)
+          → record { bytes = styles₁; fill = place₁ } ≡ emits (record { bytes = styles; fill = place }) (row_of_numbers x)
+          → Styled rows count styles₀ styles₁ (place₁ / style_width)
+      unfolding style_numbers and
+      styling-added s es eh x ex styles₁ place₁ e =
+          let start : s ≡ first_zero_row count rows = sym (ap (λ o. unwrap_or o (first_zero_row (count - i) (behind i))) es) ∙ c.first in
+          let both : and (any_row zero_row count rows) (any_row hidden_row count rows) ≡ true = sym added ∙ rw (es, eh) in
+          styled rows count styles₀ styles₁ place₁ room
+          (then _ _ _ _ _ own-styled (e ∙ ap (λ (y : StyleNumbers). emits (record { bytes = styles; fill = place }) (row_of_numbers y)) (ex ∙ ap added_style start)) ∙ ap (λ l. emits (record { bytes = styles₀; fill = 0 }) (own_rows count rows ++ l)) (pick_true _ _ _ _ both refl))
 
-    -- without both a zero height and a hidden overflow the rows are all styles
-    pub styling-done : (height-zero && overflow-hidden) ≡ false → Styled rows count styles₀ styles (place / style_width)
-    unfolding style_numbers
-    styling-done b =
-        styled rows count styles₀ styles place room
-        (then _ _ _ _ _ own-styled (sym (emits_none _))
-        ∙ ap (λ l. emits (record { bytes = styles₀; fill = 0 }) (own_rows count rows ++ l)) (pick-false _ _ _ _ (sym both ∙ b) refl))
+      -- without both the rows are all styles
+      pub styling-done : and (is_some noted) overflow-hidden ≡ false → Styled rows count styles₀ styles (place / style_width)
+      unfolding style_numbers
+      styling-done b =
+          styled rows count styles₀ styles place room
+          (then _ _ _ _ _ own-styled (sym (emits_none _))
+          ∙ ap (λ l. emits (record { bytes = styles₀; fill = 0 }) (own_rows count rows ++ l)) (pick-false _ _ _ _ (sym added ∙ b) refl))

@@ -14,7 +14,7 @@ use Rattle.characters.specs.Trim.{white_taken}
 use Rattle.characters.specs.Utf8.{utf8, continuation, is_continuation, is_scalar, lead_of, scalar_of, encode, Scalars}
 use Rattle.characters.specs.Utf8.Scalars.{none, more}
 use Rattle.characters.specs.WhiteSpace.{is_white_space}
-use Rattle.characters.specs.declared.utf8.Scalar.TheVariants.{NoScalar}
+use Rattle.std.specs.Prelude.{None}
 use Rattle.characters.proofs.Scalars.{utf8-some, continuation-range}
 use Rattle.characters.proofs.RoundTrip.{read_back}
 use Rattle.characters.proofs.Reading.{at_none}
@@ -67,7 +67,7 @@ module _ (v : ℕ) (t : List ℕ) (h : is_scalar v ≡ true) where
 -- ---- bytes within a character
 
 -- a continuation byte begins no character
-no-character : (x : ℕ) (r : List ℕ) → is_continuation x ≡ true → NoScalar ≡ scalar_of (x ∷ r)
+no-character : (x : ℕ) (r : List ℕ) → is_continuation x ≡ true → None ≡ scalar_of (x ∷ r)
 unfolding lead_of
 no-character x r e =
     let c = continuation-range x e in
@@ -76,7 +76,7 @@ no-character x r e =
 
 -- a continuation byte begins no White_Space
 continuation-first : (x : ℕ) (r : List ℕ) → is_continuation x ≡ true → all_white (x ∷ r) ≡ false
-continuation-first x r e = not-all (x ∷ r) (omega arith) (sym (white-none (x ∷ r) NoScalar (no-character x r e) refl))
+continuation-first x r e = not-all (x ∷ r) (omega arith) (sym (white-none (x ∷ r) None (no-character x r e) refl))
 
 -- so the end is behind it
 pass : (cs t : List ℕ) → all_of is_continuation cs ≡ true → trimmed_end (cs ++ t) ≡ cs ++ trimmed_end t

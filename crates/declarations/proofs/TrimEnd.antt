@@ -16,7 +16,7 @@ use Rattle.combinators.proofs.Repeats.{many-stop}
 use Rattle.characters.specs.Trim.{white_taken, trimmed_start}
 use Rattle.characters.specs.Utf8.{scalar_of}
 use Rattle.characters.specs.WhiteSpace.{white_space, member, is_white_space}
-use Rattle.characters.specs.declared.utf8.Scalar.TheVariants.{Value}
+use Rattle.std.specs.Prelude.{Option, Some, None}
 use Rattle.characters.proofs.Scalars.{utf8-ascii, scalar-low}
 use Rattle.characters.proofs.RoundTrip.{read_back}
 use Rattle.characters.proofs.Trimming.{white-value}
@@ -24,8 +24,6 @@ use Rattle.lexer.specs.Name.{is_hex_digit, hex_digit}
 use Rattle.values.specs.Words.{missing}
 use Rattle.values.specs.Colour.{all_of, without_plus, digits_in, parse_hex}
 use Rattle.values.specs.ColourAnswer.{colour_answer}
-use Rattle.values.specs.declared.colours.ColourAnswer.{ColourAnswer}
-use Rattle.values.specs.declared.colours.ColourAnswer.TheVariants.{NoColour}
 use Rattle.values.proofs.ColourLaws.{no-colour, bad-read, no_plus}
 use Rattle.declarations.specs.Attribute.{all_white, trimmed_end, trimmed, pairs, faulty_colour}
 use Rattle.declarations.proofs.PairLaws.{first-missing, second-missing, third-missing, short, long}
@@ -85,7 +83,7 @@ unfolding is_white_space
 white-unread x e = member-holds unread x white_space table-unread e
 
 -- a byte of ASCII is read as itself
-ascii-read : (x : ℕ) (r : List ℕ) → x ≤ 0x7f → scalar_of (x ∷ r) ≡ Value 1 x
+ascii-read : (x : ℕ) (r : List ℕ) → x ≤ 0x7f → scalar_of (x ∷ r) ≡ Some (record { taken = 1; value = x })
 ascii-read x r h = rw (utf8-ascii x h) at (read_back x r (scalar-low x (omega arith)))
 
 -- a text that begins with White_Space begins with such a byte
@@ -203,10 +201,10 @@ module _ (s : List ℕ) (n : ℕ) (e : n ≡ many white_taken 0 0 s) where
   lent-trimmed = ap faulty_colour (rest s n ∙ ap (λ k. drop k s) e) ∙ sym (faulty-trimmed _)
 
   -- the returns: fewer than six bytes
-  pub trimmed-short : length (take (length s - n) (drop n s)) < 6 → NoColour ≡ colour_answer (faulty_colour (trimmed s))
+  pub trimmed-short : length (take (length s - n) (drop n s)) < 6 → None ≡ colour_answer (faulty_colour (trimmed s))
   trimmed-short h = no-colour _ (sym (short _ h) ∙ lent-trimmed)
 
   -- where six bytes or more are left, the pairs are those of the text trimmed at both ends
-  pub trimmed-long : 6 ≤ length (take (length s - n) (drop n s)) → (r : ColourAnswer) → r ≡ colour_answer (pairs (take (length s - n) (drop n s)))
+  pub trimmed-long : 6 ≤ length (take (length s - n) (drop n s)) → (r : Option ℕ) → r ≡ colour_answer (pairs (take (length s - n) (drop n s)))
       → r ≡ colour_answer (faulty_colour (trimmed s))
   trimmed-long h r er = er ∙ ap colour_answer (sym (long _ h) ∙ lent-trimmed)

@@ -13,9 +13,6 @@ use Rattle.syntax.specs.Style.{StyleDecl}
 use Rattle.values.specs.Words.{Found, found, missing, on_found}
 use Rattle.values.specs.Value as values
 use Rattle.values.specs.Colour.{all_of, colour_of, digits_in, numeral, parse_hex, rgb, without_plus}
-use Rattle.values.specs.ColourAnswer.{colour_answer}
-use Rattle.values.specs.declared.colours.ColourAnswer as answer
-use Rattle.values.specs.declared.colours.ColourAnswer.TheVariants.{NoColour}
 use Rattle.declarations.specs.Rules.{declarations_of}
 use Rattle.declarations.specs.Styles.{styles_of}
 
@@ -59,11 +56,6 @@ test-faulty = (refl, refl)
 unfoldable pub or_faulty : Found Colour → List ℕ → Found Colour
 or_faulty (found c) s = found c
 or_faulty missing s = faulty_colour (trimmed s)
-
--- on a colour as the code answers it: the answer, or else that of a text that lacks its '#'
-unfoldable pub or_faulty_by : answer.ColourAnswer → List ℕ → answer.ColourAnswer
-or_faulty_by (answer.TheVariants.Colour v) s = answer.TheVariants.Colour v
-or_faulty_by NoColour s = colour_answer (faulty_colour (trimmed s))
 
 -- `parse_color_attribute`
 unfoldable pub colour_attribute : List ℕ → Found Colour

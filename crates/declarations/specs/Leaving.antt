@@ -1,6 +1,6 @@
 -- What reading declarations leaves in the lent stores: the rows and texts of what was read; what was written on the way is zero again, and
 -- nothing else has changed.
-use Rattle.std.specs.Prelude.{ℕ, zero, suc, ◌+◌, ◌-◌, ◌*◌, ◌^◌, ◌≤◌, ◌<◌, Bool, false, ◌≡◌, List, [], ◌∷◌, map, length, get_or, drop}
+use Rattle.std.specs.Prelude.{ℕ, zero, suc, ◌+◌, ◌-◌, ◌*◌, ◌^◌, ◌≤◌, ◌<◌, Bool, false, Option, Some, None, Result, Ok, Err, ◌≡◌, List, [], ◌∷◌, map, length, get_or, drop}
 use Rattle.std.proofs.lemmas.List.Edits.{sets}
 use Rattle.combinators.specs.Ascii as ascii
 use Rattle.combinators.specs.Choice.{pick, is}
@@ -19,18 +19,16 @@ use Rattle.values.specs.Value.{statement_of}
 use Rattle.values.specs.Layout.{texts_of, Room}
 use Rattle.values.specs.Property.{decl_of}
 use Rattle.values.specs.View.{tokens_at}
-use Rattle.values.specs.DeclAnswer.{decl_answer}
+use Rattle.values.specs.DeclAnswer.{decl_answer, text_length}
 use Rattle.values.specs.declared.properties.Decl as declared
 use Rattle.values.specs.ColourAnswer.{colour_answer}
-use Rattle.values.specs.declared.colours.ColourAnswer.{ColourAnswer}
 use Rattle.declarations.specs.Rules.{property_of, declaration_of, Rules, more_rules, declarations_of}
 use Rattle.declarations.specs.DeclRow.{named_decl, kept_text, row_by}
 use Rattle.declarations.specs.Attribute.{style_attribute, colour_attribute}
 use Rattle.declarations.specs.declared.attributes.StylesRead.{StylesRead}
 use Rattle.declarations.specs.declared.rules.Property.{Property}
-use Rattle.declarations.specs.declared.rules.Property.TheVariants as property
-use Rattle.declarations.specs.declared.rules.DeclarationAnswer.{DeclarationAnswer}
-use Rattle.declarations.specs.declared.rules.DeclarationAnswer.TheVariants as answer
+use Rattle.declarations.specs.declared.rules.NoProperty.{NoProperty}
+use Rattle.declarations.specs.declared.rules.DeclarationRead.{DeclarationRead}
 use Rattle.declarations.specs.declared.rules.RulesRead.{RulesRead}
 
 -- ---- what is kept: declarations of a text that starts at a byte; the names of unknown ones only if asked
@@ -94,14 +92,14 @@ leaves a ds u rules place tokens brackets store fill =
     }
 
 -- by `parse_property`
-unfoldable pub property_answer : List ℕ → Property
-property_answer s = on_parsed (property_of s) (λ v name. property.Name v (length name)) (property.NoName (length (name_text (ident_of s))))
+unfoldable pub property_answer : List ℕ → Result Property NoProperty
+property_answer s = on_parsed (property_of s) (λ v name. Ok (record { value = v; name = length name })) (Err (record { name = length (name_text (ident_of s)) }))
 
 -- by `parse_declaration`
-unfoldable pub declaration_answer : Bool → Parsed Declaration → DeclarationAnswer
-declaration_answer names p = on_parsed p (λ n d. answer.Declaration n (text_kept names d)) answer.NoDeclaration
+unfoldable pub declaration_answer : Bool → Parsed Declaration → Option DeclarationRead
+declaration_answer names p = on_parsed p (λ n d. Some (record { taken = n; text = text_kept names d })) None
 
-unfoldable pub declaration_left : Bool → ℕ → List ℕ → List ℕ → ℕ → List ℕ → List ℕ → List ℕ → ℕ → Leaves DeclarationAnswer
+unfoldable pub declaration_left : Bool → ℕ → List ℕ → List ℕ → ℕ → List ℕ → List ℕ → List ℕ → ℕ → Leaves (Option DeclarationRead)
 declaration_left names at s = leaves (declaration_answer names (declaration_of s)) (kept_of names at (declaration_of s)) (used_by s)
 
 -- by `parse_rules`
@@ -135,7 +133,7 @@ decl_said names tokens count store f n = decl_answer (named_decl names (decl_of 
 
 pub record Put (names important : Bool) (start : ℕ) (tokens : List ℕ) (count : ℕ) (rules : List ℕ) (place : ℕ) (store : List ℕ) (f n t r : ℕ)
     (rules' store' : List ℕ) : Type 0 where
-  pub kept : r ≡ (decl_said names tokens count store f n).text
+  pub kept : r ≡ text_length (decl_said names tokens count store f n)
   pub row : rules' ≡ sets rules place (row_by (flag important) start f (decl_said names tokens count store f n))
   pub left : store' ≡ sets (wiped f (n + t) store) f (kept_text (decl_said names tokens count store f n) store f n)
 
@@ -167,7 +165,7 @@ pub record MoreRead (s : List ℕ) (from : ℕ) (r : RulesRead) : Type 0 where
 
 -- ---- by `parse_color_attribute`: nothing in the stores
 pub record ColourLeft : Type 0 where
-  pub answer : ColourAnswer
+  pub answer : Option ℕ
   pub tokens : List ℕ
   pub brackets : List ℕ
   pub store : List ℕ

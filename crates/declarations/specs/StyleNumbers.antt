@@ -1,12 +1,10 @@
 -- Styles of declarations on rows: from the rows of declarations to the rows of the styles that they ask for. Any numbers are rows.
-use Rattle.std.specs.Prelude.{ℕ, zero, suc, ◌+◌, ◌*◌, ◌/◌, ◌≤◌, Bool, true, false, List, [], ◌∷◌, ◌++◌, ◌≡◌, refl, length, get_or, drop}
+use Rattle.std.specs.Prelude.{ℕ, zero, suc, ◌+◌, ◌*◌, ◌/◌, ◌≤◌, Bool, true, false, Option, Some, None, List, [], ◌∷◌, ◌++◌, ◌≡◌, refl, length, get_or, drop}
 use Rattle.combinators.specs.Choice.{pick, or, and, is}
 use Rattle.syntax.specs.Declaration.{hidden}
 use Rattle.syntax.specs.Layout.{color_kind, background_color_kind, height_kind, max_height_kind, overflow_kind, overflow_yKind, display_kind, white_space_kind, content_kind, flag, flag_of, overflow_number, declaration_width, declaration_kind, declaration_important, declaration_start, declaration_value, declaration_second, colour_slot, background_slot, display_slot, white_space_slot, content_slot, style_width, value_numbers, row_of_numbers}
 use Rattle.syntax.specs.declared.styles.Value.{Value}
 use Rattle.syntax.specs.declared.styles.StyleNumbers.{StyleNumbers}
-use Rattle.declarations.specs.declared.styles.OwnStyle.{OwnStyle}
-use Rattle.declarations.specs.declared.styles.OwnStyle.TheVariants.{Style, NoStyle}
 
 -- ---- one declaration
 
@@ -18,29 +16,29 @@ abbrev pub added_style : ℕ → StyleNumbers
 added_style s = record { slot = display_slot; important = false; value = no_value s }
 
 -- a style, as the code answers it
-abbrev pub style_for : ℕ → Bool → Value → OwnStyle
-style_for slot important v = Style (record { slot = slot; important = important; value = v })
+abbrev pub style_for : ℕ → Bool → Value → Option StyleNumbers
+style_for slot important v = Some (record { slot = slot; important = important; value = v })
 
 -- the style that a declaration of kind k with the value v asks for by itself
-unfoldable pub own_numbers : ℕ → Bool → Value → OwnStyle
+unfoldable pub own_numbers : ℕ → Bool → Value → Option StyleNumbers
 own_numbers k important v =
     pick (is k color_kind) (style_for colour_slot important v)
     (pick (is k background_color_kind) (style_for background_slot important v)
-    (pick (is k display_kind) (pick (flag_of v.number) (style_for display_slot important (no_value v.start)) NoStyle)
+    (pick (is k display_kind) (pick (flag_of v.number) (style_for display_slot important (no_value v.start)) None)
     (pick (is k white_space_kind) (style_for white_space_slot important v)
-    (pick (is k content_kind) (style_for content_slot important v) NoStyle))))
+    (pick (is k content_kind) (style_for content_slot important v) None))))
 
 -- the value of the row at the start of a stream, and the style that it asks for
 unfoldable pub declared_value : List ℕ → Value
 declared_value t = record { number = get_or t declaration_value 0; second = get_or t declaration_second 0; start = get_or t declaration_start 0 }
 
-unfoldable pub own_numbers_at : List ℕ → OwnStyle
+unfoldable pub own_numbers_at : List ℕ → Option StyleNumbers
 own_numbers_at t = own_numbers (get_or t declaration_kind 0) (flag_of (get_or t declaration_important 0)) (declared_value t)
 
 -- the row of a style that is asked for
-unfoldable pub row_of_own : OwnStyle → List ℕ
-row_of_own (Style x) = row_of_numbers x
-row_of_own NoStyle = []
+unfoldable pub row_of_own : Option StyleNumbers → List ℕ
+row_of_own (Some x) = row_of_numbers x
+row_of_own None = []
 
 unfoldable pub own_row : List ℕ → List ℕ
 own_row t = row_of_own (own_numbers_at t)

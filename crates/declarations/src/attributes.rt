@@ -2,7 +2,7 @@
 ghost use Rattle.std.specs.Prelude.{◌≡◌, ◌≤◌, length};
 ghost use Rattle.values.specs.Layout.{Room};
 ghost use Rattle.values.specs.ColourAnswer.{colour_answer};
-ghost use Rattle.declarations.specs.Attribute.{pairs, faulty_colour, trimmed, or_faulty_by};
+ghost use Rattle.declarations.specs.Attribute.{pairs, faulty_colour, trimmed};
 ghost use Rattle.declarations.specs.Leaving.{colour_left, style_left, StyleRoom};
 
 use crate::rules::{parse_rules, unmarked, wipe_work};
@@ -11,8 +11,9 @@ use characters::trim::trim_start;
 use combinators::stores::{wipe_bytes, wipe_numbers};
 use syntax::rows::DECLARATION_WIDTH;
 use values::colour_values::parse_color;
-use values::colours::{ColourAnswer, MAXIMUM_BYTE, NumberAnswer, colour_number, parse_hex};
-use values::statements::{ValueAnswer, parse_value};
+use values::colours::{MAXIMUM_BYTE, colour_number, parse_hex};
+use values::statements::{Unbalanced, Value, parse_value};
+use values::tokens::Tokens;
 
 // The count of styles, and the bytes of text that they keep.
 #[derive(Clone, Copy)]
@@ -31,45 +32,26 @@ const BLUE: usize = 4;
 const PAIRS_END: usize = 6;
 
 // The colour of three pairs of hex digits at the start of `s`. A '+' may stand in place of the first of a pair.
-fn pair_colour(s: &[u8]) -> ColourAnswer
+fn pair_colour(s: &[u8]) -> Option<u32>
     requires { 6 ≤ length s.now }
     ensures { result ≡ colour_answer (pairs s.now) }
 {
-    let NumberAnswer::Number(red) = parse_hex(&s[RED..GREEN], MAXIMUM_BYTE) else {
-        return ColourAnswer::NoColour;
-    };
-    let NumberAnswer::Number(green) = parse_hex(&s[GREEN..BLUE], MAXIMUM_BYTE) else {
-        return ColourAnswer::NoColour;
-    };
-    let NumberAnswer::Number(blue) = parse_hex(&s[BLUE..PAIRS_END], MAXIMUM_BYTE) else {
-        return ColourAnswer::NoColour;
-    };
-    ColourAnswer::Colour(colour_number(red as u8, green as u8, blue as u8))
+    let red = parse_hex(&s[RED..GREEN], MAXIMUM_BYTE)?;
+    let green = parse_hex(&s[GREEN..BLUE], MAXIMUM_BYTE)?;
+    let blue = parse_hex(&s[BLUE..PAIRS_END], MAXIMUM_BYTE)?;
+    Some(colour_number(red as u8, green as u8, blue as u8))
 }
 
 // `parse_faulty_color`: the pairs at the start of the text, behind White_Space. At the end of the text White_Space may stay: where
 // it is among the pairs, they are none.
-pub fn parse_faulty_color(s: &[u8]) -> ColourAnswer
+pub fn parse_faulty_color(s: &[u8]) -> Option<u32>
     ensures { result ≡ colour_answer (faulty_colour (trimmed s.now)) }
 {
     let t = &s[trim_start(s)..];
     if t.len() < PAIRS_END {
-        return ColourAnswer::NoColour;
-    }
-    pair_colour(t)
-}
-
-// The colour that was read, or else that of the text that lacks its '#'.
-fn or_faulty(answer: ColourAnswer, s: &[u8]) -> ColourAnswer
-    ensures { result ≡ or_faulty_by answer s.now }
-{
-    match answer {
-        ColourAnswer::Colour(v) => {
-            return ColourAnswer::Colour(v);
-        }
-        ColourAnswer::NoColour => {
-            return parse_faulty_color(s);
-        }
+        None
+    } else {
+        pair_colour(t)
     }
 }
 
@@ -80,27 +62,33 @@ pub fn parse_color_attribute(
     brackets: &mut [u8],
     store: &mut [u8],
     fill: usize,
-) -> ColourAnswer
+) -> Option<u32>
     requires { Room (length s.now) fill tokens.old brackets.old store.old }
     ensures { record { answer = result; tokens = tokens.new; brackets = brackets.new; store = store.new }
         ≡ colour_left s.now tokens.old brackets.old store.old fill }
 {
     match parse_value(s, tokens, brackets, store, fill) {
-        ValueAnswer::NoValue(count, text) => {
+        Err(Unbalanced { count, text, .. }) => {
             wipe_work(tokens, brackets, count);
             wipe_bytes(store, fill, text);
-            return ColourAnswer::NoColour;
+            None
         }
-        ValueAnswer::Value {
-            count,
-            text,
-            important,
-            ..
-        } => {
-            let colour = parse_color(tokens, unmarked(count, important), store);
+        Ok(
+            Value {
+                count,
+                text,
+                important,
+                ..
+            },
+        ) => {
+            let colour = parse_color(Tokens {
+                rows: tokens,
+                count: unmarked(count, important),
+                store,
+            });
             wipe_work(tokens, brackets, count);
             wipe_bytes(store, fill, text);
-            return or_faulty(colour, s);
+            colour.or_else(|| parse_faulty_color(s))
         }
     }
 }

@@ -1,40 +1,38 @@
-// Declarations written to lent rows, and their texts kept in the store.
+// Declarations written to lent rows, and their texts kept.
 ghost use Rattle.std.specs.Prelude.{◌≡◌, ◌+◌, ◌^◌, ◌<◌};
 ghost use Rattle.std.proofs.lemmas.List.Edits.{sets};
 ghost use Rattle.combinators.specs.Store.{wiped};
 ghost use Rattle.syntax.specs.Layout.{flag};
-ghost use Rattle.declarations.specs.DeclRow.{named_by, shift, kept_text, Keeping, row_value, row_by, Narrow};
+ghost use Rattle.declarations.specs.DeclRow.{named_by, shift, kept_text, Keeping, kind_of, row_value, row_by, Narrow};
 
 use crate::texts::move_down;
 use combinators::stores::{emit_number, wipe_bytes};
-use syntax::rows::{CONTENT, UNKNOWN, flag_of};
+use syntax::rows::{
+    BACKGROUND_COLOR, COLOR, CONTENT, DISPLAY, HEIGHT, MAX_HEIGHT, OVERFLOW, OVERFLOW_Y, UNKNOWN,
+    WHITE_SPACE, flag_of,
+};
 use values::properties::Decl;
 
 // The declaration, without its name where it is unknown and names are not kept.
+#[tactic(auto, unfolding(crate::specs::DeclRow::named_by))]
 pub fn named(decl: Decl, names: bool) -> Decl
     ensures { result ≡ named_by names decl }
 {
-    if decl.kind == UNKNOWN {
-        if names {
-            return decl;
-        }
-        return Decl {
-            kind: decl.kind,
-            value: decl.value,
-            text: 0,
-        };
+    match decl {
+        Decl::Unknown(name) => Decl::Unknown(if names { name } else { 0 }),
+        _ => decl,
     }
-    decl
 }
 
 // How far behind the start of the name a text lies.
+#[tactic(auto, unfolding(crate::specs::DeclRow::shift))]
 fn shift_of(decl: Decl, length: usize) -> usize
     ensures { result ≡ shift decl length }
 {
-    if decl.kind == CONTENT {
-        return length;
+    match decl {
+        Decl::Content(_) => length,
+        _ => 0,
     }
-    0
 }
 
 // Keeps, of the name of `length` bytes at `fill` and the `text` bytes behind it, the text of the declaration alone: it then starts at
@@ -43,24 +41,47 @@ pub fn keep_text(decl: Decl, store: &mut [u8], fill: usize, length: usize, text:
     requires { Keeping decl store.old fill length text }
     ensures { store.new ≡ sets (wiped fill (length + text) store.old) fill (kept_text decl store.old fill length) }
 {
-    let n = decl.text;
+    let n = decl.text_length();
     let from = fill + shift_of(decl, length);
     move_down(store, from, fill, n);
     wipe_bytes(store, fill + n, length + text - n);
 }
 
+// The number of a declaration's kind.
+#[tactic(auto, unfolding(crate::specs::DeclRow::kind_of))]
+fn kind_of(decl: Decl) -> u32
+    ensures { result ≡ kind_of decl }
+{
+    match decl {
+        Decl::Color(_) => COLOR,
+        Decl::BackgroundColor(_) => BACKGROUND_COLOR,
+        Decl::Height(_) => HEIGHT,
+        Decl::MaxHeight(_) => MAX_HEIGHT,
+        Decl::Overflow(_) => OVERFLOW,
+        Decl::OverflowY(_) => OVERFLOW_Y,
+        Decl::Display(_) => DISPLAY,
+        Decl::WhiteSpace(_) => WHITE_SPACE,
+        Decl::Content(_) => CONTENT,
+        Decl::Unknown(_) => UNKNOWN,
+    }
+}
+
 // The number in a row where a text starts, or the declaration's own.
+#[tactic(auto, unfolding(crate::specs::DeclRow::row_value))]
 fn value_of(decl: Decl, fill: usize) -> u32
     requires { fill < 2 ^ 32 }
     ensures { result ≡ row_value fill decl }
 {
-    if decl.kind == CONTENT {
-        return fill as u32;
+    match decl {
+        Decl::Color(number)
+        | Decl::BackgroundColor(number)
+        | Decl::Overflow(number)
+        | Decl::OverflowY(number)
+        | Decl::WhiteSpace(number) => number,
+        Decl::Height(zero) | Decl::MaxHeight(zero) => flag_of(zero),
+        Decl::Display(none) => flag_of(none),
+        Decl::Content(_) | Decl::Unknown(_) => fill as u32,
     }
-    if decl.kind == UNKNOWN {
-        return fill as u32;
-    }
-    decl.value
 }
 
 // Writes the row of a declaration that starts at the byte `start` of the text and whose text starts at `fill` in the text store.
@@ -75,9 +96,9 @@ pub fn put_declaration(
     requires { Narrow decl start fill }
     ensures { rules.new ≡ sets rules.old place (row_by (flag important) start fill decl) }
 {
-    let after_kind = emit_number(decl.kind, rules, place);
+    let after_kind = emit_number(kind_of(decl), rules, place);
     let after_mark = emit_number(flag_of(important), rules, after_kind);
     let after_start = emit_number(start as u32, rules, after_mark);
     let after_value = emit_number(value_of(decl, fill), rules, after_start);
-    emit_number(decl.text as u32, rules, after_value);
+    emit_number(decl.text_length() as u32, rules, after_value);
 }

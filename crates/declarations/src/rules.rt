@@ -1,5 +1,6 @@
 // Declarations: `parse_declaration` and `parse_rules`. Each writes the rows of what it read to `rules` from `place` on and its texts to
 // `store` from `fill` on; `tokens`, `brackets` and the rest of what was used of `store` are zero again.
+// The stores stay parameters: a struct of `&mut` asks each function for a clause on every one of them, and is no plainer.
 ghost use Rattle.std.specs.Prelude.{◌≡◌, ◌+◌, ◌-◌, ◌*◌, ◌^◌, ◌<◌, length};
 ghost use Rattle.std.proofs.lemmas.List.Edits.{sets};
 ghost use Rattle.combinators.specs.Choice.{pick};
@@ -12,25 +13,32 @@ use crate::rows::{keep_text, named, put_declaration};
 use combinators::bytes::byte_is;
 use combinators::stores::{wipe_bytes, wipe_numbers};
 use combinators::texts::part_of;
-use lexer::names::{Name, parse_ident};
+use lexer::names::parse_ident;
 use lexer::rows::TOKEN_WIDTH;
 use lexer::whitespace::{skip_from, skip_optional_whitespace};
 use syntax::rows::DECLARATION_WIDTH;
 use values::properties::decl_of;
-use values::statements::{ValueAnswer, parse_value};
+use values::statements::{Unbalanced, Value, parse_value};
+use values::tokens::Tokens;
 
-// Where the value of a property starts, and the length of its name; or the length of a name that no ':' follows.
+// Where the value of a property starts, and the length of its name.
 #[derive(Clone, Copy)]
-pub enum Property {
-    Name(usize, usize),
-    NoName(usize),
+pub struct Property {
+    pub value: usize,
+    pub name: usize,
+}
+
+// The length of a name that no ':' follows.
+#[derive(Clone, Copy)]
+pub struct NoProperty {
+    pub name: usize,
 }
 
 // The bytes that a declaration takes, and the bytes of text that it keeps.
 #[derive(Clone, Copy)]
-pub enum DeclarationAnswer {
-    Declaration(usize, usize),
-    NoDeclaration,
+pub struct DeclarationRead {
+    pub taken: usize,
+    pub text: usize,
 }
 
 // The first byte not read, the count of declarations, and the bytes of text that they keep.
@@ -42,21 +50,21 @@ pub struct RulesRead {
 }
 
 // Reads a property's name and all up to its value; the name goes to the store from `fill` on.
-fn parse_property(s: &[u8], store: &mut [u8], fill: usize) -> Property
+fn parse_property(s: &[u8], store: &mut [u8], fill: usize) -> Result<Property, NoProperty>
     ensures value { result ≡ property_answer s.now }
     ensures store_after { store.new ≡ sets store.old fill (name_text (ident_of s.now)) }
 {
-    match parse_ident(s, store, fill) {
-        Name::Text(n, length) => {
-            let colon = skip_from(s, n);
-            if byte_is(s, colon, b':') {
-                return Property::Name(skip_from(s, colon + 1), length);
-            }
-            return Property::NoName(length);
-        }
-        Name::NoName => {
-            return Property::NoName(0);
-        }
+    let Some(name) = parse_ident(s, store, fill) else {
+        return Err(NoProperty { name: 0 });
+    };
+    let colon = skip_from(s, name.taken);
+    if byte_is(s, colon, b':') {
+        Ok(Property {
+            value: skip_from(s, colon + 1),
+            name: name.length,
+        })
+    } else {
+        Err(NoProperty { name: name.length })
     }
 }
 
@@ -65,12 +73,10 @@ pub fn unmarked(count: usize, important: bool) -> usize
     ensures { result ≡ pick important (count - 2) count }
 {
     if important {
-        if count < 2 {
-            return 0;
-        }
-        return count - 2;
+        count.saturating_sub(2)
+    } else {
+        count
     }
-    count
 }
 
 // Zeros over the rows of `count` tokens, and over as many brackets.
@@ -101,11 +107,16 @@ fn put_declared(
     requires { PutRoom start tokens.now count store.old fill length text }
     ensures { Put names important start tokens.now count rules.old place store.old fill length text result rules.new store.new }
 {
-    let read = decl_of(part_of(store, fill, length), tokens, count, store);
+    let value = Tokens {
+        rows: tokens,
+        count,
+        store,
+    };
+    let read = decl_of(part_of(store, fill, length), value);
     let decl = named(read, names);
     keep_text(decl, store, fill, length, text);
     put_declaration(decl, important, start, fill, rules, place);
-    decl.text
+    decl.text_length()
 }
 
 // Reads the value, from `v` on, of the property that `s` begins with; its name of `length` bytes lies at `fill`.
@@ -121,24 +132,26 @@ fn parse_declared(
     brackets: &mut [u8],
     store: &mut [u8],
     fill: usize,
-) -> DeclarationAnswer
+) -> Option<DeclarationRead>
     requires rules_room { RulesRoom s.now at rules.old place tokens.old brackets.old store.old fill }
     requires property_read { PropertyRead s.now v «length» store.old fill }
     ensures { record { answer = result; rules = rules.new; tokens = tokens.new; brackets = brackets.new; store = store.new }
         ≡ declaration_left names at s.now rules.old place tokens.old brackets.old store.old fill }
 {
     match parse_value(&s[v..], tokens, brackets, store, fill + length) {
-        ValueAnswer::NoValue(count, text) => {
+        Err(Unbalanced { count, text, .. }) => {
             wipe_work(tokens, brackets, count);
             wipe_bytes(store, fill, length + text);
-            return DeclarationAnswer::NoDeclaration;
+            None
         }
-        ValueAnswer::Value {
-            taken: n,
-            count,
-            text,
-            important,
-        } => {
+        Ok(
+            Value {
+                taken,
+                count,
+                text,
+                important,
+            },
+        ) => {
             let start = at + skip_optional_whitespace(s);
             let kept = put_declared(
                 names,
@@ -154,7 +167,10 @@ fn parse_declared(
                 text,
             );
             wipe_work(tokens, brackets, count);
-            return DeclarationAnswer::Declaration(v + n, kept);
+            Some(DeclarationRead {
+                taken: v + taken,
+                text: kept,
+            })
         }
     }
 }
@@ -170,28 +186,20 @@ pub fn parse_declaration(
     brackets: &mut [u8],
     store: &mut [u8],
     fill: usize,
-) -> DeclarationAnswer
+) -> Option<DeclarationRead>
     requires { RulesRoom s.now at rules.old place tokens.old brackets.old store.old fill }
     ensures { record { answer = result; rules = rules.new; tokens = tokens.new; brackets = brackets.new; store = store.new }
         ≡ declaration_left names at s.now rules.old place tokens.old brackets.old store.old fill }
 {
     match parse_property(s, store, fill) {
-        Property::Name(v, length) => {
-            return parse_declared(
-                s, v, length, names, at, rules, place, tokens, brackets, store, fill,
-            );
-        }
-        Property::NoName(length) => {
-            wipe_bytes(store, fill, length);
-            return DeclarationAnswer::NoDeclaration;
+        Ok(Property { value, name }) => parse_declared(
+            s, value, name, names, at, rules, place, tokens, brackets, store, fill,
+        ),
+        Err(NoProperty { name }) => {
+            wipe_bytes(store, fill, name);
+            None
         }
     }
-}
-
-fn rules_read(taken: usize, count: usize, text: usize) -> RulesRead
-    ensures { result ≡ record { taken = taken; count = count; text = text } }
-{
-    RulesRead { taken, count, text }
 }
 
 // Reads declarations behind a first one, each behind a ';', from the byte `from` of `s` on.
@@ -215,34 +223,27 @@ fn more_rules(
     let mut taken = from;
     let mut count = 0;
     let mut text = 0;
-    loop {
-        if byte_is(s, taken, b';') {
-            let w = skip_from(s, taken + 1);
-            let row = place + DECLARATION_WIDTH * count;
-            match parse_declaration(
-                &s[w..],
-                names,
-                at + w,
-                rules,
-                row,
-                tokens,
-                brackets,
-                store,
-                fill + text,
-            ) {
-                DeclarationAnswer::NoDeclaration => {
-                    return rules_read(taken, count, text);
-                }
-                DeclarationAnswer::Declaration(n, kept) => {
-                    taken = w + n;
-                    count += 1;
-                    text += kept;
-                }
-            }
-        } else {
-            return rules_read(taken, count, text);
-        }
+    while byte_is(s, taken, b';') {
+        let w = skip_from(s, taken + 1);
+        let row = place + DECLARATION_WIDTH * count;
+        let Some(read) = parse_declaration(
+            &s[w..],
+            names,
+            at + w,
+            rules,
+            row,
+            tokens,
+            brackets,
+            store,
+            fill + text,
+        ) else {
+            return RulesRead { taken, count, text };
+        };
+        taken = w + read.taken;
+        count += 1;
+        text += read.text;
     }
+    RulesRead { taken, count, text }
 }
 
 // Reads declarations, parted by ';' and white space or none.
@@ -261,24 +262,29 @@ pub fn parse_rules(
     ensures { record { answer = result; rules = rules.new; tokens = tokens.new; brackets = brackets.new; store = store.new }
         ≡ rules_left names at s.now rules.old place tokens.old brackets.old store.old fill }
 {
-    match parse_declaration(s, names, at, rules, place, tokens, brackets, store, fill) {
-        DeclarationAnswer::NoDeclaration => {
-            return rules_read(0, 0, 0);
-        }
-        DeclarationAnswer::Declaration(n, kept) => {
-            let more = more_rules(
-                s,
-                n,
-                names,
-                at,
-                rules,
-                place + DECLARATION_WIDTH,
-                tokens,
-                brackets,
-                store,
-                fill + kept,
-            );
-            return rules_read(more.taken, more.count + 1, more.text + kept);
-        }
+    let Some(read) = parse_declaration(s, names, at, rules, place, tokens, brackets, store, fill)
+    else {
+        return RulesRead {
+            taken: 0,
+            count: 0,
+            text: 0,
+        };
+    };
+    let more = more_rules(
+        s,
+        read.taken,
+        names,
+        at,
+        rules,
+        place + DECLARATION_WIDTH,
+        tokens,
+        brackets,
+        store,
+        fill + read.text,
+    );
+    RulesRead {
+        taken: more.taken,
+        count: more.count + 1,
+        text: more.text + read.text,
     }
 }

@@ -1,7 +1,7 @@
 // Styles of declarations, from declaration rows to style rows.
 ghost use Rattle.std.specs.Prelude.{◌≡◌, List, ℕ, ◌+◌, ◌≤◌, get_or, drop};
 ghost use Rattle.std.proofs.lemmas.List.Edits.{sets};
-ghost use Rattle.combinators.specs.Choice.{pick};
+ghost use Rattle.std.specs.Bool.{then_some};
 ghost use Rattle.combinators.specs.Store.{emits};
 ghost use Rattle.syntax.specs.Layout.{declaration_start, declarations_at, row_of_numbers, styles_at};
 ghost use Rattle.declarations.specs.Styles.{styles_of};
@@ -15,13 +15,6 @@ use syntax::rows::{
     OVERFLOW, OVERFLOW_HIDDEN, OVERFLOW_Y, STYLE_WIDTH, WHITE_SPACE, WHITE_SPACE_SLOT, flag_of,
 };
 use syntax::styles::{StyleNumbers, Value};
-
-// The style that a declaration asks for by itself; or that it asks for none.
-#[derive(Clone, Copy)]
-pub enum OwnStyle {
-    Style(StyleNumbers),
-    NoStyle,
-}
 
 // The `display: none` that zero height with hidden overflow adds. It is never important.
 fn added_style(start: u32) -> StyleNumbers
@@ -40,10 +33,10 @@ fn added_style(start: u32) -> StyleNumbers
 }
 
 // The style of a slot and what it gives the slot.
-fn style_for(slot: u32, important: bool, value: Value) -> OwnStyle
+fn style_for(slot: u32, important: bool, value: Value) -> Option<StyleNumbers>
     ensures { result ≡ style_for slot important value }
 {
-    OwnStyle::Style(StyleNumbers {
+    Some(StyleNumbers {
         slot,
         important,
         value,
@@ -51,37 +44,31 @@ fn style_for(slot: u32, important: bool, value: Value) -> OwnStyle
 }
 
 // The style that a declaration's kind and value ask for.
-fn own_style(kind: u32, important: bool, value: Value) -> OwnStyle
+fn own_style(kind: u32, important: bool, value: Value) -> Option<StyleNumbers>
     ensures { result ≡ own_numbers kind important value }
 {
-    if kind == COLOR {
-        return style_for(COLOUR_SLOT, important, value);
-    }
-    if kind == BACKGROUND_COLOR {
-        return style_for(BACKGROUND_SLOT, important, value);
-    }
-    if kind == DISPLAY {
-        if value.number == FLAG_TRUE {
+    match kind {
+        COLOR => style_for(COLOUR_SLOT, important, value),
+        BACKGROUND_COLOR => style_for(BACKGROUND_SLOT, important, value),
+        DISPLAY => {
+            if value.number != FLAG_TRUE {
+                return None;
+            }
             let none = Value {
                 number: 0,
                 second: 0,
                 start: value.start,
             };
-            return style_for(DISPLAY_SLOT, important, none);
+            style_for(DISPLAY_SLOT, important, none)
         }
-        return OwnStyle::NoStyle;
+        WHITE_SPACE => style_for(WHITE_SPACE_SLOT, important, value),
+        CONTENT => style_for(CONTENT_SLOT, important, value),
+        _ => None,
     }
-    if kind == WHITE_SPACE {
-        return style_for(WHITE_SPACE_SLOT, important, value);
-    }
-    if kind == CONTENT {
-        return style_for(CONTENT_SLOT, important, value);
-    }
-    OwnStyle::NoStyle
 }
 
 // The style that the declaration asks for whose row starts at `at`.
-pub fn own_style_at(rows: &[u32], at: usize) -> OwnStyle
+pub fn own_style_at(rows: &[u32], at: usize) -> Option<StyleNumbers>
     ensures { result ≡ own_numbers_at (drop at rows.now) }
 {
     let value = Value {
@@ -114,12 +101,8 @@ fn put_own_style(rows: &[u32], at: usize, styles: &mut [u32], place: usize) -> u
         ≡ emits (record { bytes = styles.old; fill = place }) (own_row (drop at rows.now)) }
 {
     match own_style_at(rows, at) {
-        OwnStyle::Style(style) => {
-            return put_style(style, styles, place);
-        }
-        OwnStyle::NoStyle => {
-            return place;
-        }
+        Some(style) => put_style(style, styles, place),
+        None => place,
     }
 }
 
@@ -128,14 +111,8 @@ fn has_value(rows: &[u32], at: usize, kind: u32, other: u32, value: u32) -> bool
     ensures { result ≡ has_value kind other value (drop at rows.now) }
 {
     let found = number_at(rows, at, DECLARATION_KIND);
-    let is_value = number_at(rows, at, DECLARATION_VALUE) == value;
-    if found == kind {
-        return is_value;
-    }
-    if found == other {
-        return is_value;
-    }
-    false
+    let is_kind = found == kind || found == other;
+    is_kind && number_at(rows, at, DECLARATION_VALUE) == value
 }
 
 // Whether it sets a height to zero.
@@ -145,21 +122,18 @@ pub fn is_zero_height(rows: &[u32], at: usize) -> bool
     has_value(rows, at, HEIGHT, MAX_HEIGHT, FLAG_TRUE)
 }
 
+// Where it starts, if it sets a height to zero.
+fn zero_height_start(rows: &[u32], at: usize) -> Option<u32>
+    ensures { result ≡ then_some (zero_row (drop at rows.now)) (get_or (drop at rows.now) declaration_start 0) }
+{
+    is_zero_height(rows, at).then_some(number_at(rows, at, DECLARATION_START))
+}
+
 // Whether it hides what overflows.
 pub fn hides_overflow(rows: &[u32], at: usize) -> bool
     ensures { result ≡ hidden_row (drop at rows.now) }
 {
     has_value(rows, at, OVERFLOW, OVERFLOW_Y, OVERFLOW_HIDDEN)
-}
-
-// Where the first zero height starts: as was noted if one was found, or else where the declaration starts whose row starts at `at`.
-fn first_zero(rows: &[u32], at: usize, found: bool, noted: u32) -> u32
-    ensures { result ≡ pick found noted (get_or (drop at rows.now) declaration_start 0) }
-{
-    if found {
-        return noted;
-    }
-    number_at(rows, at, DECLARATION_START)
 }
 
 // Writes the rows of the styles that the first `count` declarations of `rows` ask for to `styles` from 0 on; how many there are. A zero
@@ -172,21 +146,18 @@ pub fn styles_from_properties(rows: &[u32], count: usize, styles: &mut [u32]) ->
     ensures upper_bound { result ≤ count + 1 }
 {
     let mut place = 0;
-    let mut height_zero = false;
-    let mut zero_start = 0;
+    let mut zero_start = None;
     let mut overflow_hidden = false;
-    let mut at = 0;
-    let mut i = 0;
-    while i < count {
+    for i in 0..count {
+        let at = i * DECLARATION_WIDTH;
         place = put_own_style(rows, at, styles, place);
-        zero_start = first_zero(rows, at, height_zero, zero_start);
-        height_zero = height_zero | is_zero_height(rows, at);
-        overflow_hidden = overflow_hidden | hides_overflow(rows, at);
-        at += DECLARATION_WIDTH;
-        i += 1;
+        zero_start = zero_start.or(zero_height_start(rows, at));
+        overflow_hidden |= hides_overflow(rows, at);
     }
-    if height_zero & overflow_hidden {
-        return put_style(added_style(zero_start), styles, place) / STYLE_WIDTH;
+    match zero_start {
+        Some(start) if overflow_hidden => {
+            put_style(added_style(start), styles, place) / STYLE_WIDTH
+        }
+        _ => place / STYLE_WIDTH,
     }
-    place / STYLE_WIDTH
 }

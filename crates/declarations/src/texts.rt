@@ -9,9 +9,5 @@ pub fn move_down(store: &mut [u8], from: usize, to: usize, n: usize)
     requires { Downward store.old from to n }
     ensures { store.new ≡ sets store.old to (part store.old from n) }
 {
-    let mut i = 0;
-    while i < n {
-        store[to + i] = store[from + i];
-        i += 1;
-    }
+    store.copy_within(from..from + n, to);
 }

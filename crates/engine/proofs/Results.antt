@@ -1,30 +1,34 @@
 -- Returns of the exported functions, from what the functions that they call leave.
 use Prim.Native.Nat.{ℕ}
-use mathlib.Core.Bool.{Bool, true, false}
+use mathlib.Core.Bool.{Bool, true, false, not}
 use mathlib.Core.List.{List}
 use mathlib.Core.Path.{◌≡◌, refl, sym, ap, ◌∙◌}
-use Rattle.combinators.specs.Refusal.{no_refusal, refused_in, refused_at, bad_bytes}
+use Rattle.combinators.specs.Refusal.{no_refusal, refused_in, refused_at, bad_row, bad_text, bad_bytes}
 use Rattle.combinators.specs.declared.refusals.Refusal.{Refusal}
+use Rattle.sheets.specs.SheetAnswer as sheets
 use Rattle.sheets.specs.SheetAnswer.{numbers_of, SheetLeft}
+use Rattle.std.proofs.Common.{Option, Some, None, Result, Ok, Err}
 use Rattle.sheets.specs.declared.answers.SheetNumbers.{SheetNumbers}
-use Rattle.sheets.specs.declared.sheet.SheetAnswer.{SheetAnswer}
-use Rattle.sheets.specs.declared.sheet.SheetAnswer.TheVariants as sheet
+use Rattle.sheets.specs.declared.sheet.Sheet.{Sheet}
+use Rattle.sheets.specs.declared.sheet.SheetError.{SheetError}
+use Rattle.sheets.specs.declared.sheet.SheetError.TheVariants as sheet
 use Rattle.lengths.specs.HeightLength as lengths
 use Rattle.lengths.specs.HeightLength.{LengthLeft}
 use Rattle.lengths.specs.declared.answers.LengthNumbers.{LengthNumbers}
-use Rattle.lengths.specs.declared.answers.LengthAnswer.{LengthAnswer}
-use Rattle.lengths.specs.declared.answers.LengthAnswer.TheVariants as length
-use Rattle.page.specs.Accepted.{refusal_of}
-use Rattle.page.specs.declared.check.PageAnswer.{PageAnswer}
-use Rattle.page.specs.declared.check.PageAnswer.TheVariants as page
+use Rattle.lengths.specs.declared.answers.Length.{Length}
+use Rattle.lengths.specs.declared.answers.LengthError.{LengthError}
+use Rattle.lengths.specs.declared.answers.LengthError.TheVariants as length
+use Rattle.page.specs.Accepted.{error_refusal, refusal_of}
+use Rattle.page.specs.declared.check.PageError.{PageError}
+use Rattle.page.specs.declared.check.PageError.TheVariants as page
 use Rattle.compiler.specs.CompileAnswer.{CompileLeft}
 use Rattle.compiler.specs.declared.answers.CompileNumbers.{CompileNumbers}
-use Rattle.combinators.specs.Choice.{is}
-use Rattle.combinators.proofs.Rules.{pick_true, pick-false, pick-holds, is-yes, is-no}
+use lib.Dec.{eqb}
+use Rattle.combinators.specs.Choice.{pick, is}
+use Rattle.combinators.proofs.Rules.{pick-holds}
 use Rattle.styles.specs.declared.settings.Settings.{Settings}
-use Rattle.styling.specs.StyleAnswer.{StyleLeft}
-use Rattle.styling.specs.declared.style.StyleAnswer.{StyleAnswer}
-use Rattle.page.specs.Accepted.{page_refusal, rows_refusal}
+use Rattle.styling.specs.StyleAnswer.{StyleAnswer, StyleLeft}
+use Rattle.page.specs.Accepted.{first_bad_row, first_bad_text, refused_row, page_refusal, rows_refusal}
 use Rattle.compiled.specs.Answer.{bytes_refusal}
 use Rattle.compiled.specs.Decoded.{Decoded, read, fault, on_decoded}
 use Rattle.compiled.specs.Sheet.{CompiledSelector, decode}
@@ -41,35 +45,35 @@ one-text : (r : Refusal) → r.text ≡ 0 → refused_at r.number r.place ≡ r
 one-text r e = ap (λ (n : ℕ). refused_in r.number n r.place) (sym e)
 
 -- the refusals of a sheet have the text 0
-sheet-text : (a : SheetAnswer) → (numbers_of a).refusal.text ≡ 0
-unfolding numbers_of
-sheet-text (sheet.Sheet count stop numbers bytes) = refl
-sheet-text sheet.TooLong = refl
-sheet-text sheet.ShortStore = refl
-sheet-text sheet.NotUtf8 = refl
-sheet-text (sheet.Panic p) = refl
+sheet-text : (a : Result Sheet SheetError) → (numbers_of a).refusal.text ≡ 0
+unfolding numbers_of sheets.refusal_of
+sheet-text (Ok sheet) = refl
+sheet-text (Err sheet.TooLong) = refl
+sheet-text (Err sheet.ShortStore) = refl
+sheet-text (Err sheet.NotUtf8) = refl
+sheet-text (Err (sheet.Panic p)) = refl
 
 -- the refusals of a length have the text 0
-length-text : (a : LengthAnswer) → (lengths.numbers_of a).refusal.text ≡ 0
-unfolding lengths.numbers_of
-length-text length.NoLength = refl
-length-text (length.Length kind amount) = refl
-length-text length.TooLong = refl
-length-text length.ShortStore = refl
-length-text length.NotUtf8 = refl
-length-text (length.BadLength p) = refl
+length-text : (a : Result (Option Length) LengthError) → (lengths.numbers_of a).refusal.text ≡ 0
+unfolding lengths.numbers_of lengths.refusal_of
+length-text (Ok None) = refl
+length-text (Ok (Some length)) = refl
+length-text (Err length.TooLong) = refl
+length-text (Err length.ShortStore) = refl
+length-text (Err length.NotUtf8) = refl
+length-text (Err (length.BadLength p)) = refl
 
 -- the refusals of a page have the text 0
-page-text : (a : PageAnswer) → (refusal_of a).text ≡ 0
-unfolding refusal_of
-page-text page.Page = refl
-page-text page.TooLarge = refl
-page-text (page.BadRow row) = refl
-page-text (page.BadText row) = refl
+page-text : (a : Result Unit PageError) → (refusal_of a).text ≡ 0
+unfolding refusal_of error_refusal
+page-text (Ok accepted) = refl
+page-text (Err page.TooLarge) = refl
+page-text (Err (page.BadRow row)) = refl
+page-text (Err (page.BadText row)) = refl
 
 -- ---- the numbers of a sheet, without the text
 -- the numbers of a sheet, with the refusal made of its number and place, are those of the answer
-pub sheet-numbers : (a : SheetAnswer) {n : SheetNumbers} → n ≡ numbers_of a
+pub sheet-numbers : (a : Result Sheet SheetError) {n : SheetNumbers} → n ≡ numbers_of a
     → ◌≡◌ {A = SheetNumbers}
     (record { refusal = refused_at n.refusal.number n.refusal.place; count = n.count; stop = n.stop; numbers = n.numbers; bytes = n.bytes }) (numbers_of a)
 sheet-numbers a {n} e =
@@ -77,7 +81,7 @@ sheet-numbers a {n} e =
     ap (λ (r : Refusal). record { refusal = r; count = n.count; stop = n.stop; numbers = n.numbers; bytes = n.bytes }) (one-text n.refusal t) ∙ e
 
 -- the numbers of a length, with the refusal made of its number and place, are those of the answer
-pub length-numbers : (a : LengthAnswer) {n : LengthNumbers} → n ≡ lengths.numbers_of a
+pub length-numbers : (a : Result (Option Length) LengthError) {n : LengthNumbers} → n ≡ lengths.numbers_of a
     → ◌≡◌ {A = LengthNumbers}
     (record { refusal = refused_at n.refusal.number n.refusal.place; kind = n.kind; amount = n.amount }) (lengths.numbers_of a)
 length-numbers a {n} e =
@@ -85,7 +89,7 @@ length-numbers a {n} e =
     ap (λ (r : Refusal). record { refusal = r; kind = n.kind; amount = n.amount }) (one-text n.refusal t) ∙ e
 
 -- the refusal of a page
-pub page-refused : (a : PageAnswer) {r q : Refusal} → r ≡ refusal_of a → refusal_of a ≡ q → refused_at r.number r.place ≡ q
+pub page-refused : (a : Result Unit PageError) {r q : Refusal} → r ≡ refusal_of a → refusal_of a ≡ q → refused_at r.number r.place ≡ q
 page-refused a {r} e f = one-text r (ap (λ (x : Refusal). x.text) e ∙ page-text a) ∙ e ∙ f
 
 -- ---- what is left of a call, with its answer in numbers
@@ -107,15 +111,15 @@ compile-called {n} {m} {k} {t} {y} {x} {b} e f =
     ap (λ (q : CompileNumbers). record { answer = q; compiled = k; texts = t; rules = y; tokens = x; brackets = b }) f ∙ e
 
 -- ---- a style call: the switch as a number, and its answer
--- a switch that is off turns the document's styles off
-pub switched-off : (n : ℕ) → n ≡ switch_off → ◌≡◌ {A = Settings} (record { document_styles = false }) (settings_from n)
-unfolding settings_from
-switched-off n e = ap (λ (b : Bool). record { document_styles = b }) (pick_true false false true (is n switch_off) (is-yes n switch_off e) refl)
+-- off at one number, and on at any other
+switched_by : (t : Bool) → not t ≡ pick t false true
+unfolding pick
+switched_by true = refl
+switched_by false = refl
 
--- a switch other than off turns the document's styles on
-pub switched-on : (n : ℕ) → ¬ (n ≡ switch_off) → ◌≡◌ {A = Settings} (record { document_styles = true }) (settings_from n)
-unfolding settings_from
-switched-on n e = ap (λ (b : Bool). record { document_styles = b }) (pick-false true false true (is n switch_off) (is-no n switch_off e) refl)
+pub switched : (n : ℕ) → ◌≡◌ {A = Settings} (record { document_styles = not (eqb n switch_off) }) (settings_from n)
+unfolding settings_from is
+switched n = ap (λ (b : Bool). record { document_styles = b }) (switched_by (eqb n switch_off))
 
 -- with the switch as a setting and the numbers of the answer, a style call leaves what its definition says
 pub style-called : (left : Settings → StyleLeft) {s₁ s₂ : Settings} {n m : StyleAnswer} {k t y x b : List ℕ}
@@ -128,11 +132,17 @@ style-called left {s₁} {s₂} {n} {m} {k} {t} {y} {x} {b} es e f =
 abbrev textless : Refusal → Type 0
 textless r = r.text ≡ 0
 
+-- a refusal of a row has the text 0, and so has what comes behind where there is no row
+row-textless : (n : ℕ) (o : Option ℕ) (r : Refusal) → textless r → textless (refused_row n o r)
+unfolding refused_row
+row-textless n (Some row) r e = refl
+row-textless n None r e = e
+
 -- what is refused of rows has the text 0
 rows-textless : (nodes attributes text : List ℕ) → textless (rows_refusal nodes attributes text)
 unfolding rows_refusal
 rows-textless nodes attributes text =
-    pick-holds textless _ _ _ (λ _. refl) (λ _. pick-holds textless _ _ _ (λ _. refl) (λ _. pick-holds textless _ _ _ (λ _. refl) (λ _. refl)))
+    pick-holds textless _ _ _ (λ _. refl) (λ _. row-textless bad_row (first_bad_row nodes attributes) _ (row-textless bad_text (first_bad_text nodes attributes text) _ refl))
 
 -- what is refused of a page has the text 0
 page-textless : (g : Page) → textless (page_refusal g.nodes g.attributes g.text)

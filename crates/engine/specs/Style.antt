@@ -3,7 +3,7 @@ use Rattle.std.specs.Prelude.{ℕ, true, false}
 use Rattle.combinators.specs.Choice.{pick, is}
 use Rattle.combinators.specs.Refusal.{refused_in}
 use Rattle.styles.specs.declared.settings.Settings.{Settings}
-use Rattle.styling.specs.declared.style.StyleAnswer.{StyleAnswer}
+use Rattle.styling.specs.StyleAnswer.{StyleAnswer}
 use Rattle.engine.specs.declared.style.StyleResult.{StyleResult}
 
 -- 0 is off, all else on

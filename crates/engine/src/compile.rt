@@ -3,8 +3,8 @@ ghost use Rattle.std.specs.Prelude.{◌≡◌};
 ghost use Rattle.compiler.specs.CompileAnswer.{numbers_of, compile_of};
 ghost use Rattle.engine.specs.Compile.{numbers_in};
 
-use compiler::answers::numbers_of;
-use compiler::compile::{CompileAnswer, compile};
+use compiler::answers::{CompileNumbers, numbers_of};
+use compiler::compile::{CompileError, Compiled, compile};
 
 // The refusal's number, text and place; of sheets that were compiled how many bytes they take, and those of the texts that their rules name. What does
 // not apply is 0.
@@ -18,18 +18,22 @@ pub struct CompileResult {
     pub texts: usize,
 }
 
-// An answer in numbers.
-fn result_of(answer: CompileAnswer) -> CompileResult
-    ensures { numbers_in result ≡ numbers_of answer }
-{
-    let numbers = numbers_of(answer);
-    let refusal = numbers.refusal;
-    CompileResult {
-        refusal: refusal.number,
-        text: refusal.text,
-        place: refusal.place,
-        bytes: numbers.bytes,
-        texts: numbers.texts,
+impl From<Result<Compiled, CompileError>> for CompileResult {
+    ghost from_gives = { λ answer told. numbers_in told ≡ numbers_of answer };
+
+    fn from(answer: Result<Compiled, CompileError>) -> CompileResult {
+        let CompileNumbers {
+            refusal,
+            bytes,
+            texts,
+        } = numbers_of(answer);
+        CompileResult {
+            refusal: refusal.number,
+            text: refusal.text,
+            place: refusal.place,
+            bytes,
+            texts,
+        }
     }
 }
 
@@ -48,7 +52,8 @@ pub extern "C" fn hicsolmab_compile(
     ensures { record { answer = numbers_in result; compiled = compiled.new; texts = texts.new; rules = rules.new; tokens = tokens.new; brackets = brackets.new }
         ≡ compile_of agent.now user.now author.now compiled.old texts.old rules.old tokens.old brackets.old }
 {
-    result_of(compile(
+    compile(
         agent, user, author, compiled, texts, rules, tokens, brackets,
-    ))
+    )
+    .into()
 }

@@ -3,7 +3,7 @@ ghost use Rattle.std.specs.Prelude.{◌≡◌};
 ghost use Rattle.lengths.specs.HeightLength.{numbers_of, height_length};
 ghost use Rattle.engine.specs.Length.{numbers_in};
 
-use lengths::answers::{LengthAnswer, numbers_of};
+use lengths::answers::{Length, LengthError, LengthNumbers, numbers_of};
 use lengths::height::height_length;
 
 // The refusal's number and place; of a length what it counts, and how much of it. What does not apply is 0.
@@ -16,17 +16,21 @@ pub struct LengthResult {
     pub amount: u64,
 }
 
-// An answer in numbers.
-fn result_of(answer: LengthAnswer) -> LengthResult
-    ensures { numbers_in result ≡ numbers_of answer }
-{
-    let numbers = numbers_of(answer);
-    let refusal = numbers.refusal;
-    LengthResult {
-        refusal: refusal.number,
-        place: refusal.place,
-        kind: numbers.kind,
-        amount: numbers.amount,
+impl From<Result<Option<Length>, LengthError>> for LengthResult {
+    ghost from_gives = { λ answer told. numbers_in told ≡ numbers_of answer };
+
+    fn from(answer: Result<Option<Length>, LengthError>) -> LengthResult {
+        let LengthNumbers {
+            refusal,
+            kind,
+            amount,
+        } = numbers_of(answer);
+        LengthResult {
+            refusal: refusal.number,
+            place: refusal.place,
+            kind,
+            amount,
+        }
     }
 }
 
@@ -41,5 +45,5 @@ pub extern "C" fn hicsolmab_height_length(
 ) -> LengthResult
     ensures { record { answer = numbers_in result; rules = rules.new; tokens = tokens.new; brackets = brackets.new; texts = texts.new } ≡ height_length value.now rules.old tokens.old brackets.old texts.old }
 {
-    result_of(height_length(value, rules, tokens, brackets, texts))
+    height_length(value, rules, tokens, brackets, texts).into()
 }

@@ -1,9 +1,9 @@
 // `hicsolmab_check_page`: which pages are accepted.
 ghost use Rattle.std.specs.Prelude.{◌≡◌};
-ghost use Rattle.page.specs.Accepted.{page_refusal};
+ghost use Rattle.page.specs.Accepted.{refusal_of, page_refusal};
 ghost use Rattle.engine.specs.Page.{refusal_in};
 
-use page::check::{check_page, refusal_of};
+use page::check::{PageError, check_page, refusal_of};
 
 // The refusal's number, and the first row that is refused.
 #[repr(C)]
@@ -13,14 +13,22 @@ pub struct PageResult {
     pub place: usize,
 }
 
+impl From<Result<(), PageError>> for PageResult {
+    ghost from_gives = { λ answer told. refusal_in told ≡ refusal_of answer };
+
+    fn from(answer: Result<(), PageError>) -> PageResult {
+        let refusal = refusal_of(answer);
+        PageResult {
+            refusal: refusal.number,
+            place: refusal.place,
+        }
+    }
+}
+
 // Whether a page is accepted, as `check_page` answers.
 #[unsafe(no_mangle)]
 pub extern "C" fn hicsolmab_check_page(nodes: &[u32], attributes: &[u32], text: &[u8]) -> PageResult
     ensures { refusal_in result ≡ page_refusal nodes.now attributes.now text.now }
 {
-    let refusal = refusal_of(check_page(nodes, attributes, text));
-    PageResult {
-        refusal: refusal.number,
-        place: refusal.place,
-    }
+    check_page(nodes, attributes, text).into()
 }

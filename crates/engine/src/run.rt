@@ -16,15 +16,16 @@ pub struct RunResult {
     pub texts: usize,
 }
 
-// An answer in numbers.
-fn result_of(answer: RunAnswer) -> RunResult
-    ensures { result ≡ result_of answer }
-{
-    let refusal = answer.refusal;
-    RunResult {
-        refusal: refusal.number,
-        place: refusal.place,
-        texts: answer.texts,
+impl From<RunAnswer> for RunResult {
+    ghost from_gives = { λ answer told. told ≡ result_of answer };
+
+    fn from(answer: RunAnswer) -> RunResult {
+        let RunAnswer { refusal, texts } = answer;
+        RunResult {
+            refusal: refusal.number,
+            place: refusal.place,
+            texts,
+        }
     }
 }
 
@@ -47,7 +48,7 @@ pub extern "C" fn hicsolmab_run(
     ensures { record { answer = answer_in result; rows = rows.new; texts = texts.new; state = state.new; rules = rules.new; tokens = tokens.new; brackets = brackets.new }
         ≡ run_call rows.old texts.old state.old rules.old tokens.old brackets.old compiled.now (settings_from document_styles) (record { nodes = nodes.now; attributes = attributes.now; text = text.now }) }
 {
-    result_of(run(
+    run(
         settings_from(document_styles),
         compiled,
         nodes,
@@ -59,5 +60,6 @@ pub extern "C" fn hicsolmab_run(
         rules,
         tokens,
         brackets,
-    ))
+    )
+    .into()
 }

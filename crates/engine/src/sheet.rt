@@ -3,8 +3,8 @@ ghost use Rattle.std.specs.Prelude.{◌≡◌};
 ghost use Rattle.sheets.specs.SheetAnswer.{numbers_of, read_sheet};
 ghost use Rattle.engine.specs.Sheet.{numbers_in};
 
-use sheets::answers::numbers_of;
-use sheets::sheet::{SheetAnswer, read_sheet};
+use sheets::answers::{SheetNumbers, numbers_of};
+use sheets::sheet::{Sheet, SheetError, read_sheet};
 
 // The refusal's number and place; of a sheet that was read the count of its rules, the first byte not read, the numbers that the rules take and
 // the bytes of their texts. What does not apply is 0.
@@ -19,19 +19,25 @@ pub struct SheetResult {
     pub bytes: usize,
 }
 
-// An answer in numbers.
-fn result_of(answer: SheetAnswer) -> SheetResult
-    ensures { numbers_in result ≡ numbers_of answer }
-{
-    let numbers = numbers_of(answer);
-    let refusal = numbers.refusal;
-    SheetResult {
-        refusal: refusal.number,
-        place: refusal.place,
-        count: numbers.count,
-        stop: numbers.stop,
-        numbers: numbers.numbers,
-        bytes: numbers.bytes,
+impl From<Result<Sheet, SheetError>> for SheetResult {
+    ghost from_gives = { λ answer told. numbers_in told ≡ numbers_of answer };
+
+    fn from(answer: Result<Sheet, SheetError>) -> SheetResult {
+        let SheetNumbers {
+            refusal,
+            count,
+            stop,
+            numbers,
+            bytes,
+        } = numbers_of(answer);
+        SheetResult {
+            refusal: refusal.number,
+            place: refusal.place,
+            count,
+            stop,
+            numbers,
+            bytes,
+        }
     }
 }
 
@@ -46,5 +52,5 @@ pub extern "C" fn hicsolmab_read_sheet(
 ) -> SheetResult
     ensures { record { answer = numbers_in result; rules = rules.new; tokens = tokens.new; brackets = brackets.new; texts = texts.new } ≡ read_sheet sheet.now rules.old tokens.old brackets.old texts.old }
 {
-    result_of(read_sheet(sheet, rules, tokens, brackets, texts))
+    read_sheet(sheet, rules, tokens, brackets, texts).into()
 }

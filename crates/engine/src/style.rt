@@ -1,11 +1,13 @@
 // `hicsolmab_style` and `hicsolmab_style_book`: the computed style of one element.
 ghost use Rattle.std.specs.Prelude.{◌≡◌};
 ghost use Rattle.cascade.specs.declared.slots.Cascade.TheVariants.{Crate, Book};
-ghost use Rattle.styling.specs.StyleAnswer.{style_of};
+ghost use Rattle.styling.specs.StyleAnswer.{numbers_of, style_of};
 ghost use Rattle.engine.specs.Style.{settings_from, answer_in};
 
+use combinators::refusals::{NO_REFUSAL, Refusal};
+use styles::lent::{Page, SheetTexts};
 use styles::settings::Settings;
-use styling::style::{StyleAnswer, style, style_book};
+use styling::style::{StyleError, style, style_book};
 
 // Document styles are off at this number, and on at any other.
 const SWITCH_OFF: u32 = 0;
@@ -24,26 +26,32 @@ pub struct StyleResult {
 pub fn settings_from(switch: u32) -> Settings
     ensures { result ≡ settings_from switch }
 {
-    if switch == SWITCH_OFF {
-        return Settings {
-            document_styles: false,
-        };
-    }
     Settings {
-        document_styles: true,
+        document_styles: switch != SWITCH_OFF,
     }
 }
 
-// An answer in numbers.
-fn result_of(answer: StyleAnswer) -> StyleResult
-    ensures { answer_in result ≡ answer }
-{
-    let refusal = answer.refusal;
-    StyleResult {
-        refusal: refusal.number,
-        text: refusal.text,
-        place: refusal.place,
-        texts: answer.texts,
+impl From<Result<usize, StyleError>> for StyleResult {
+    ghost from_gives = { λ answer told. answer_in told ≡ numbers_of answer };
+
+    fn from(answer: Result<usize, StyleError>) -> StyleResult {
+        match answer {
+            Ok(texts) => StyleResult {
+                refusal: NO_REFUSAL,
+                text: 0,
+                place: 0,
+                texts,
+            },
+            Err(error) => {
+                let refusal = Refusal::from(error);
+                StyleResult {
+                    refusal: refusal.number,
+                    text: refusal.text,
+                    place: refusal.place,
+                    texts: 0,
+                }
+            }
+        }
     }
 }
 
@@ -67,21 +75,26 @@ pub extern "C" fn hicsolmab_style(
     ensures { record { answer = answer_in result; row = out.new; texts = texts.new; rules = rules.new; tokens = tokens.new; brackets = brackets.new }
         ≡ style_of Crate (settings_from document_styles) (record { agent = agent.now; user = user.now; author = author.now }) (record { nodes = nodes.now; attributes = attributes.now; text = text.now }) row out.old texts.old rules.old tokens.old brackets.old }
 {
-    result_of(style(
+    style(
         settings_from(document_styles),
-        agent,
-        user,
-        author,
-        nodes,
-        attributes,
-        text,
+        SheetTexts {
+            agent,
+            user,
+            author,
+        },
+        Page {
+            nodes,
+            attributes,
+            text,
+        },
         row,
         out,
         texts,
         rules,
         tokens,
         brackets,
-    ))
+    )
+    .into()
 }
 
 // The same in the book order.
@@ -104,19 +117,24 @@ pub extern "C" fn hicsolmab_style_book(
     ensures { record { answer = answer_in result; row = out.new; texts = texts.new; rules = rules.new; tokens = tokens.new; brackets = brackets.new }
         ≡ style_of Book (settings_from document_styles) (record { agent = agent.now; user = user.now; author = author.now }) (record { nodes = nodes.now; attributes = attributes.now; text = text.now }) row out.old texts.old rules.old tokens.old brackets.old }
 {
-    result_of(style_book(
+    style_book(
         settings_from(document_styles),
-        agent,
-        user,
-        author,
-        nodes,
-        attributes,
-        text,
+        SheetTexts {
+            agent,
+            user,
+            author,
+        },
+        Page {
+            nodes,
+            attributes,
+            text,
+        },
         row,
         out,
         texts,
         rules,
         tokens,
         brackets,
-    ))
+    )
+    .into()
 }

@@ -21,7 +21,8 @@ use Rattle.characters.specs.Literal.{text}
 use Rattle.characters.specs.Utf8.{utf8, taken_of}
 use Rattle.characters.specs.WhiteSpace.{member}
 use Rattle.characters.specs.declared.utf8.Scalar.{Scalar}
-use Rattle.characters.specs.declared.utf8.Scalar.TheVariants.{Value, NoScalar}
+use Rattle.std.specs.Prelude as option
+use Rattle.std.specs.Prelude.{Option, None}
 use Rattle.lexer.specs.Name.{is_nmstart, is_nmchar, folded_char, nmstart_char_of, nmchar_char_of, ident_escape_of, escaped_of, either, nmstart_of, nmchar_of, char_taken, chars_end, chars_text, chars_of, lower, name_from, dash, name_of, ident_of, identstring_of}
 use Rattle.lexer.specs.Number.{is_digit, one_digit, digits}
 use Rattle.lexer.specs.Number as numbers
@@ -386,7 +387,7 @@ char-takes : Takes char_taken is_nmchar
 unfolding char_taken nmchar_of nmchar_char_of folded_char ident_escape_of
 char-takes s e = rw e (by-test (is_nmchar (get_or s 0 0)) _)
   where
-    by-test : (b : Bool) (x : ℕ) → taken_of (either (pick b (Value 1 x) NoScalar) (pick false (escaped_of (drop 1 s)) NoScalar)) ≡ pick b 1 0
+    by-test : (b : Bool) (x : ℕ) → taken_of (either (pick b (option.Some (record { taken = 1; value = x })) None) (pick false (escaped_of (drop 1 s)) None)) ≡ pick b 1 0
     by-test true x = unfold taken_of either pick in refl
     by-test false x = unfold taken_of either pick in refl
 
@@ -592,9 +593,9 @@ data NameIn (v : Balanced) (t : List ℕ) : Parsed (List ℕ) → Type 0 where
 name_in : (t : List ℕ) → Halts t → (v : Balanced) → NameIn v t (name_of (written_balanced v ++ t))
 name_in t h v = by-start (nmstart_of (drop (dash (written_balanced v ++ t)) (written_balanced v ++ t))) refl
   where
-    by-start : (x : Scalar) → nmstart_of (drop (dash (written_balanced v ++ t)) (written_balanced v ++ t)) ≡ x → NameIn v t (name_of (written_balanced v ++ t))
-    by-start (Value n y) e = subst (NameIn v t) (sym (name-some (written_balanced v ++ t) n y e)) (named _ _ (eat-chars v t h))
-    by-start NoScalar e = subst (NameIn v t) (sym (name-none (written_balanced v ++ t) e)) unnamed
+    by-start : (x : Option Scalar) → nmstart_of (drop (dash (written_balanced v ++ t)) (written_balanced v ++ t)) ≡ x → NameIn v t (name_of (written_balanced v ++ t))
+    by-start (option.Some c) e = subst (NameIn v t) (sym (name-some (written_balanced v ++ t) c.taken c.value e)) (named _ _ (eat-chars v t h))
+    by-start None e = subst (NameIn v t) (sym (name-none (written_balanced v ++ t) e)) unnamed
 
 -- characters of names take plain characters alone, or there are none
 chars-in : (t : List ℕ) → Halts t → (v : Balanced) → NameIn v t (chars_of (written_balanced v ++ t))
@@ -987,7 +988,7 @@ letter-named : (x : ℕ) (l : List ℕ) → whitespace_item (x ∷ l) ≡ 0 → 
     → ident_of (x ∷ l) ≡ ok (0 + chars_end (x ∷ l)) (chars_text (x ∷ l))
 letter-named x l i d n = skips (skips-blank [] (x ∷ l) none i) (name-some (x ∷ l) 1 (lower x) start)
   where
-    start : nmstart_of (drop (dash (x ∷ l)) (x ∷ l)) ≡ Value 1 (lower x)
+    start : nmstart_of (drop (dash (x ∷ l)) (x ∷ l)) ≡ option.Some (record { taken = 1; value = lower x })
     start = unfold dash pick in rw d (start_plain (x ∷ l) n ∙ char-plain (x ∷ l) (nmstart-nmchar x n))
 
     skips : skip_whitespace (x ∷ l) ≡ 0 → name_of (x ∷ l) ≡ ok (chars_end (x ∷ l)) (chars_text (x ∷ l)) → ident_of (x ∷ l) ≡ ok (0 + chars_end (x ∷ l)) (chars_text (x ∷ l))

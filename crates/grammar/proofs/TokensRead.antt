@@ -20,7 +20,7 @@ use Rattle.combinators.proofs.Repeats.{many-stop, texts-stop}
 use Rattle.characters.specs.Literal.{text}
 use Rattle.characters.specs.Utf8.{utf8, scalar_of, scalar_by, lead_of, taken_of}
 use Rattle.characters.specs.WhiteSpace.{member}
-use Rattle.characters.specs.declared.utf8.Scalar.TheVariants.{Value, NoScalar}
+use Rattle.std.specs.Prelude.{Some, None}
 use Rattle.lexer.specs.Name.{is_nmstart, is_nmchar, lower, nmstart_char_of, nmchar_char_of, nmstart_of, nmchar_of, char_taken, char_text, chars_end, chars_text, chars_of, dash, name_of, ident_of, identstring_of}
 use Rattle.lexer.specs.Number.{is_digit, one_digit, digits}
 use Rattle.lexer.specs.Number as numbers
@@ -61,7 +61,7 @@ module _ (b : Blanks) (t : List ℕ) (n : ℕ) (k : Token) (h : Begins t n k) wh
   token-read = rw (token-skips, drop-append_seam b.bytes t, h.reads)
 
 -- a byte of ASCII is a character
-ascii-scalar : (x : ℕ) (l : List ℕ) → x ≤ 0x7f → scalar_of (x ∷ l) ≡ Value 1 x
+ascii-scalar : (x : ℕ) (l : List ℕ) → x ≤ 0x7f → scalar_of (x ∷ l) ≡ Some (record { taken = 1; value = x })
 unfolding scalar_of scalar_by lead_of pick is
 ascii-scalar x l h = rw (is-no (suc (length l)) 0 (λ z. omega arith), le-leb x 0x7f h)
 
@@ -222,7 +222,7 @@ unfolding ident_code_point ident_start letter is_nmchar is_nmstart
 code-point-nmchar x = or_turned _ _ _ _
 
 -- no character of a name is read where a name ends
-unread : (t : List ℕ) → NameEnds t → nmchar_of t ≡ NoScalar
+unread : (t : List ℕ) → NameEnds t → nmchar_of t ≡ None
 unfolding nmchar_of nmchar_char_of
 unread t h =
     let p = char-no is_nmchar t _ refl _ refl (sym (code-point-nmchar _) ∙ h.no-character) in
@@ -423,7 +423,7 @@ module _ (m u : List ℕ) where
   from-none e p = rw (behind-blank m u, e, drop-append_seam m u, p, take-append_seam m u)
 
 -- no character that does not start a name is read as one that does
-no_start : (t : List ℕ) → ident_start (get_or t 0 0) ≡ false → is (get_or t 0 0) ascii.reverse_solidus ≡ false → nmstart_of t ≡ NoScalar
+no_start : (t : List ℕ) → ident_start (get_or t 0 0) ≡ false → is (get_or t 0 0) ascii.reverse_solidus ≡ false → nmstart_of t ≡ None
 unfolding nmstart_of nmstart_char_of
 no_start t e d =
     let p = char-no is_nmstart t _ refl _ refl (sym (start-nmstart (get_or t 0 0)) ∙ e) in
@@ -452,18 +452,18 @@ no_name t e =
     let m = neither (is (get_or t 0 0) ascii.reverse_solidus) _ n.1 in
     name-none t (by-dash t (is (get_or t 0 0) ascii.hyphen_minus) refl (no_start t n.0 m.0) m.1)
   where
-    undashed : (t : List ℕ) → is (get_or t 0 0) ascii.hyphen_minus ≡ false → nmstart_of t ≡ NoScalar → nmstart_of (drop (dash t) t) ≡ NoScalar
+    undashed : (t : List ℕ) → is (get_or t 0 0) ascii.hyphen_minus ≡ false → nmstart_of t ≡ None → nmstart_of (drop (dash t) t) ≡ None
     undashed t e p = unfold dash pick in rw e p
 
-    dashes : (t : List ℕ) → is (get_or t 0 0) ascii.hyphen_minus ≡ true → nmstart_of (drop 1 t) ≡ NoScalar → nmstart_of (drop (dash t) t) ≡ NoScalar
+    dashes : (t : List ℕ) → is (get_or t 0 0) ascii.hyphen_minus ≡ true → nmstart_of (drop 1 t) ≡ None → nmstart_of (drop (dash t) t) ≡ None
     dashes t e p = unfold dash pick in rw e p
 
     goes_on : (b : Bool) → and true (not b) ≡ false → b ≡ true
     goes_on true e = refl
     goes_on false e = unfold and in never (sym e)
 
-    by-dash : (t : List ℕ) (d : Bool) → is (get_or t 0 0) ascii.hyphen_minus ≡ d → nmstart_of t ≡ NoScalar
-        → and d (not (or (is_digit (get_or t 1 0)) (is (get_or t 1 0) ascii.full_stop))) ≡ false → nmstart_of (drop (dash t) t) ≡ NoScalar
+    by-dash : (t : List ℕ) (d : Bool) → is (get_or t 0 0) ascii.hyphen_minus ≡ d → nmstart_of t ≡ None
+        → and d (not (or (is_digit (get_or t 1 0)) (is (get_or t 1 0) ascii.full_stop))) ≡ false → nmstart_of (drop (dash t) t) ≡ None
     by-dash t true d p e =
         let g = number-goes-on (get_or t 1 0) (goes_on _ e) in
         dashes t d (no_start (drop 1 t) (ap ident_start (first t 1) ∙ g.0) (ap (λ (z : ℕ). is z ascii.reverse_solidus) (first t 1) ∙ g.1))

@@ -16,10 +16,11 @@ use Rattle.syntax.specs.RuleLayout.{star_kind, class_kind, element_kind, hash_ki
 use Rattle.page.specs.Path.{Path}
 use Rattle.compiled.specs.Decoded.{Decoded, read, fault, on_decoded, and_then, mapped}
 use Rattle.compiled.specs.Number.{group_values, number_at, ranged_at}
-use Rattle.compiled.specs.Text.{Span, span_at, text_in}
-use Rattle.compiled.specs.Component.{name, is_mark, is_name, name_at, body_at, written_at, named_of, component_in, component_at}
-use Rattle.compiled.specs.declared.numbers.NumberAnswer.TheVariants as number
-use Rattle.compiled.proofs.Answers.{number_read}
+use Rattle.compiled.specs.Text.{span_at, text_in}
+use Rattle.compiled.specs.declared.texts.Span.{Span}
+use Rattle.compiled.specs.Component.{is_mark, is_name, name_at, body_at, written_at, named_of, component_in, component_at}
+use Rattle.compiled.specs.declared.components.Written.TheVariants.{Name}
+use Rattle.compiled.proofs.Answers.{got, answer_read}
 use Rattle.compiled.proofs.Following.{then-read}
 use Rattle.compiled.proofs.NumberReading.{reading-one}
 use Rattle.segments.specs.Segments.{piece, tested}
@@ -83,7 +84,7 @@ module _ (code : List ℕ) where
   -- ---- what is read
   -- a byte without its top bit is the number
   pub number-one : (i v : ℕ) → i < length code → get_or code i 0 ≡ v → v < group_values → number_at code i ≡ read (i + 1) v
-  number-one i v l e h = number_read (number_at code i) (number.Number (i + 1) v) (reading-one code i v (sym e) l h _ refl).0 (i + 1) v refl
+  number-one i v l e h = answer_read (number_at code i) (got (i + 1) v) (reading-one code i v (sym e) l h _ refl).0 (record { next = i + 1; value = v }) refl
 
   -- a text whose length is such a byte lies behind it
   span-one : (i v : ℕ) → i < length code → get_or code i 0 ≡ v → v < group_values → (n : ℕ) (x : Span) → span_at code i ≡ read n x
@@ -116,7 +117,7 @@ module _ (code : List ℕ) where
     name-fails h row f t = rw (name-read h) (go (span_at code (at + 1)) f)
       where
         go : (d : Decoded Span) → ((n : ℕ) (x : Span) → d ≡ read n x → false ≡ tested row (named_of kind (text_in code x)))
-            → on_decoded (mapped piece (mapped (component_in code) (mapped (λ x. name kind x) d)))
+            → on_decoded (mapped piece (mapped (component_in code) (mapped (λ x. Name kind x) d)))
             (λ n x. on_piece x (λ c. and (tested row c) (tests_pass code row t n)) (λ _. false) (λ _. false)) (λ _. false) ≡ false
         go (read n x) g = unfold mapped on_decoded component_in on_piece and in rw (named-test kind (text_in code x), ← g n x refl)
         go (fault p) g = unfold mapped on_decoded in refl

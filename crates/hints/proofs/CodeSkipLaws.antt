@@ -28,7 +28,7 @@ use Rattle.segments.proofs.PassLaws.{pass-more}
 pub record Skipping (code : List ℕ) (h : Hint) (above own width : ℕ) (state₀ : List ℕ) (first count : ℕ) (state : List ℕ) (p left : ℕ) : Type 0 where
   pub skips : (e : Element) → Fits h e → Skips code (e ∷ []) above own width state₀ first count state p left
   pub long : length state ≡ length state₀
-  pub lent : SkipLent code state above own width p
+  pub lent : SkipLent code state (record { above = above; own = own; width = width }) p
   pub held : above + width ≤ length state
   pub fewer : left ≤ count
 
@@ -38,7 +38,7 @@ module _ (code : List ℕ) (h : Hint) (above own width : ℕ) (state₀ : List �
   skip-none e fit = record { stored = refl; matched = refl }
 
   -- before the first selector the state is as it was lent, and all are left
-  pub skip-begin : SkipLent code state₀ above own width first → above + width ≤ length state₀ → Skipping code h above own width state₀ first count state₀ first count
+  pub skip-begin : SkipLent code state₀ (record { above = above; own = own; width = width }) first → above + width ≤ length state₀ → Skipping code h above own width state₀ first count state₀ first count
   skip-begin l w = record { skips = skip-none; long = refl; lent = l; held = w; fewer = omega arith }
 
   module _ (state : List ℕ) (p left : ℕ) (v : Skipping code h above own width state₀ first count state p left) (more : 0 < left) (some : 0 < p)

@@ -17,8 +17,10 @@ use Rattle.syntax.specs.Signed.{signed_of}
 use Rattle.page.specs.Path.{Element, Path}
 use Rattle.compiled.specs.Decoded.{read, fault, on_decoded, and_then, mapped}
 use Rattle.compiled.specs.Number.{group_values, number_at, ranged_at}
-use Rattle.compiled.specs.Text.{Span, span_at, text_in}
-use Rattle.compiled.specs.Component.{name, is_mark, is_name, name_at, second_number_at, numbers_at, body_at, written_at, mark_of, named_of, component_in, component_at}
+use Rattle.compiled.specs.Text.{span_at, text_in}
+use Rattle.compiled.specs.declared.texts.Span.{Span}
+use Rattle.compiled.specs.Component.{is_mark, is_name, name_at, second_number_at, numbers_at, body_at, written_at, mark_of, named_of, component_in, component_at}
+use Rattle.compiled.specs.declared.components.Written.TheVariants.{Name}
 use Rattle.compiled.specs.Sheet.{compiled_limit}
 use Rattle.compiled.proofs.Following.{then-read}
 use Rattle.segments.specs.Segments.{test, direct, piece, tested}
@@ -28,7 +30,9 @@ use Rattle.segments.specs.Visits.{to_next, to_awaited, to_flags, block_bytes, Vi
 use Rattle.sweeps.specs.Swept.{swept_one, swept_behind}
 use Rattle.visits.specs.Visiting.{block_stored}
 use Rattle.hints.specs.Hints.{Fits, TestFails, TestsFail}
-use Rattle.hints.specs.Skipping.{TestThere, StepFails, to_step_mark, to_step_tests, to_step_end, StepStays}
+use Rattle.std.proofs.Common.{Option, Some, None}
+use Rattle.std.specs.Option.{IfSome}
+use Rattle.hints.specs.Skipping.{TestThere, BehindChild, BehindStep, StepFails, to_step_mark, to_step_tests, to_step_end, StepStays}
 use Rattle.hints.specs.declared.hints.Hint.{Hint}
 use Rattle.sweeps.specs.declared.sweeping.Swept.{Swept}
 use Rattle.hints.proofs.CodeFailLaws.{name-kind, number-one, name-read}
@@ -54,15 +58,16 @@ module _ (code : List ℕ) where
   test-there at kind size l ek es few b n =
       let k = name-kind kind n in
       let v : Span = record { start = at + 1 + 1; size = size } in
-      let c : component_at code at ≡ mapped (component_in code) (mapped (λ x. name kind x) (span_at code (at + 1))) = name-read code at kind k.0 (omega (arith, l)) (sym ek) k.1 in
+      let c : component_at code at ≡ mapped (component_in code) (mapped (λ x. Name kind x) (span_at code (at + 1))) = name-read code at kind k.0 (omega (arith, l)) (sym ek) k.1 in
       let s : span_at code (at + 1) ≡ read (at + 1 + 1 + size) v = span-there (at + 1) size l (sym es) few (omega (arith, b)) in
       let m : at + 1 + 1 + size ≡ at + (2 + size) = omega arith in
-      let t : mapped piece (mapped (component_in code) (mapped (λ x. name kind x) (read (at + 1 + 1 + size) v))) ≡ read (at + 1 + 1 + size) (test (named_of kind (text_in code v))) =
+      let t : mapped piece (mapped (component_in code) (mapped (λ x. Name kind x) (read (at + 1 + 1 + size) v))) ≡ read (at + 1 + 1 + size) (test (named_of kind (text_in code v))) =
       unfold mapped component_in in rw (named-test kind (text_in code v)) in
       record {
         asks = named_of kind (text_in code v);
         told = rw (c, s) t ∙ ap (λ (i : ℕ). read i (test (named_of kind (text_in code v)))) m;
         inside = omega (arith, b);
+        few = omega (arith, few);
       }
 
   -- ---- a return of `test_size`
@@ -83,6 +88,7 @@ module _ (code : List ℕ) where
           y,
         );
         inside = omega (arith, l);
+        few = omega arith;
       }
 
   -- ---- the returns of `tests_fail`
@@ -109,9 +115,9 @@ module _ (code : List ℕ) where
 
   -- ---- the return of `behind_child`
   -- a byte of the child combinator's kind is read as a child step
-  pub child-there : (at : ℕ) → at < length code → get_or code at 0 ≡ child_kind → piece_at code at ≡ read (at + 1) direct
+  pub child-there : (at : ℕ) → at < length code → get_or code at 0 ≡ child_kind → BehindChild code at (at + 1)
   unfolding piece_at component_at written_at ranged_at and_then body_at is_mark component_in mark_of piece mapped pick or is
-  child-there at l e = rw (number-one code at child_kind l e (omega arith), within-yes child_kind star_kind attribute_equal_kind (omega arith) (omega arith))
+  child-there at l e = record { told = rw (number-one code at child_kind l e (omega arith), within-yes child_kind star_kind attribute_equal_kind (omega arith) (omega arith)); far = omega arith; inside = omega arith }
 
   -- ---- a compound that may not end here
   -- a test in a compound that may not end here changes nothing
@@ -140,16 +146,19 @@ module _ (code : List ℕ) where
         }
 
     -- behind the child step the compound is passed: it does not end here, and its left neighbour begins there
-    pub step-child : (r : ℕ) → piece_at code i ≡ read r direct → (row : Path) → compound_at code row (length code) false first ≡ record { ends = false; place = r }
-    step-child r e row =
-        let d : left ≡ suc (left - 1) = omega arith in
-        sym (v.whole row) ∙ ap (λ (k : ℕ). compound_at code row k false i) d ∙ compound-child row (left - 1) i r e
+    pub step-child : (r : Option ℕ) → IfSome r (λ place. BehindChild code i place) → IfSome r (λ place. BehindStep code first place)
+    step-child (Some r) e = record { told = (λ row. whole-child row r e.told); far = e.far; inside = e.inside }
+      where
+        whole-child : (row : Path) (r : ℕ) → piece_at code i ≡ read r direct → compound_at code row (length code) false first ≡ record { ends = false; place = r }
+        whole-child row r e =
+            let d : left ≡ suc (left - 1) = omega arith in
+            sym (v.whole row) ∙ ap (λ (k : ℕ). compound_at code row k false i) d ∙ compound-child row (left - 1) i r e
+    step-child None e = tt
 
 -- ---- the return of `step_fails`
 -- a step fails where the compound does not end here and the tests of the one behind it fail by the hint
-pub step-fails : (code : List ℕ) (at tests : ℕ) (h : Hint) (place : ℕ) → 0 < place
-    → ((row : Path) → compound_at code row (length code) false at ≡ record { ends = false; place = place }) → TestsFail code place tests h → StepFails code at tests h
-step-fails code at tests h place f b t = record { place = place; far = f; behind = b; fails = t }
+pub step-fails : (code : List ℕ) (at tests : ℕ) (h : Hint) (place : ℕ) → BehindStep code at place → TestsFail code place tests h → StepFails code at tests h
+step-fails code at tests h place b t = record { place = place; far = b.far; behind = b.told; fails = t }
 
 -- ---- the return of `step_stays`
 -- a block with a flag of 0 and a mark behind it, whose step fails by the hint, stays

@@ -1,6 +1,6 @@
 -- What the words of classes and the names of attributes begin with, gathered one by one.
-use Prim.Native.Nat.{ℕ, ◌+◌, ◌-◌, ◌≤◌, ◌<◌}
-use mathlib.Core.Path.{◌≡◌, refl, sym, ap, ◌∙◌}
+use Prim.Native.Nat.{ℕ, suc, ◌+◌, ◌-◌, ◌≤◌, ◌<◌}
+use mathlib.Core.Path.{◌≡◌, refl, sym, ap, ap₂, ◌∙◌}
 use mathlib.Core.Bool.{Bool, true, false}
 use mathlib.Core.List.{List, [], ◌∷◌}
 use mathlib.Core.Logic.{◌⊎◌, inl, inr, ⊎_elim}
@@ -11,7 +11,7 @@ use Rattle.combinators.specs.Part.{part}
 use Rattle.combinators.specs.Repeat.{many}
 use Rattle.combinators.specs.Word.{same_text}
 use Rattle.combinators.proofs.Lists.{first}
-use Rattle.combinators.proofs.Rules.{never, either, or_left, is-yes, is_true}
+use Rattle.combinators.proofs.Rules.{never, either, or_left, or-gives, is-yes, is_true}
 use Rattle.combinators.proofs.Words.{same-is}
 use Rattle.characters.specs.Trim.{white_taken, word_taken}
 use Rattle.cascade.proofs.Cascading.{or-second}
@@ -21,7 +21,7 @@ use Rattle.page.specs.Rows.{attribute_at, attribute_name, attribute_value}
 use Rattle.matching.specs.Matches.{any_attribute, is_class, is_named}
 use Rattle.matching.specs.Rows.{attribute_of}
 use Rattle.matching.specs.Texts.{has_word}
-use Rattle.matching.proofs.AttributeLaws.{named, class-named, class-other, Looking, look-begin, any-end, any-more}
+use Rattle.matching.proofs.AttributeLaws.{named, class-named, class-other}
 use Rattle.matching.proofs.Words.{Splitting, split-begin, split-end, split-none, split-more}
 use Rattle.hints.specs.Hints.{no_byte, any_byte, may_begin, Keeps}
 use Rattle.hints.specs.declared.hints.Starts.{Starts}
@@ -148,6 +148,49 @@ module _ (attributes names : List ℕ) (row start size : ℕ) (es : start ≡ (a
   -- an attribute that is no `class` has no classes, and nothing changes
   pub classes-none : t ≡ false → Classes starts
   classes-none h = ((λ b x. x), (λ c x. never (class-other attributes names row c t is-class h ∙ x)))
+
+-- ---- asking the attributes one by one: `ask` is what is asked of the list
+
+-- at the i-th: what is left answers for the whole
+pub record Looking (ask : List Attribute → Bool) (attributes names : List ℕ) (at count i : ℕ) : Type 0 where
+  pub within_count : i ≤ count
+  pub left : ask (attributes_from attributes names (count - i) (at + i)) ≡ ask (attributes_from attributes names count at)
+
+module _ (ask : List Attribute → Bool) (attributes names : List ℕ) (at count : ℕ) where
+  -- before the first attribute all of them are left, and answer for themselves
+  look-begin : Looking ask attributes names at count 0
+  look-begin =
+      let n : count - 0 ≡ count = omega arith in
+      let k : at + 0 ≡ at = omega arith in
+      record { within_count = omega arith; left = ap₂ (λ (x y : ℕ). ask (attributes_from attributes names x y)) n k }
+
+  -- once all attributes were asked, the answer is that of none left
+  looked : (i : ℕ) → Looking ask attributes names at count i → count ≤ i → ask [] ≡ ask (attributes_from attributes names count at)
+  unfolding attributes_from
+  looked i v h = let z : count - i ≡ 0 = omega arith in sym (ap (λ (k : ℕ). ask (attributes_from attributes names k (at + i))) z) ∙ v.left
+
+  -- one is asked, and those behind it
+  opened : (i : ℕ) → Looking ask attributes names at count i → i < count
+      → ask (attribute_of attributes names (at + i) ∷ attributes_from attributes names (count - (i + 1)) (at + (i + 1))) ≡ ask (attributes_from attributes names count at)
+  unfolding attributes_from attribute_of
+  opened i v h =
+      let z : count - i ≡ suc (count - (i + 1)) = omega arith in
+      let y : at + (i + 1) ≡ at + i + 1 = omega arith in
+      ap (λ (k : ℕ). ask (attribute_of attributes names (at + i) ∷ attributes_from attributes names (count - (i + 1)) k)) y
+      ∙ sym (ap (λ (k : ℕ). ask (attributes_from attributes names k (at + i))) z) ∙ v.left
+
+-- any attribute that passes
+module _ (f : Attribute → Bool) (attributes names : List ℕ) (at count i : ℕ) (v : Looking (any_attribute f) attributes names at count i) where
+  -- with no attribute left, none passes
+  any-end : count ≤ i → false ≡ any_attribute f (attributes_from attributes names count at)
+  unfolding any_attribute
+  any-end h = looked (any_attribute f) attributes names at count i v h
+
+  module _ (h : i < count) (t : Bool) (e : t ≡ f (attribute_of attributes names (at + i))) where
+    -- where an attribute does not pass, those behind it answer for all
+    any-more : t ≡ false → Looking (any_attribute f) attributes names at count (i + 1)
+    unfolding any_attribute
+    any-more p = record { within_count = omega arith; left = or-gives _ _ _ (sym e ∙ p) refl ∙ opened (any_attribute f) attributes names at count i v h }
 
 -- ---- the loops of `class_starts` and `name_starts`, where f is what a text asks of an attribute
 pub record Gathering (f : List ℕ → Attribute → Bool) (attributes names : List ℕ) (count : ℕ) (starts : Starts) (i : ℕ) : Type 0 where

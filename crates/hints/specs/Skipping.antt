@@ -5,14 +5,15 @@ use Rattle.syntax.specs.Selector.{Component}
 use Rattle.page.specs.Path.{Path}
 use Rattle.compiled.specs.Decoded.{read}
 use Rattle.compiled.specs.Sheet.{compiled_limit}
-use Rattle.segments.specs.Segments.{test}
-use Rattle.segments.specs.Sweep.{pair_at, piece_at, compound_at, with_tests}
+use Rattle.segments.specs.Segments.{direct, test}
+use Rattle.segments.specs.Sweep.{byte_values, pair_at, piece_at, compound_at, with_tests}
 use Rattle.segments.specs.Visits.{to_awaited, to_flags}
 use Rattle.visits.specs.Visiting.{to_tests, to_end}
 use Rattle.segments.specs.Parts.{Apart}
 use Rattle.segments.specs.Pass.{pass_from}
 use Rattle.visits.specs.Passing.{pass_stored}
 use Rattle.hints.specs.Hints.{TestsFail}
+use Rattle.sweeps.specs.declared.sweeping.Parts.{Parts}
 use Rattle.hints.specs.declared.hints.Hint.{Hint}
 
 -- the block of the selector at p, in the part that begins at `above`: the part holds it whole, it awaits a compound with a mark, and the tests of that compound surely fail
@@ -27,6 +28,19 @@ pub record TestThere (code : List ℕ) (at size : ℕ) : Type 0 where
   pub asks : Component
   pub told : piece_at code at ≡ read (at + size) (test asks)
   pub inside : at + size ≤ length code
+  pub few : size < byte_values
+
+-- behind the child step at a place
+pub record BehindChild (code : List ℕ) (at place : ℕ) : Type 0 where
+  pub told : piece_at code at ≡ read place direct
+  pub far : 0 < place
+  pub inside : place ≤ length code
+
+-- behind the child step that a compound at a place stands at, which may not end here
+pub record BehindStep (code : List ℕ) (at place : ℕ) : Type 0 where
+  pub told : (row : Path) → compound_at code row (length code) false at ≡ record { ends = false; place = place }
+  pub far : 0 < place
+  pub inside : place ≤ length code
 
 -- a compound at a place may not end here, and what stands behind its child step is the place of another, whose tests surely fail
 pub record StepFails (code : List ℕ) (at tests : ℕ) (h : Hint) : Type 0 where
@@ -54,9 +68,9 @@ pub record StepStays (code state : List ℕ) (above width p : ℕ) (h : Hint) : 
   pub fails : StepFails code (pair_at state (above + p + to_awaited)) (pair_at state (above + p + to_step_tests)) h
 
 -- the own part has room and stands apart from the parent's; the bytes are no more than those of a sheet, and the place of a selector is one of them
-pub record SkipLent (code state : List ℕ) (above own width p : ℕ) : Type 0 where
-  pub room : own + width ≤ length state
-  pub apart : Apart above own width
+pub record SkipLent (code state : List ℕ) (parts : Parts) (p : ℕ) : Type 0 where
+  pub room : parts.own + parts.width ≤ length state
+  pub apart : Apart parts.above parts.own parts.width
   pub few_bytes : length code ≤ compiled_limit
   pub near : p ≤ compiled_limit
 

@@ -2,7 +2,6 @@
 ghost use Rattle.std.specs.Prelude.{◌≡◌, true, false, List, ℕ, ◌<◌, get_or};
 ghost use Rattle.page.specs.PathOf.{attributes_from};
 ghost use Rattle.page.specs.Rows.{attribute_rows};
-ghost use Rattle.compiled.specs.Component.{is_name};
 ghost use Rattle.matching.specs.Matches.{is_class};
 ghost use Rattle.matching.specs.Rows.{attribute_of};
 ghost use Rattle.matching.specs.Texts.{has_word};
@@ -15,10 +14,10 @@ use matching::texts::{part_is, white_space_length, word_length};
 use page::rows::{
     ATTRIBUTE_WIDTH, attribute_name, attribute_name_length, attribute_name_start, attribute_value,
 };
-use sweeps::parts::wide;
+use sweeps::elements::Handed;
 use syntax::rows::{ATTRIBUTE, CLASS, ELEMENT, HASH};
 
-// In place of a byte: there is none, and there may be any.
+// In place of a byte: there is none, and there may be any. They are numbers beside those of bytes, so that each test is one comparison.
 const NO_BYTE: usize = 256;
 
 const ANY_BYTE: usize = 257;
@@ -32,13 +31,13 @@ const CLASS_NAME: [u8; 5] = *b"class";
 const ID_START: usize = 0x69;
 
 // What texts begin with: at most two bytes, or any.
-#[derive(Clone, Copy)]
+#[derive(Clone, Copy, PartialEq, Eq)]
 pub struct Starts {
     pub one: usize,
     pub two: usize,
 }
 
-#[derive(Clone, Copy)]
+#[derive(Clone, Copy, PartialEq, Eq)]
 pub struct Hint {
     pub size: usize,
     pub first: usize,
@@ -51,13 +50,7 @@ fn begins_none(starts: Starts, byte: usize) -> bool
     requires { byte < byte_values }
     ensures { result ≡ true → may_begin starts byte ≡ false }
 {
-    if starts.one == ANY_BYTE {
-        return false;
-    }
-    if starts.one == byte {
-        return false;
-    }
-    if starts.two == byte {
+    if starts.one == ANY_BYTE || starts.one == byte || starts.two == byte {
         return false;
     }
     true
@@ -122,7 +115,7 @@ fn with_words(s: &[u8], begun: Starts) -> Starts
         if n == 0 {
             return starts;
         }
-        starts = with_start(starts, wide(peek(s, start)));
+        starts = with_start(starts, usize::from(peek(s, start)));
         i = start + n;
     }
     starts
@@ -150,10 +143,8 @@ fn class_starts(attributes: &[u32], text: &[u8]) -> Starts
         one: NO_BYTE,
         two: NO_BYTE,
     };
-    let mut i = 0;
-    while i < count {
-        starts = with_classes(attributes, text, i, starts);
-        i += 1;
+    for row in 0..count {
+        starts = with_classes(attributes, text, row, starts);
     }
     starts
 }
@@ -167,33 +158,32 @@ fn name_starts(attributes: &[u32], text: &[u8]) -> Starts
         one: NO_BYTE,
         two: NO_BYTE,
     };
-    let mut i = 0;
-    while i < count {
-        let name = attribute_name(attributes, text, i);
-        starts = with_start(starts, wide(peek(name, 0)));
-        i += 1;
+    for row in 0..count {
+        let name = attribute_name(attributes, text, row);
+        starts = with_start(starts, usize::from(peek(name, 0)));
     }
     starts
 }
 
 // The hint for an element at which so many selectors are gone over: for a few, attributes are not looked at.
-pub fn hint_of(name: &[u8], attributes: &[u32], text: &[u8], selectors: u32) -> Hint
-    ensures { (place : ℕ) → Fits result (handed_element name.now attributes.now text.now place) }
+pub fn hint_of(element: Handed<'_>, selectors: u32) -> Hint
+    ensures { (place : ℕ) → Fits result (handed_element element.entry.name.now element.entry.attributes.now element.entry.text.now place) }
 {
-    let first = wide(peek(name, 0));
+    let size = element.name.len();
+    let first = usize::from(peek(element.name, 0));
     if selectors < SELECTORS {
-        let starts = starts_by_count(attributes);
+        let starts = starts_by_count(element.attributes);
         return Hint {
-            size: name.len(),
+            size,
             first,
             classes: starts,
             names: starts,
         };
     }
-    let classes = class_starts(attributes, text);
-    let names = name_starts(attributes, text);
+    let classes = class_starts(element.attributes, element.text);
+    let names = name_starts(element.attributes, element.text);
     Hint {
-        size: name.len(),
+        size,
         first,
         classes,
         names,
@@ -205,44 +195,11 @@ pub fn name_fails(kind: usize, size: usize, byte: usize, hint: Hint) -> bool
     requires { byte < byte_values }
     ensures { result ≡ true → NameFails hint kind size byte }
 {
-    if kind == ELEMENT as usize {
-        if size != hint.size {
-            return true;
-        }
-        if byte != hint.first {
-            return true;
-        }
-        return false;
+    match u32::try_from(kind) {
+        Ok(ELEMENT) => size != hint.size || byte != hint.first,
+        Ok(CLASS) => begins_none(hint.classes, byte),
+        Ok(HASH) => begins_none(hint.names, ID_START),
+        Ok(ATTRIBUTE) => begins_none(hint.names, byte),
+        _ => false,
     }
-    if kind == CLASS as usize {
-        let classes = hint.classes;
-        return begins_none(classes, byte);
-    }
-    let names = hint.names;
-    if kind == HASH as usize {
-        return begins_none(names, ID_START);
-    }
-    if kind == ATTRIBUTE as usize {
-        return begins_none(names, byte);
-    }
-    false
-}
-
-// Whether a component of a kind has one text.
-pub fn has_name(kind: usize) -> bool
-    ensures { result ≡ true → is_name kind ≡ true }
-{
-    if kind == CLASS as usize {
-        return true;
-    }
-    if kind == ELEMENT as usize {
-        return true;
-    }
-    if kind == HASH as usize {
-        return true;
-    }
-    if kind == ATTRIBUTE as usize {
-        return true;
-    }
-    false
 }

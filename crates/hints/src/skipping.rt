@@ -1,19 +1,19 @@
 // Passing over selectors at an element: those that surely fail, in one loop that reads of each no more than its block and the start of one component.
-ghost use Rattle.std.specs.Prelude.{◌≡◌, true, false, [], ◌∷◌, ◌+◌, ◌≤◌, ◌<◌, length};
+ghost use Rattle.std.specs.Prelude.{◌≡◌, true, [], ◌∷◌, ◌+◌, ◌≤◌, ◌<◌, length, IfSome};
 ghost use Rattle.std.proofs.lemmas.List.Edits.{sets};
-ghost use Rattle.page.specs.Path.{Element, Path};
-ghost use Rattle.compiled.specs.Decoded.{read};
+ghost use Rattle.page.specs.Path.{Element};
 ghost use Rattle.compiled.specs.Sheet.{compiled_limit};
-ghost use Rattle.segments.specs.Segments.{direct};
-ghost use Rattle.segments.specs.Sweep.{byte_values, pair_at, pair_bytes, piece_at, compound_at, with_tests};
+ghost use Rattle.segments.specs.Sweep.{pair_at, pair_bytes, with_tests};
 ghost use Rattle.segments.specs.Visits.{to_next, to_awaited, block_bytes};
 ghost use Rattle.segments.specs.Parts.{pair_limit};
 ghost use Rattle.visits.specs.Visiting.{to_tests, to_end};
 ghost use Rattle.hints.specs.Hints.{Fits, TestFails, TestsFail};
-ghost use Rattle.hints.specs.Skipping.{TestThere, StepFails, to_step_tests, to_step_end, BlockStays, StepStays, SkipLent, Skips};
+ghost use Rattle.hints.specs.Skipping.{TestThere, BehindChild, BehindStep, StepFails, to_step_tests, to_step_end, BlockStays, StepStays, SkipLent, Skips};
 
-use crate::hints::{Hint, has_name, name_fails};
-use sweeps::parts::{WITH_TESTS, pair_there, put_mark_there, put_pair_there, wide};
+use crate::hints::{Hint, name_fails};
+use compiled::components::is_name;
+use sweeps::parts::{WITH_TESTS, pair_there, put_mark_there, put_pair_there};
+use sweeps::sweeping::Parts;
 use syntax::rows::{CHILD, NTH};
 use visits::passing::NO_PLACE;
 use visits::visiting::{TO_AWAITED, TO_END, TO_FLAGS, TO_NEXT, TO_TESTS, put_marked};
@@ -41,7 +41,7 @@ const NTH_SIZE: usize = 3;
 const ONE_GROUP: usize = 128;
 
 // The place of a selector, and how many are left from there on.
-#[derive(Clone, Copy)]
+#[derive(Clone, Copy, PartialEq, Eq)]
 pub struct Skipped {
     pub place: usize,
     pub left: u32,
@@ -53,53 +53,43 @@ fn test_fails(compiled: &[u8], at: usize, hint: Hint) -> bool
     ensures { result ≡ true → TestFails compiled.now at hint }
 {
     if at + TO_WORD < compiled.len() {
-        let kind = wide(compiled[at]);
-        let size = wide(compiled[at + TO_SIZE]);
-        let byte = wide(compiled[at + TO_WORD]);
-        if size > 0 {
-            if size < ONE_GROUP {
-                return name_fails(kind, size, byte, hint);
-            }
+        let kind = usize::from(compiled[at]);
+        let size = usize::from(compiled[at + TO_SIZE]);
+        let byte = usize::from(compiled[at + TO_WORD]);
+        if 0 < size && size < ONE_GROUP {
+            return name_fails(kind, size, byte, hint);
         }
     }
     false
 }
 
-// How many bytes the component of one text at `at` takes, where its kind and its length are numbers of one group; of any other 0.
-fn name_size(compiled: &[u8], at: usize) -> usize
+// How many bytes the component of one text at `at` takes, where its kind and its length are numbers of one group.
+fn name_size(compiled: &[u8], at: usize) -> Option<usize>
     requires { at ≤ compiled_limit }
-    ensures test_there { 0 < result → TestThere compiled.now at result }
-    ensures upper_bound { result < byte_values }
+    ensures { IfSome result (λ size. TestThere compiled.now at size) }
 {
     if at + TO_SIZE < compiled.len() {
-        let kind = wide(compiled[at]);
-        let size = wide(compiled[at + TO_SIZE]);
-        if size < ONE_GROUP {
-            if at + TO_WORD + size <= compiled.len() {
-                if has_name(kind) {
-                    return TO_WORD + size;
-                }
-            }
+        let kind = u32::from(compiled[at]);
+        let size = usize::from(compiled[at + TO_SIZE]);
+        if size < ONE_GROUP && at + TO_WORD + size <= compiled.len() && is_name(kind) {
+            return Some(TO_WORD + size);
         }
     }
-    0
+    None
 }
 
 // The same of any test that is a component of one text or an nth-child.
-fn test_size(compiled: &[u8], at: usize) -> usize
+fn test_size(compiled: &[u8], at: usize) -> Option<usize>
     requires { at ≤ compiled_limit }
-    ensures test_there { 0 < result → TestThere compiled.now at result }
-    ensures upper_bound { result < byte_values }
+    ensures { IfSome result (λ size. TestThere compiled.now at size) }
 {
-    if at + TO_SECOND < compiled.len() {
-        if wide(compiled[at]) == NTH as usize {
-            if wide(compiled[at + TO_FIRST]) < ONE_GROUP {
-                if wide(compiled[at + TO_SECOND]) < ONE_GROUP {
-                    return NTH_SIZE;
-                }
-            }
-            return 0;
+    if at + TO_SECOND < compiled.len() && u32::from(compiled[at]) == NTH {
+        let first = usize::from(compiled[at + TO_FIRST]);
+        let second = usize::from(compiled[at + TO_SECOND]);
+        if first < ONE_GROUP && second < ONE_GROUP {
+            return Some(NTH_SIZE);
         }
+        return None;
     }
     name_size(compiled, at)
 }
@@ -110,42 +100,33 @@ fn tests_fail(compiled: &[u8], at: usize, tests: usize, hint: Hint) -> bool
     requires at_le_compiled_limit { at ≤ compiled_limit }
     ensures { result ≡ true → TestsFail compiled.now at tests hint }
 {
-    if tests > 0 {
-        if test_fails(compiled, at, hint) {
-            return true;
-        }
-        if tests > 1 {
-            let size = test_size(compiled, at);
-            if size > 0 {
-                return test_fails(compiled, at + size, hint);
-            }
-        }
+    if tests == 0 {
+        return false;
+    }
+    if test_fails(compiled, at, hint) {
+        return true;
+    }
+    if tests > 1
+        && let Some(size) = test_size(compiled, at)
+    {
+        return test_fails(compiled, at + size, hint);
     }
     false
 }
 
-// Whether the block of the selector at `p` stays as it is at an element, by the parent's part, which begins at `above`.
-fn block_stays(
-    compiled: &[u8],
-    state: &[u8],
-    above: usize,
-    width: usize,
-    p: usize,
-    hint: Hint,
-) -> bool
+// Whether the block of the selector at `p` stays as it is at an element, by the parent's part.
+fn block_stays(compiled: &[u8], state: &[u8], parts: Parts, p: usize, hint: Hint) -> bool
     requires compiled_len_bound { length compiled.now ≤ compiled_limit }
-    requires width_in_bounds { above + width ≤ length state.now }
+    requires width_in_bounds { parts.above + parts.width ≤ length state.now }
     requires p_le_compiled_limit { p ≤ compiled_limit }
-    ensures { result ≡ true → BlockStays compiled.now state.now above width p hint }
+    ensures { result ≡ true → BlockStays compiled.now state.now parts.above parts.width p hint }
 {
-    if p != NO_PLACE {
-        if p + TO_END <= width {
-            let at = above + p;
-            if state[at + TO_FLAGS] == WITH_TESTS {
-                let awaited = pair_there(state, at + TO_AWAITED);
-                let tests = pair_there(state, at + TO_TESTS);
-                return tests_fail(compiled, awaited, tests, hint);
-            }
+    if p != NO_PLACE && p + TO_END <= parts.width {
+        let at = parts.above + p;
+        if state[at + TO_FLAGS] == WITH_TESTS {
+            let awaited = pair_there(state, at + TO_AWAITED);
+            let tests = pair_there(state, at + TO_TESTS);
+            return tests_fail(compiled, awaited, tests, hint);
         }
     }
     false
@@ -168,38 +149,31 @@ fn copy_block(state: &mut [u8], above: usize, own: usize, p: usize) -> usize
     next
 }
 
-// The place behind the child step at `at`, or 0 where there is none.
-fn behind_child(compiled: &[u8], at: usize) -> usize
-    ensures at_value { 0 < result → piece_at compiled.now at ≡ read result direct }
-    ensures upper_bound { result ≤ length compiled.now }
+// The place behind the child step at `at`, if there is one.
+fn behind_child(compiled: &[u8], at: usize) -> Option<usize>
+    ensures { IfSome result (λ place. BehindChild compiled.now at place) }
 {
-    if at < compiled.len() {
-        if wide(compiled[at]) == CHILD as usize {
-            return at + 1;
-        }
+    if at < compiled.len() && u32::from(compiled[at]) == CHILD {
+        Some(at + 1)
+    } else {
+        None
     }
-    0
 }
 
-// The place behind the child step that the compound at `at` stands at, where the tests before it are short ones; otherwise 0.
-fn behind_step(compiled: &[u8], first: usize) -> usize
+// The place behind the child step that the compound at `first` stands at, where the tests before it are short ones.
+fn behind_step(compiled: &[u8], first: usize) -> Option<usize>
     requires compiled_len_bound { length compiled.now ≤ compiled_limit }
     requires first_le_compiled_limit { first ≤ compiled_limit }
-    ensures first_value { 0 < result → (row : Path) → compound_at compiled.now row (length compiled.now) false first ≡ record { ends = false; place = result } }
-    ensures upper_bound { result ≤ length compiled.now }
+    ensures { IfSome result (λ place. BehindStep compiled.now first place) }
 {
-    let mut i = first;
-    let mut left = compiled.len();
-    while left > 0 {
-        let size = test_size(compiled, i);
-        if size > 0 {
-            i += size;
-            left -= 1;
-        } else {
-            return behind_child(compiled, i);
+    let mut next = first;
+    for _ in 0..compiled.len() {
+        match test_size(compiled, next) {
+            Some(size) => next += size,
+            None => return behind_child(compiled, next),
         }
     }
-    0
+    None
 }
 
 // Whether the left one of two compounds surely fails by its first test, where the right one is at `at`, and `tests` is the count of the left one. (The second is not asked: a
@@ -209,39 +183,27 @@ fn step_fails(compiled: &[u8], at: usize, tests: usize, hint: Hint) -> bool
     requires at_le_compiled_limit { at ≤ compiled_limit }
     ensures { result ≡ true → StepFails compiled.now at tests hint }
 {
-    let place = behind_step(compiled, at);
-    if place > 0 {
-        if tests > 0 {
-            return test_fails(compiled, place, hint);
-        }
+    if let Some(place) = behind_step(compiled, at)
+        && tests > 0
+    {
+        return test_fails(compiled, place, hint);
     }
     false
 }
 
 // Whether the block of a selector that awaits two compounds stays as it is, where the right one may not end here.
-fn step_stays(
-    compiled: &[u8],
-    state: &[u8],
-    above: usize,
-    width: usize,
-    p: usize,
-    hint: Hint,
-) -> bool
+fn step_stays(compiled: &[u8], state: &[u8], parts: Parts, p: usize, hint: Hint) -> bool
     requires compiled_len_bound { length compiled.now ≤ compiled_limit }
-    requires width_in_bounds { above + width ≤ length state.now }
+    requires width_in_bounds { parts.above + parts.width ≤ length state.now }
     requires p_le_compiled_limit { p ≤ compiled_limit }
-    ensures { result ≡ true → StepStays compiled.now state.now above width p hint }
+    ensures { result ≡ true → StepStays compiled.now state.now parts.above parts.width p hint }
 {
-    if p != NO_PLACE {
-        if p + TO_STEP_END <= width {
-            let at = above + p;
-            if state[at + TO_FLAGS] == 0 {
-                if state[at + TO_STEP_MARK] == WITH_TESTS {
-                    let awaited = pair_there(state, at + TO_AWAITED);
-                    let tests = pair_there(state, at + TO_STEP_TESTS);
-                    return step_fails(compiled, awaited, tests, hint);
-                }
-            }
+    if p != NO_PLACE && p + TO_STEP_END <= parts.width {
+        let at = parts.above + p;
+        if state[at + TO_FLAGS] == 0 && state[at + TO_STEP_MARK] == WITH_TESTS {
+            let awaited = pair_there(state, at + TO_AWAITED);
+            let tests = pair_there(state, at + TO_STEP_TESTS);
+            return step_fails(compiled, awaited, tests, hint);
         }
     }
     false
@@ -287,38 +249,34 @@ fn copy_step(state: &mut [u8], above: usize, own: usize, p: usize) -> usize
 pub fn skip_failing(
     compiled: &[u8],
     state: &mut [u8],
-    above: usize,
-    own: usize,
-    width: usize,
+    parts: Parts,
     first: usize,
     count: u32,
     hint: Hint,
 ) -> Skipped
-    requires { SkipLent compiled.now state.old above own width first }
-    ensures skips { (e : Element) → Fits hint e → Skips compiled.now (e ∷ []) above own width state.old first count state.new result.place result.left }
+    requires { SkipLent compiled.now state.old parts first }
+    ensures skips { (e : Element) → Fits hint e → Skips compiled.now (e ∷ []) parts.above parts.own parts.width state.old first count state.new result.place result.left }
     ensures place_le_compiled_limit { result.place ≤ compiled_limit }
     ensures left_le_count { result.left ≤ count }
 {
     let mut p = first;
-    let mut left = count;
-    if state.len() < above {
-        return Skipped { place: p, left };
+    if state.len() < parts.above || state.len() - parts.above < parts.width {
+        return Skipped {
+            place: p,
+            left: count,
+        };
     }
-    if state.len() - above < width {
-        return Skipped { place: p, left };
-    }
-    while left > 0 {
-        if block_stays(compiled, state, above, width, p, hint) {
-            p = copy_block(state, above, own, p);
-            left -= 1;
+    for done in 0..count {
+        if block_stays(compiled, state, parts, p, hint) {
+            p = copy_block(state, parts.above, parts.own, p);
+        } else if step_stays(compiled, state, parts, p, hint) {
+            p = copy_step(state, parts.above, parts.own, p);
         } else {
-            if step_stays(compiled, state, above, width, p, hint) {
-                p = copy_step(state, above, own, p);
-                left -= 1;
-            } else {
-                return Skipped { place: p, left };
-            }
+            return Skipped {
+                place: p,
+                left: count - done,
+            };
         }
     }
-    Skipped { place: p, left }
+    Skipped { place: p, left: 0 }
 }

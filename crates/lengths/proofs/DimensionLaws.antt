@@ -8,18 +8,23 @@ use native.Mathlib.Nat.{mul-le-mul_left, mul-le-mul_right, le_of_mul-le-mul_righ
 use native.Mathlib.Omega.{arith}
 use borrow.Author.Tests.{lt-ltb, le-ltb}
 use lib.Dec.{ltb}
-use lib.ListN.{length, get_or}
+use lib.ListN.{get_or}
 use Rattle.combinators.specs.Choice.{pick, or, and}
 use Rattle.combinators.proofs.Rules.{lt-or-ge, pick_true, pick-false, or_left, or_right, or-none, and_both, and_left, and_right, is-yes, is-no}
-use Rattle.values.specs.Words.{Entry, Found, found, row_at, on_found, place_of, split}
+use Rattle.values.specs.Words.{Found, found, missing, on_found, lookup}
 use Rattle.values.proofs.ColourLaws.{product-fits}
-use Rattle.values.proofs.WordLaws.{numbers_of, joined_of, lengths_of, table-place, row-none, words_of}
-use Rattle.lengths.specs.Length.{ten, most_decimals, most_number, digits_number, decimals, is_negative, is_too_fine, is_above, is_below, is_bad, ten_thousandths, with_unit, dimension_length, number_length}
+use Rattle.values.proofs.WordLaws.{mapped, lookup-mapped, on-found-as}
+use Rattle.std.proofs.lemmas.Option.{same_Some, none-some}
+use Rattle.lengths.specs.Length.{measured, ten, most_decimals, most_number, digits_number, decimals, is_negative, is_too_fine, is_above, is_below, is_bad, ten_thousandths, with_unit, dimension_length, number_length}
 use Rattle.lengths.specs.Numeral.{most_digits, capped, numeral_of}
-use Rattle.lengths.specs.Unit.{LengthUnit, units, unit_kind}
+use Rattle.lengths.specs.Unit.{LengthUnit, units}
 use Rattle.lengths.specs.declared.numerals.Numeral.{Numeral}
-use Rattle.lengths.specs.declared.answers.LengthAnswer.{LengthAnswer}
-use Rattle.lengths.specs.declared.answers.LengthAnswer.TheVariants.{NoLength, Length, BadLength}
+use Rattle.std.specs.Prelude.{Option, Some, None, Result, Ok, Err}
+use Rattle.lengths.specs.declared.answers.Kind.{Kind}
+use Rattle.lengths.specs.declared.answers.Kind.TheVariants.{Units}
+use Rattle.lengths.specs.declared.answers.Length.{Length}
+use Rattle.lengths.specs.declared.answers.LengthError.{LengthError}
+use Rattle.lengths.specs.declared.answers.LengthError.TheVariants.{BadLength}
 use Rattle.lengths.proofs.NumeralLaws.{capped-within, capped-over, capped_le}
 
 -- ---- the table of scales
@@ -133,7 +138,7 @@ module _ {A : Type 0} (b : Bool) (d v : ℕ) (bad : A) (good : ℕ → A) where
           ap good (sym k) ∙ not-below (and_right _ _ (le-ltb 0 v w))
 
 -- ---- `with_unit`: a number in ten-thousandths, times the factor of its unit
-module _ (place kind factor : ℕ) (n : List ℕ) (x : Numeral) (e : x ≡ numeral_of n) where
+module _ (place : ℕ) (kind : Kind) (factor : ℕ) (n : List ℕ) (x : Numeral) (e : x ≡ numeral_of n) where
   -- the parts of the number
   digits_are : x.digits ≡ capped (digits_number n)
   unfolding numeral_of
@@ -149,16 +154,16 @@ module _ (place kind factor : ℕ) (n : List ℕ) (x : Numeral) (e : x ≡ numer
   unfolding numeral_of
   negative-is = ap (λ (y : Numeral). y.negative) e
 
-  abbrev whole : LengthAnswer
+  abbrev whole : (Result (Option Length) LengthError)
   whole = with_unit place n kind factor
 
-  abbrev length-of : ℕ → LengthAnswer
-  length-of m = Length kind (m * factor)
+  abbrev length-of : ℕ → (Result (Option Length) LengthError)
+  length-of m = measured kind (m * factor)
 
   -- the return where the number has more than four decimals: refusal 12
-  pub too_fine : 5 ≤ x.decimals → BadLength place ≡ whole
+  pub too_fine : 5 ≤ x.decimals → Err (BadLength place) ≡ whole
   unfolding with_unit is_bad is_too_fine is_above is_below ten_thousandths
-  too_fine h = fine-bad (is_negative n) (decimals n) (digits_number n) (BadLength place) length-of (omega (arith, decimals-are))
+  too_fine h = fine-bad (is_negative n) (decimals n) (digits_number n) (Err (BadLength place)) length-of (omega (arith, decimals-are))
 
   module _ (h : x.decimals < 5) (s : ℕ) (es : s ≡ get_or scales x.decimals 0) where
     -- the number has four decimals or fewer
@@ -182,9 +187,9 @@ module _ (place kind factor : ℕ) (n : List ℕ) (x : Numeral) (e : x ≡ numer
         omega (arith, k.small)
 
     -- the return where the number is above 10,000: refusal 12
-    pub too_much : most_digits < x.digits * s → BadLength place ≡ whole
+    pub too_much : most_digits < x.digits * s → Err (BadLength place) ≡ whole
     unfolding with_unit is_bad is_too_fine is_above is_below ten_thousandths
-    too_much m = above-bad (is_negative n) (decimals n) (digits_number n) (BadLength place) length-of few-decimals s scale-is (omega (arith, amount-is))
+    too_much m = above-bad (is_negative n) (decimals n) (digits_number n) (Err (BadLength place)) length-of few-decimals s scale-is (omega (arith, amount-is))
 
     module _ (m : x.digits * s ≤ most_digits) where
       -- the number's digits, scaled, are not above the most
@@ -192,54 +197,60 @@ module _ (place kind factor : ℕ) (n : List ℕ) (x : Numeral) (e : x ≡ numer
       lower = omega (arith, amount-is)
 
       -- the return where the number is below zero: refusal 12
-      pub below-zero : x.negative ≡ true → 0 < x.digits * s → BadLength place ≡ whole
+      pub below-zero : x.negative ≡ true → 0 < x.digits * s → Err (BadLength place) ≡ whole
       unfolding with_unit is_bad is_too_fine is_above is_below ten_thousandths
       below-zero b p =
-          below-bad (is_negative n) (decimals n) (digits_number n) (BadLength place) length-of few-decimals s scale-is lower (sym negative-is ∙ b) (omega (arith, amount-is))
+          below-bad (is_negative n) (decimals n) (digits_number n) (Err (BadLength place)) length-of few-decimals s scale-is lower (sym negative-is ∙ b) (omega (arith, amount-is))
 
       -- the return where the number is zero, with a '-' or without: the length 0
-      pub minus-zero : x.digits * s ≤ 0 → Length kind 0 ≡ whole
+      pub minus-zero : x.digits * s ≤ 0 → measured kind 0 ≡ whole
       unfolding with_unit is_bad is_too_fine is_above is_below ten_thousandths
       minus-zero z =
           let q : 0 * factor ≡ 0 = omega arith in
-          ap (Length kind) (sym q) ∙ zero-good (is_negative n) (decimals n) (digits_number n) (BadLength place) length-of few-decimals s scale-is lower (omega (arith, amount-is))
+          ap (measured kind) (sym q) ∙ zero-good (is_negative n) (decimals n) (digits_number n) (Err (BadLength place)) length-of few-decimals s scale-is lower (omega (arith, amount-is))
 
       -- the return where the number is not below zero: its ten-thousandths times the unit's factor
-      pub a-length : x.negative ≡ false → Length kind (x.digits * s * factor) ≡ whole
+      pub a-length : x.negative ≡ false → measured kind (x.digits * s * factor) ≡ whole
       unfolding with_unit is_bad is_too_fine is_above is_below ten_thousandths
       a-length b =
           ap length-of amount-is
-          ∙ positive-good (is_negative n) (decimals n) (digits_number n) (BadLength place) length-of few-decimals s scale-is lower (sym negative-is ∙ b)
+          ∙ positive-good (is_negative n) (decimals n) (digits_number n) (Err (BadLength place)) length-of few-decimals s scale-is lower (sym negative-is ∙ b)
 
 -- an amount within the most, times any factor of 32 bits
 pub amount-product : (m factor : ℕ) → m ≤ most_digits → factor ≤ 0xffffffff → m * factor ≤ 0xffffffff * 0xffffffff
 amount-product m factor h l = product-fits m factor (omega arith) l
 
--- ---- `dimension_length`, at the place i of the unit's name
--- the row at a place that is there, and its numbers as the code has them
-row-found : {A : Type 0} (es : List (Entry A)) (i : ℕ) → i < length (words_of es)
-    → (a : A) × (row_at es i ≡ found a) × ((f : A → ℕ) → get_or (numbers_of f es) i 0 ≡ f a)
-unfolding row_at words_of numbers_of
-row-found [] i h = absurd (omega arith)
-row-found (e ∷ es) zero h = (e.means, refl, λ f. refl)
-row-found (e ∷ es) (suc i) h = row-found es i (omega arith)
+-- ---- `dimension_length`, by the row of the unit's name
+-- what the code has of a unit
+abbrev pub kind_and_factor : LengthUnit → Kind × ℕ
+kind_and_factor u = (u.kind, u.factor)
 
-module _ (place : ℕ) (n unit : List ℕ) (i : ℕ) (e : i ≡ place_of unit (split (joined_of units) (lengths_of units))) where
+-- the code's table tells the kind and the factor of the definition's
+pub unit-told : (unit : List ℕ) → on_found (lookup unit (mapped kind_and_factor units)) Some None ≡ on_found (lookup unit units) (λ u. Some (kind_and_factor u)) None
+unit-told unit = ap (λ f. on_found f Some None) (lookup-mapped kind_and_factor unit units) ∙ on-found-as kind_and_factor (lookup unit units) Some None
+
+module _ (place : ℕ) (n unit : List ℕ) (o : Option (Kind × ℕ)) (e : o ≡ on_found (lookup unit units) (λ u. Some (kind_and_factor u)) None) where
+  -- by what is found
+  known-by : (x : Found LengthUnit) (kind : Kind) (factor : ℕ) → on_found x (λ u. Some (kind_and_factor u)) None ≡ Some (kind, factor)
+      → with_unit place n kind factor ≡ on_found x (λ u. with_unit place n u.kind u.factor) (Ok None)
+  unfolding on_found
+  known-by (found u) kind factor h = ap (λ (r : Kind × ℕ). with_unit place n r.0 r.1) (same_Some _ _ (sym h))
+  known-by missing kind factor h = absurd (none-some _ h)
+
+  unknown-by : (x : Found LengthUnit) → on_found x (λ u. Some (kind_and_factor u)) None ≡ None → Ok None ≡ on_found x (λ u. with_unit place n u.kind u.factor) (Ok None)
+  unfolding on_found
+  unknown-by (found u) h = absurd (none-some _ (sym h))
+  unknown-by missing h = refl
+
   -- a dimension whose unit is one of the eight is a number with that unit's factor
-  pub unit-known : i < length (words_of units) → (r : LengthAnswer)
-      → r ≡ with_unit place n (get_or (numbers_of (λ u. u.kind) units) i 0) (get_or (numbers_of (λ u. u.factor) units) i 0) → r ≡ dimension_length place n unit
-  unfolding dimension_length on_found
-  unit-known h r er =
-      let p = row-found units i h in
-      er ∙ ap (λ (k : ℕ). with_unit place n k (get_or (numbers_of (λ u. u.factor) units) i 0)) (p.2 (λ u. u.kind))
-      ∙ ap (with_unit place n p.0.kind) (p.2 (λ u. u.factor))
-      ∙ ap (λ (u : Found LengthUnit). on_found u (λ a. with_unit place n a.kind a.factor) NoLength) (sym p.1 ∙ table-place units unit i e)
+  pub unit-known : (kind : Kind) (factor : ℕ) → o ≡ Some (kind, factor) → with_unit place n kind factor ≡ dimension_length place n unit
+  unfolding dimension_length
+  unit-known kind factor h = known-by (lookup unit units) kind factor (sym e ∙ h)
 
   -- a dimension whose unit is none of the eight is no length
-  pub unit-unknown : length (words_of units) ≤ i → NoLength ≡ dimension_length place n unit
-  unfolding dimension_length on_found
-  unit-unknown h =
-      ap (λ (u : Found LengthUnit). on_found u (λ a. with_unit place n a.kind a.factor) NoLength) (sym (row-none units i h) ∙ table-place units unit i e)
+  pub unit-unknown : o ≡ None → Ok None ≡ dimension_length place n unit
+  unfolding dimension_length
+  unit-unknown h = unknown-by (lookup unit units) (sym e ∙ h)
 
 -- ---- `number_length`: a number without a unit is a length only if it is zero
 module _ (n : List ℕ) (x : Numeral) (e : x ≡ numeral_of n) where
@@ -249,15 +260,15 @@ module _ (n : List ℕ) (x : Numeral) (e : x ≡ numeral_of n) where
   number_digits = ap (λ (y : Numeral). y.digits) e
 
   -- a number without a unit that is exactly zero is the length 0
-  pub number-zero : x.digits ≡ 0 → Length unit_kind 0 ≡ number_length n
+  pub number-zero : x.digits ≤ 0 → measured Units 0 ≡ number_length n
   unfolding number_length
-  number-zero z = pick_true _ _ _ _ (is-yes _ _ (zero_of (digits_number n) (sym number_digits ∙ z))) refl
+  number-zero z = pick_true _ _ _ _ (is-yes _ _ (zero_of (digits_number n) (omega (arith, number_digits, z)))) refl
     where
       zero_of : (v : ℕ) → capped v ≡ 0 → v ≡ 0
       zero_of v k =
           ⊎_elim (λ (h : most_digits < v). absurd (omega (arith, capped-over v h))) (λ (h : v ≤ most_digits). sym (capped-within v h) ∙ k) (lt-or-ge most_digits v)
 
   -- a number without a unit that is not zero is no length
-  pub number-some : ¬ (x.digits ≡ 0) → NoLength ≡ number_length n
+  pub number-some : 0 < x.digits → Ok None ≡ number_length n
   unfolding number_length
-  number-some d = pick-false _ _ _ _ (is-no _ _ (λ z. d (number_digits ∙ ap capped z ∙ capped-within 0 (omega arith)))) refl
+  number-some d = pick-false _ _ _ _ (is-no _ _ (λ z. absurd (omega (arith, d, number_digits ∙ ap capped z ∙ capped-within 0 (omega arith))))) refl

@@ -16,11 +16,13 @@ use Rattle.lexer.specs.Whitespace.{skip_whitespace}
 use Rattle.values.specs.Words.{Entry, Found, found, missing, lookup, on_found, number_of, unit_of}
 use Rattle.values.proofs.WordLaws.{lookup-holds}
 use Rattle.lengths.specs.Number.{numeric_token}
-use Rattle.lengths.specs.Length.{ten, most_decimals, most_number, digits_number, decimals, is_too_fine, is_above, is_below, is_bad, ten_thousandths, with_unit, dimension_length, number_length, token_length, length_of}
+use Rattle.lengths.specs.Length.{measured, ten, most_decimals, most_number, digits_number, decimals, is_too_fine, is_above, is_below, is_bad, ten_thousandths, with_unit, dimension_length, number_length, token_length, length_of}
 use Rattle.lengths.specs.Numeral.{most_digits}
 use Rattle.lengths.specs.Unit.{LengthUnit, units, ten_thousand, every_row, is_exact, is_small, largest_factor, units-exact, units_small}
-use Rattle.lengths.specs.declared.answers.LengthAnswer.{LengthAnswer}
-use Rattle.lengths.specs.declared.answers.LengthAnswer.TheVariants.{NoLength, Length, TooLong, ShortStore, NotUtf8, BadLength}
+use Rattle.std.specs.Prelude.{Option, Some, None, Result, Ok, Err}
+use Rattle.lengths.specs.declared.answers.Length.{Length}
+use Rattle.lengths.specs.declared.answers.LengthError.{LengthError}
+use Rattle.lengths.specs.declared.answers.LengthError.TheVariants.{TooLong, ShortStore, NotUtf8, BadLength}
 use Rattle.lengths.proofs.DimensionLaws.{scale_at}
 
 -- ---- the table of units
@@ -115,11 +117,11 @@ largest : largest_amount ≡ most_digits * largest_factor
 largest = refl
 
 -- what an answer for a number with a unit says: exactly one of the three
-pub data Answered (place : ℕ) (n w : List ℕ) : LengthAnswer → Type 0 where
-  other : lookup w units ≡ missing → Answered place n w NoLength
-  refused : (u : LengthUnit) → lookup w units ≡ found u → is_bad n ≡ true → Answered place n w (BadLength place)
+pub data Answered (place : ℕ) (n w : List ℕ) : (Result (Option Length) LengthError) → Type 0 where
+  other : lookup w units ≡ missing → Answered place n w (Ok None)
+  refused : (u : LengthUnit) → lookup w units ≡ found u → is_bad n ≡ true → Answered place n w (Err (BadLength place))
   known : (u : LengthUnit) (m : ℕ) → lookup w units ≡ found u → Fine n → m ≤ largest_amount → m * ten ^ decimals n ≡ digits_number n * u.amount
-      → Answered place n w (Length u.kind m)
+      → Answered place n w (measured u.kind m)
 
 -- the answer for a number with a unit is that it is no unit of a length, that the number is refused, or its exact length
 pub answered : (place : ℕ) (n w : List ℕ) → Answered place n w (dimension_length place n w)
@@ -133,27 +135,27 @@ answered place n w = by-unit (lookup w units) refl
         let q : most_digits * u.factor ≤ most_digits * largest_factor = mul-le-mul_left most_digits (unit-small w u e) in
         omega arith
 
-    by-test : (u : LengthUnit) → lookup w units ≡ found u → (b : Bool) → is_bad n ≡ b → Answered place n w (pick b (BadLength place) (Length u.kind (ten_thousandths n * u.factor)))
+    by-test : (u : LengthUnit) → lookup w units ≡ found u → (b : Bool) → is_bad n ≡ b → Answered place n w (pick b (Err (BadLength place)) (measured u.kind (ten_thousandths n * u.factor)))
     by-test u e true k = unfold pick in refused u e k
     by-test u e false k = let o = fine_of n k in unfold pick in known u (ten_thousandths n * u.factor) e o (product u e o) (exact n u (unit-exact w u e) o.few)
 
     by-unit : (x : Found LengthUnit) → lookup w units ≡ x
-        → Answered place n w (on_found x (λ u. pick (is_bad n) (BadLength place) (Length u.kind (ten_thousandths n * u.factor))) NoLength)
+        → Answered place n w (on_found x (λ u. pick (is_bad n) (Err (BadLength place)) (measured u.kind (ten_thousandths n * u.factor))) (Ok None))
     by-unit (found u) e = by-test u e (is_bad n) refl
     by-unit missing e = other e
 
 -- ---- a value
 -- what an answer for a value whose token starts at a place keeps to: it is no length, a length, or refusal 12 at that place
-abbrev pub Kept : ℕ → LengthAnswer → Type 0
-Kept place NoLength = Unit
-Kept place (Length kind m) = m ≤ largest_amount
-Kept place TooLong = ⊥
-Kept place ShortStore = ⊥
-Kept place NotUtf8 = ⊥
-Kept place (BadLength p) = p ≡ place
+abbrev pub Kept : ℕ → (Result (Option Length) LengthError) → Type 0
+Kept place (Ok None) = Unit
+Kept place (Ok (Some l)) = l.amount ≤ largest_amount
+Kept place (Err TooLong) = ⊥
+Kept place (Err ShortStore) = ⊥
+Kept place (Err NotUtf8) = ⊥
+Kept place (Err (BadLength p)) = p ≡ place
 
 -- an answer for a number with a unit is no length, a length within the largest amount, or refusal 12 at the place
-unit_kept : {place : ℕ} {n w : List ℕ} {a : LengthAnswer} → Answered place n w a → Kept place a
+unit_kept : {place : ℕ} {n w : List ℕ} {a : (Result (Option Length) LengthError)} → Answered place n w a → Kept place a
 unit_kept (other e) = tt
 unit_kept (refused u e b) = refl
 unit_kept (known u m e o l x) = l

@@ -14,10 +14,12 @@ use Rattle.combinators.proofs.Rules.{pick_true, pick-false}
 use Rattle.characters.specs.Utf8.{valid}
 use Rattle.sheets.specs.SheetAnswer.{sheet_limit, SheetLent}
 use Rattle.lengths.specs.Length.{length_of}
-use Rattle.lengths.specs.HeightLength.{numbers_of, LengthLeft, length_left, unchanged, height_length}
+use Rattle.lengths.specs.HeightLength.{refusal_of, numbers_of, LengthLeft, length_left, unchanged, height_length}
 use Rattle.lengths.specs.declared.answers.LengthNumbers.{LengthNumbers}
-use Rattle.lengths.specs.declared.answers.LengthAnswer.{LengthAnswer}
-use Rattle.lengths.specs.declared.answers.LengthAnswer.TheVariants.{TooLong, ShortStore, NotUtf8}
+use Rattle.std.specs.Prelude.{Option, Result, Err}
+use Rattle.lengths.specs.declared.answers.Length.{Length}
+use Rattle.lengths.specs.declared.answers.LengthError.{LengthError}
+use Rattle.lengths.specs.declared.answers.LengthError.TheVariants.{TooLong, ShortStore, NotUtf8}
 
 -- ---- `read_value`
 -- a store cleared throughout, of whatever it held
@@ -32,7 +34,7 @@ left_by : {a a' : LengthNumbers} {y y' x x' b b' z z' : List ℕ} → a ≡ a' �
 left_by p q r s t = rw (p, q, r, s, t) refl
 
 -- the answer, and all stores cleared; u is what reading leaves in the text store
-pub value_read : (s rules tokens brackets texts u : List ℕ) {r : LengthAnswer} {y x b z : List ℕ} → r ≡ length_of s
+pub value_read : (s rules tokens brackets texts u : List ℕ) {r : (Result (Option Length) LengthError)} {y x b z : List ℕ} → r ≡ length_of s
     → y ≡ cleared 0 rules → x ≡ cleared 0 tokens → b ≡ cleared 0 brackets → z ≡ cleared 0 u → length u ≡ length texts
     → ◌≡◌ {A = LengthLeft} (record { answer = numbers_of r; rules = y; tokens = x; brackets = b; texts = z }) (length_left s rules tokens brackets texts)
 unfolding length_left
@@ -42,14 +44,14 @@ value_read s rules tokens brackets texts u {r} {y} {x} {b} {z} er ey ex eb ez h 
 -- ---- `height_length`, in the order of the refusals
 module _ (s rules tokens brackets texts : List ℕ) where
   -- the return where the value is too long: refused, and the stores as they were
-  pub too_long_lem : sheet_limit < length s → ◌≡◌ {A = LengthLeft} (record { answer = numbers_of TooLong; rules = rules; tokens = tokens; brackets = brackets; texts = texts }) (height_length s rules tokens brackets texts)
-  unfolding height_length unchanged numbers_of
+  pub too_long_lem : sheet_limit < length s → ◌≡◌ {A = LengthLeft} (record { answer = numbers_of (Err TooLong); rules = rules; tokens = tokens; brackets = brackets; texts = texts }) (height_length s rules tokens brackets texts)
+  unfolding height_length unchanged numbers_of refusal_of
   too_long_lem h = pick_true _ _ _ _ (lt-ltb sheet_limit (length s) h) refl
 
   module _ (h : length s ≤ sheet_limit) {t : Bool} (et : t ≡ stores_suffice (length s) (length rules) (length tokens) (length brackets) (length texts)) where
     -- the return where the stores are too short: refused, and the stores as they were
-    pub short-store : t ≡ false → ◌≡◌ {A = LengthLeft} (record { answer = numbers_of ShortStore; rules = rules; tokens = tokens; brackets = brackets; texts = texts }) (height_length s rules tokens brackets texts)
-    unfolding height_length unchanged numbers_of
+    pub short-store : t ≡ false → ◌≡◌ {A = LengthLeft} (record { answer = numbers_of (Err ShortStore); rules = rules; tokens = tokens; brackets = brackets; texts = texts }) (height_length s rules tokens brackets texts)
+    unfolding height_length unchanged numbers_of refusal_of
     short-store e = pick-false _ _ _ _ (le-ltb sheet_limit (length s) h) (pick-false _ _ _ _ (sym et ∙ e) refl)
 
     module _ (e : t ≡ true) where
@@ -59,8 +61,8 @@ module _ (s rules tokens brackets texts : List ℕ) where
 
       module _ {v : Bool} (ev : v ≡ valid s) where
         -- the return where the value is no UTF-8: refused, and the stores as they were
-        pub not-utf8 : v ≡ false → ◌≡◌ {A = LengthLeft} (record { answer = numbers_of NotUtf8; rules = rules; tokens = tokens; brackets = brackets; texts = texts }) (height_length s rules tokens brackets texts)
-        unfolding height_length unchanged numbers_of
+        pub not-utf8 : v ≡ false → ◌≡◌ {A = LengthLeft} (record { answer = numbers_of (Err NotUtf8); rules = rules; tokens = tokens; brackets = brackets; texts = texts }) (height_length s rules tokens brackets texts)
+        unfolding height_length unchanged numbers_of refusal_of
         not-utf8 f = pick-false _ _ _ _ (le-ltb sheet_limit (length s) h) (pick_true _ _ _ _ (sym et ∙ e) (pick-false _ _ _ _ (sym ev ∙ f) refl))
 
         -- behind all tests, what reading the value leaves is what the call leaves

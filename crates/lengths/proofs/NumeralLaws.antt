@@ -1,5 +1,5 @@
 -- Numbers as the code counts them: the digits of a number within the most, and one above it beyond; the parts of a number's text.
-use Prim.Native.Nat.{ℕ, ◌+◌, ◌-◌, ◌*◌, ◌<◌, ◌≤◌}
+use Prim.Native.Nat.{ℕ, ◌+◌, ◌-◌, ◌*◌, ◌<◌, ◌≤◌, min}
 use mathlib.Core.Path.{◌≡◌, refl, sym, ap, ◌∙◌}
 use mathlib.Core.Bool.{Bool}
 use mathlib.Core.Logic.{⊎_elim}
@@ -88,6 +88,12 @@ module _ (v₀ : ℕ) (t : List ℕ) (v i : ℕ) (c : capped (worth v₀ t) ≡ 
   -- where no digit is left and the number is within the most, it is the whole number
   pub digits-done : length t ≤ i → v ≤ most_digits → v ≡ capped (worth v₀ t)
   digits-done h l = sym (c ∙ ap capped (worth-end t i v h) ∙ capped-within v l)
+
+  -- the same, whether it is within the most or not
+  pub digits-least : length t ≤ i → min v (most_digits + 1) ≡ capped (worth v₀ t)
+  digits-least h =
+      ⊎_elim (λ (l : most_digits < v). (let e : min v (most_digits + 1) ≡ most_digits + 1 = omega arith in e) ∙ digits-over l)
+      (λ (l : v ≤ most_digits). (let e : min v (most_digits + 1) ≡ v = omega arith in e) ∙ digits-done h l) (lt-or-ge most_digits v)
 
 -- ---- `unsigned_numeral`: n digits, worth w
 module _ (negative : Bool) (u : List ℕ) (n : ℕ) (e : n ≡ digits u) (w : ℕ) (ew : w ≡ capped (worth 0 (take n u))) where

@@ -6,18 +6,18 @@ use mathlib.Core.List.{List, []}
 use native.Mathlib.Omega.{arith}
 use lib.ListN.{length, get_or, take, drop, length-drop}
 use lib.Seq.{sets, drop-drop, take_at, drop_at}
-use Rattle.combinators.specs.Ascii.{percent_sign}
+use Rattle.std.specs.Int.{from_bool}
+use Rattle.combinators.specs.Ascii.{percent_sign, plus_sign}
 use Rattle.combinators.specs.Choice.{pick, is}
 use Rattle.combinators.specs.Parsed.{Parsed, ok, err, on_parsed, behind}
 use Rattle.combinators.specs.Part.{part}
-use Rattle.combinators.proofs.Lists.{rest}
+use Rattle.combinators.proofs.Lists.{rest, byte-there}
 use Rattle.combinators.proofs.Rules.{pick_true, pick-false, pick-holds, is-yes, is-no, told}
 use Rattle.lexer.specs.Name.{ident_of, name_answer, name_text}
 use Rattle.lexer.specs.Token.{Token, number, dimension, percentage, numeric_from, coded, text_of}
 use Rattle.lexer.specs.TokenRow.{columns_of}
 use Rattle.lexer.specs.Whitespace.{skip_whitespace}
-use Rattle.lexer.specs.declared.names.Name.{Name}
-use Rattle.lexer.specs.declared.names.Name.TheVariants.{Text, NoName}
+use Rattle.lexer.specs.declared.Written.{Written}
 use Rattle.lexer.proofs.Bounds.{Fits, bound-two}
 use Rattle.lexer.proofs.IdentBounds.{ident-fits}
 use Rattle.lexer.proofs.TokenAnswers.{name-ok, name-err}
@@ -27,24 +27,31 @@ use Rattle.lengths.specs.Number as numbers
 use Rattle.lengths.specs.Number.{numeric_of, plus, text_start, numeric_token}
 use Rattle.lengths.specs.Length.{dimension_length, number_length, token_length, only_whitespace, length_of}
 use Rattle.lengths.specs.Reading.{length_behind, name_behind, unit_text, Behind}
-use Rattle.lengths.specs.declared.answers.LengthAnswer.{LengthAnswer}
-use Rattle.lengths.specs.declared.answers.LengthAnswer.TheVariants.{NoLength}
+use Rattle.std.specs.Prelude.{Option, Some, None, Result, Ok}
+use Rattle.lengths.specs.declared.answers.Length.{Length}
+use Rattle.lengths.specs.declared.answers.LengthError.{LengthError}
+
+-- ---- `plus_of`: a '+' that is there takes one byte
+pub plus-read : (t : List ℕ) (b : Bool) → b ≡ is (get_or t 0 0) plus_sign → (k : ℕ) → k ≡ from_bool b → (k ≡ plus t) × (k ≤ length t)
+unfolding plus
+plus-read t true e k ek = (ek ∙ pick_true _ _ _ _ (sym e) refl, omega (arith, ek, byte-there t 0 plus_sign (omega arith) (sym e)))
+plus-read t false e k ek = (ek ∙ pick-false _ _ _ _ (sym e) refl, omega (arith, ek))
 
 -- ---- `length_behind`, by the name that is read behind the number
 module _ (place : ℕ) (t : List ℕ) (n : ℕ) where
   -- a name behind the number is its unit, and the value a dimension where only white space follows, else no length
   behind-unit : (m : ℕ) (u : List ℕ) → ident_of (drop n t) ≡ ok m u
-      → length_behind place t n ≡ pick (only_whitespace (drop (n + m) t)) (dimension_length place (take n t) u) NoLength
+      → length_behind place t n ≡ pick (only_whitespace (drop (n + m) t)) (dimension_length place (take n t) u) (Ok None)
   unfolding length_behind on_parsed
   behind-unit m u e = rw e
 
   -- without a name the value is the number alone where only white space follows, else no length
-  behind-none : ident_of (drop n t) ≡ err → length_behind place t n ≡ pick (only_whitespace (drop n t)) (number_length (take n t)) NoLength
+  behind-none : ident_of (drop n t) ≡ err → length_behind place t n ≡ pick (only_whitespace (drop n t)) (number_length (take n t)) (Ok None)
   unfolding length_behind on_parsed
   behind-none e = rw e
 
   -- what the call says of the rest of the text
-  module _ (st : List ℕ) (o : Behind t n st) (x : Name) (z : List ℕ)
+  module _ (st : List ℕ) (o : Behind t n st) (x : Option Written) (z : List ℕ)
       (w : (x ≡ name_answer (ident_of (take (length t - n) (drop n t)))) × (z ≡ sets st 0 (name_text (ident_of (take (length t - n) (drop n t)))))) where
     -- the answer is that of a name behind the number
     answered : x ≡ name_answer (ident_of (drop n t))
@@ -54,7 +61,7 @@ module _ (place : ℕ) (t : List ℕ) (n : ℕ) where
     stored : z ≡ sets st 0 (name_text (ident_of (drop n t)))
     stored = w.1 ∙ ap (λ (l : List ℕ). sets st 0 (name_text (ident_of l))) (rest t n)
 
-    module _ (m l : ℕ) (q : x ≡ Text m l) where
+    module _ (m l : ℕ) (q : x ≡ Some (record { taken = m; length = l })) where
       abbrev name : List ℕ
       name = name_text (ident_of (drop n t))
 
@@ -80,16 +87,16 @@ module _ (place : ℕ) (t : List ℕ) (n : ℕ) where
         alone v e = ap only_whitespace (sym (rest t (n + m))) ∙ told _ _ _ eb e
 
         -- nothing stands behind the unit
-        pub unit-alone : b ≡ true → (u : List ℕ) → u ≡ part z 0 l → (r : LengthAnswer) → r ≡ dimension_length place (take n t) u
+        pub unit-alone : b ≡ true → (u : List ℕ) → u ≡ part z 0 l → (r : (Result (Option Length) LengthError)) → r ≡ dimension_length place (take n t) u
             → (r ≡ length_behind place t n) × (z ≡ sets st 0 (name_text (ident_of (drop n t))))
         unit-alone e u eu r er =
             (er ∙ ap (dimension_length place (take n t)) (eu ∙ unit-back) ∙ pick_true _ _ _ _ (alone true e) refl ∙ sym (behind-unit m name read.0), stored)
 
         -- where something stands behind the unit, the value is no length
-        pub unit-followed : b ≡ false → (NoLength ≡ length_behind place t n) × (z ≡ sets st 0 (name_text (ident_of (drop n t))))
+        pub unit-followed : b ≡ false → (Ok None ≡ length_behind place t n) × (z ≡ sets st 0 (name_text (ident_of (drop n t))))
         unit-followed e = (pick-false _ _ _ _ (alone false e) refl ∙ sym (behind-unit m name read.0), stored)
 
-    module _ (q : x ≡ NoName) (b : Bool) (eb : b ≡ only_whitespace (take (length t - n) (drop n t))) where
+    module _ (q : x ≡ None) (b : Bool) (eb : b ≡ only_whitespace (take (length t - n) (drop n t))) where
       -- no name reads behind the number
       none : ident_of (drop n t) ≡ err
       none = name-err (ident_of (drop n t)) (sym q ∙ answered)
@@ -99,12 +106,12 @@ module _ (place : ℕ) (t : List ℕ) (n : ℕ) where
       last v e = ap only_whitespace (sym (rest t n)) ∙ told _ _ _ eb e
 
       -- nothing stands behind the number
-      pub number-alone : b ≡ true → (r : LengthAnswer) → r ≡ number_length (take n t)
+      pub number-alone : b ≡ true → (r : (Result (Option Length) LengthError)) → r ≡ number_length (take n t)
           → (r ≡ length_behind place t n) × (z ≡ sets st 0 (name_text (ident_of (drop n t))))
       number-alone e r er = (er ∙ pick_true _ _ _ _ (last true e) refl ∙ sym (behind-none none), stored)
 
       -- where something stands behind the number, the value is no length
-      pub number-followed : b ≡ false → (NoLength ≡ length_behind place t n) × (z ≡ sets st 0 (name_text (ident_of (drop n t))))
+      pub number-followed : b ≡ false → (Ok None ≡ length_behind place t n) × (z ≡ sets st 0 (name_text (ident_of (drop n t))))
       number-followed e = (pick-false _ _ _ _ (last false e) refl ∙ sym (behind-none none), stored)
 
 -- ---- the length of each kind of token
@@ -120,7 +127,7 @@ module _ (place : ℕ) (n u : List ℕ) where
   of_number = refl
 
   -- a percentage is no length
-  of-percentage : token_length place (percentage n) ≡ NoLength
+  of-percentage : token_length place (percentage n) ≡ Ok None
   unfolding token_length is_kind kind_of coded columns_of text_of pick is
   of-percentage = refl
 
@@ -130,22 +137,22 @@ module _ (s : List ℕ) where
   rest_of = drop (text_start s) s
 
   -- where there is no such token, the value is no length
-  length-err : numeric_of rest_of ≡ err → NoLength ≡ length_of s
+  length-err : numeric_of rest_of ≡ err → Ok None ≡ length_of s
   unfolding length_of numeric_token on_parsed behind
   length-err e = rw e
 
   -- the length of a value is that of its token where only white space follows it, else there is none
   length-ok : (i : ℕ) (k : Token) → numeric_of rest_of ≡ ok i k
-      → length_of s ≡ pick (only_whitespace (drop (text_start s + i) s)) (token_length (skip_whitespace s) k) NoLength
+      → length_of s ≡ pick (only_whitespace (drop (text_start s + i) s)) (token_length (skip_whitespace s) k) (Ok None)
   unfolding length_of numeric_token on_parsed behind
   length-ok i k e = rw e
 
   -- where a token reads, the value is its length where only white space follows, else none
-  length_at : (i : ℕ) (k : Token) (a : LengthAnswer) → numeric_of rest_of ≡ ok i k → token_length (skip_whitespace s) k ≡ a
-      → pick (only_whitespace (drop i rest_of)) a NoLength ≡ length_of s
+  length_at : (i : ℕ) (k : Token) (a : (Result (Option Length) LengthError)) → numeric_of rest_of ≡ ok i k → token_length (skip_whitespace s) k ≡ a
+      → pick (only_whitespace (drop i rest_of)) a (Ok None) ≡ length_of s
   length_at i k a e ea =
-      ap (λ (x : LengthAnswer). pick (only_whitespace (drop i rest_of)) x NoLength) (sym ea)
-      ∙ ap (λ (l : List ℕ). pick (only_whitespace l) (token_length (skip_whitespace s) k) NoLength) (drop-drop i (text_start s) s) ∙ sym (length-ok i k e)
+      ap (λ (x : (Result (Option Length) LengthError)). pick (only_whitespace (drop i rest_of)) x (Ok None)) (sym ea)
+      ∙ ap (λ (l : List ℕ). pick (only_whitespace l) (token_length (skip_whitespace s) k) (Ok None)) (drop-drop i (text_start s) s) ∙ sym (length-ok i k e)
 
 module _ (s st : List ℕ) (w : ℕ) (ew : w ≡ skip_whitespace s) (p : ℕ) (ep : p ≡ plus (take (length s - w) (drop w s)))
     (t : List ℕ) (et : t ≡ take (length s - (w + p)) (drop (w + p) s)) (n : ℕ) (en : n ≡ numbers.number t) where
@@ -174,7 +181,7 @@ module _ (s st : List ℕ) (w : ℕ) (ew : w ≡ skip_whitespace s) (p : ℕ) (e
   token-is = ap numeric_of (sym text-is)
 
   -- a value without a number is no length, and the store is as it was
-  pub no_number : n ≡ 0 → (NoLength ≡ length_of s) × (st ≡ sets st 0 (unit_text s))
+  pub no_number : n ≡ 0 → (Ok None ≡ length_of s) × (st ≡ sets st 0 (unit_text s))
   unfolding numeric_of name_behind
   no_number z =
       (length-err s (token-is ∙ sym (pick_true _ _ _ _ (is-yes _ _ (sym en ∙ z)) refl)), kept (sym (pick_true _ _ _ _ (is-yes _ _ z) refl)))
@@ -186,11 +193,11 @@ module _ (s st : List ℕ) (w : ℕ) (ew : w ≡ skip_whitespace s) (p : ℕ) (e
     token-from = token-is ∙ sym (pick-false _ _ _ _ (is-no _ _ (λ z. d (en ∙ z))) refl) ∙ ap (λ (k : ℕ). numeric_from k t) (sym en)
 
     -- a percentage is no length, and the store is as it was
-    pub percent : b ≡ true → (NoLength ≡ length_of s) × (st ≡ sets st 0 (unit_text s))
+    pub percent : b ≡ true → (Ok None ≡ length_of s) × (st ≡ sets st 0 (unit_text s))
     unfolding numeric_from name_behind
     percent e =
         let q = token-from ∙ sym (pick_true _ _ _ _ (told _ _ _ eb e) refl) in (
-          pick-holds (λ (a : LengthAnswer). NoLength ≡ a) _ _ _ (λ _. refl) (λ _. refl) ∙ length_at s (n + 1) (percentage (take n t)) NoLength q (of-percentage _ _ []),
+          pick-holds (λ (a : (Result (Option Length) LengthError)). Ok None ≡ a) _ _ _ (λ _. refl) (λ _. refl) ∙ length_at s (n + 1) (percentage (take n t)) (Ok None) q (of-percentage _ _ []),
           kept (sym (pick-false _ _ _ _ (is-no _ _ d) (pick_true _ _ _ _ (told _ _ _ eb e) refl))),
         )
 
@@ -204,15 +211,15 @@ module _ (s st : List ℕ) (w : ℕ) (ew : w ≡ skip_whitespace s) (p : ℕ) (e
       whole : (x : Parsed (List ℕ)) → ident_of (drop n t) ≡ x → length_behind w t n ≡ length_of s
       unfolding on_parsed
       whole (ok m u) i =
-          behind-unit w t n m u i ∙ ap (λ (l : List ℕ). pick (only_whitespace (drop (n + m) l)) (dimension_length w (take n t) u) NoLength) text-is
+          behind-unit w t n m u i ∙ ap (λ (l : List ℕ). pick (only_whitespace (drop (n + m) l)) (dimension_length w (take n t) u) (Ok None)) text-is
           ∙ length_at s (n + m) (dimension (take n t) u) (dimension_length w (take n t) u) (token-by ∙ rw i refl)
           (of-dimension (skip_whitespace s) (take n t) u ∙ ap (λ (k : ℕ). dimension_length k (take n t) u) (sym ew))
       whole err i =
-          behind-none w t n i ∙ ap (λ (l : List ℕ). pick (only_whitespace (drop n l)) (number_length (take n t)) NoLength) text-is
+          behind-none w t n i ∙ ap (λ (l : List ℕ). pick (only_whitespace (drop n l)) (number_length (take n t)) (Ok None)) text-is
           ∙ length_at s n (number (take n t)) (number_length (take n t)) (token-by ∙ rw i refl) (of_number (skip_whitespace s) (take n t) [])
 
       -- the return where the number is no percentage: what stands behind it decides, and its name is stored
-      pub read_behind : (r : LengthAnswer) (z : List ℕ) → (r ≡ length_behind w t n) × (z ≡ sets st 0 (name_text (ident_of (drop n t))))
+      pub read_behind : (r : (Result (Option Length) LengthError)) (z : List ℕ) → (r ≡ length_behind w t n) × (z ≡ sets st 0 (name_text (ident_of (drop n t))))
           → (r ≡ length_of s) × (z ≡ sets st 0 (unit_text s))
       unfolding name_behind
       read_behind r z p = (

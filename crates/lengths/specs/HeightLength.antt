@@ -1,29 +1,33 @@
 -- What `height_length` answers and leaves: the refusals of documents 01 and 02 in their order, or the length that the value is.
-use Rattle.std.specs.Prelude.{ℕ, List, ltb, length, replicate}
+use Rattle.std.specs.Prelude.{ℕ, Option, Some, None, Result, Ok, Err, List, ltb, length, replicate}
 use Rattle.combinators.specs.Choice.{pick}
 use Rattle.combinators.specs.LeastLengths.{stores_suffice}
 use Rattle.combinators.specs.Refusal.{no_refusal, refused, refused_at, too_long, short_store, not_utf8, bad_length}
 use Rattle.combinators.specs.declared.refusals.Refusal.{Refusal}
 use Rattle.characters.specs.Utf8.{valid}
 use Rattle.sheets.specs.SheetAnswer.{sheet_limit}
-use Rattle.lengths.specs.Unit.{no_kind}
+use Rattle.lengths.specs.Unit.{no_kind, kind_number}
 use Rattle.lengths.specs.Length.{length_of}
 use Rattle.lengths.specs.declared.answers.LengthNumbers.{LengthNumbers}
-use Rattle.lengths.specs.declared.answers.LengthAnswer.{LengthAnswer}
-use Rattle.lengths.specs.declared.answers.LengthAnswer.TheVariants.{NoLength, Length, TooLong, ShortStore, NotUtf8, BadLength}
+use Rattle.lengths.specs.declared.answers.Length.{Length}
+use Rattle.lengths.specs.declared.answers.LengthError.{LengthError}
+use Rattle.lengths.specs.declared.answers.LengthError.TheVariants.{TooLong, ShortStore, NotUtf8, BadLength}
 
 -- ---- the answer in numbers: without a length all is 0 but the refusal
 abbrev pub without_length : Refusal → LengthNumbers
 without_length r = record { refusal = r; kind = no_kind; amount = 0 }
 
 -- what each answer stands for; the text of a refusal is 0, since there is one text
-unfoldable pub numbers_of : LengthAnswer → LengthNumbers
-numbers_of NoLength = without_length no_refusal
-numbers_of (Length kind amount) = record { refusal = no_refusal; kind = kind; amount = amount }
-numbers_of TooLong = without_length (refused too_long)
-numbers_of ShortStore = without_length (refused short_store)
-numbers_of NotUtf8 = without_length (refused not_utf8)
-numbers_of (BadLength place) = without_length (refused_at bad_length place)
+unfoldable pub refusal_of : LengthError → Refusal
+refusal_of TooLong = refused too_long
+refusal_of ShortStore = refused short_store
+refusal_of NotUtf8 = refused not_utf8
+refusal_of (BadLength place) = refused_at bad_length place
+
+unfoldable pub numbers_of : Result (Option Length) LengthError → LengthNumbers
+numbers_of (Ok (Some l)) = record { refusal = no_refusal; kind = kind_number l.kind; amount = l.amount }
+numbers_of (Ok None) = without_length no_refusal
+numbers_of (Err e) = without_length (refusal_of e)
 
 -- ---- what is left of the call: its answer, and the four stores
 pub record LengthLeft : Type 0 where

@@ -1,5 +1,5 @@
 -- The length that a height's value is (document 02, S-8): no length, so much of a kind, or refusal 12 with its place.
-use Rattle.std.specs.Prelude.{ℕ, ◌-◌, ◌*◌, ◌^◌, Bool, List, ◌++◌, ltb, length, get_or, drop}
+use Rattle.std.specs.Prelude.{ℕ, ◌-◌, ◌*◌, ◌^◌, Bool, Option, Some, None, Result, Ok, Err, List, ◌++◌, ltb, length, get_or, drop}
 use Rattle.combinators.specs.Ascii.{hyphen_minus}
 use Rattle.combinators.specs.Choice.{pick, or, and, is}
 use Rattle.combinators.specs.Parsed.{on_parsed}
@@ -11,9 +11,12 @@ use Rattle.values.specs.Colour.{numeral}
 use Rattle.values.specs.Words.{lookup, on_found, is_kind, number_of, unit_of}
 use Rattle.values.proofs.HeightLaws.{integer_of, fraction_of}
 use Rattle.lengths.specs.Number.{numeric_token}
-use Rattle.lengths.specs.Unit.{units, unit_kind}
-use Rattle.lengths.specs.declared.answers.LengthAnswer.{LengthAnswer}
-use Rattle.lengths.specs.declared.answers.LengthAnswer.TheVariants.{NoLength, Length, BadLength}
+use Rattle.lengths.specs.Unit.{units}
+use Rattle.lengths.specs.declared.answers.Kind.{Kind}
+use Rattle.lengths.specs.declared.answers.Kind.TheVariants.{Units}
+use Rattle.lengths.specs.declared.answers.Length.{Length}
+use Rattle.lengths.specs.declared.answers.LengthError.{LengthError}
+use Rattle.lengths.specs.declared.answers.LengthError.TheVariants.{BadLength}
 
 -- ---- what the text of a number says: white space and comments or none, a sign or none, and digits with a point or none
 
@@ -58,32 +61,36 @@ is_bad n = or (is_too_fine n) (or (is_above n) (is_below n))
 
 -- ---- lengths
 
+-- so much of a kind
+abbrev pub measured : Kind → ℕ → Result (Option Length) LengthError
+measured kind amount = Ok (Some (record { kind = kind; amount = amount }))
+
 -- the number in ten-thousandths, where it has four decimals or fewer
 unfoldable pub ten_thousandths : List ℕ → ℕ
 ten_thousandths n = digits_number n * ten ^ (most_decimals - decimals n)
 
 -- a number with one of the eight units
-unfoldable pub with_unit : ℕ → List ℕ → ℕ → ℕ → LengthAnswer
-with_unit place n kind factor = pick (is_bad n) (BadLength place) (Length kind (ten_thousandths n * factor))
+unfoldable pub with_unit : ℕ → List ℕ → Kind → ℕ → Result (Option Length) LengthError
+with_unit place n kind factor = pick (is_bad n) (Err (BadLength place)) (measured kind (ten_thousandths n * factor))
 
 -- a number with a unit: "Every other value, as one with another unit, .. is no length"
-unfoldable pub dimension_length : ℕ → List ℕ → List ℕ → LengthAnswer
-dimension_length place n unit = on_found (lookup unit units) (λ u. with_unit place n u.kind u.factor) NoLength
+unfoldable pub dimension_length : ℕ → List ℕ → List ℕ → Result (Option Length) LengthError
+dimension_length place n unit = on_found (lookup unit units) (λ u. with_unit place n u.kind u.factor) (Ok None)
 
 -- a number without a unit: no length "with none unless it is exactly zero"
-unfoldable pub number_length : List ℕ → LengthAnswer
-number_length n = pick (is (digits_number n) 0) (Length unit_kind 0) NoLength
+unfoldable pub number_length : List ℕ → Result (Option Length) LengthError
+number_length n = pick (is (digits_number n) 0) (measured Units 0) (Ok None)
 
 -- a token that starts at a place, as `height_of` takes it apart
-unfoldable pub token_length : ℕ → Token → LengthAnswer
+unfoldable pub token_length : ℕ → Token → Result (Option Length) LengthError
 token_length place k =
     pick (is_kind dimension_kind k) (dimension_length place (number_of k) (unit_of k))
-    (pick (is_kind number_kind k) (number_length (text_of k)) NoLength)
+    (pick (is_kind number_kind k) (number_length (text_of k)) (Ok None))
 
 -- "anything but white space and comments"
 unfoldable pub only_whitespace : List ℕ → Bool
 only_whitespace s = is (skip_whitespace s) (length s)
 
 -- a value: one such token, "with anything but white space and comments around it, is no length"; its place is its first byte
-unfoldable pub length_of : List ℕ → LengthAnswer
-length_of s = on_parsed (numeric_token s) (λ n k. pick (only_whitespace (drop n s)) (token_length (skip_whitespace s) k) NoLength) NoLength
+unfoldable pub length_of : List ℕ → Result (Option Length) LengthError
+length_of s = on_parsed (numeric_token s) (λ n k. pick (only_whitespace (drop n s)) (token_length (skip_whitespace s) k) (Ok None)) (Ok None)

@@ -1,19 +1,19 @@
 -- How the code reads a value: the number, and then what stands behind it. The unit's name goes to the text store.
-use Rattle.std.specs.Prelude.{ℕ, ◌+◌, ◌≤◌, List, [], length, get_or, take, drop}
+use Rattle.std.specs.Prelude.{ℕ, ◌+◌, ◌≤◌, Option, None, Result, Ok, List, [], length, get_or, take, drop}
 use Rattle.combinators.specs.Ascii.{percent_sign}
 use Rattle.combinators.specs.Choice.{pick, is}
 use Rattle.combinators.specs.Parsed.{on_parsed}
 use Rattle.lexer.specs.Name.{ident_of, name_text}
 use Rattle.lengths.specs.Number.{number, text_start}
 use Rattle.lengths.specs.Length.{dimension_length, number_length, only_whitespace}
-use Rattle.lengths.specs.declared.answers.LengthAnswer.{LengthAnswer}
-use Rattle.lengths.specs.declared.answers.LengthAnswer.TheVariants.{NoLength}
+use Rattle.lengths.specs.declared.answers.Length.{Length}
+use Rattle.lengths.specs.declared.answers.LengthError.{LengthError}
 
 -- a number of n bytes at the start of t, of a token that starts at a place, with what stands behind it: a unit or none, and nothing but white space
-unfoldable pub length_behind : ℕ → List ℕ → ℕ → LengthAnswer
+unfoldable pub length_behind : ℕ → List ℕ → ℕ → Result (Option Length) LengthError
 length_behind place t n =
-    on_parsed (ident_of (drop n t)) (λ m unit. pick (only_whitespace (drop (n + m) t)) (dimension_length place (take n t) unit) NoLength)
-    (pick (only_whitespace (drop n t)) (number_length (take n t)) NoLength)
+    on_parsed (ident_of (drop n t)) (λ m unit. pick (only_whitespace (drop (n + m) t)) (dimension_length place (take n t) unit) (Ok None))
+    (pick (only_whitespace (drop n t)) (number_length (take n t)) (Ok None))
 
 -- the name behind a number of n bytes, unless a '%' stands there
 unfoldable pub name_behind : List ℕ → ℕ → List ℕ

@@ -4,6 +4,8 @@ use Rattle.std.specs.Prelude.{ℕ, ◌*◌, Bool, true, List, [], ◌∷◌, ◌
 use Rattle.combinators.specs.Choice.{and, is}
 use Rattle.characters.specs.Literal.{text}
 use Rattle.values.specs.Words.{Entry}
+use Rattle.lengths.specs.declared.answers.Kind.{Kind}
+use Rattle.lengths.specs.declared.answers.Kind.TheVariants.{Units, Em, Ex}
 
 -- ---- what an answer counts
 -- no length: nothing
@@ -22,10 +24,16 @@ em_kind = 2
 abbrev pub ex_kind : ℕ
 ex_kind = 3
 
+-- a kind by its number
+unfoldable pub kind_number : Kind → ℕ
+kind_number Units = unit_kind
+kind_number Em = em_kind
+kind_number Ex = ex_kind
+
 -- ---- the table
 -- what an answer in the unit counts, how much of it the unit is, and how much a ten-thousandth of the unit is
 pub record LengthUnit : Type 0 where
-  pub kind : ℕ
+  pub kind : Kind
   pub amount : ℕ
   pub factor : ℕ
 
@@ -35,14 +43,14 @@ ten_thousand = 10000
 
 abbrev pub units : List (Entry LengthUnit)
 units =
-    record { word = text "px"; means = record { kind = unit_kind; amount = 3810000; factor = 381 } }
-    ∷ record { word = text "in"; means = record { kind = unit_kind; amount = 365760000; factor = 36576 } }
-    ∷ record { word = text "cm"; means = record { kind = unit_kind; amount = 144000000; factor = 14400 } }
-    ∷ record { word = text "mm"; means = record { kind = unit_kind; amount = 14400000; factor = 1440 } }
-    ∷ record { word = text "pt"; means = record { kind = unit_kind; amount = 5080000; factor = 508 } }
-    ∷ record { word = text "pc"; means = record { kind = unit_kind; amount = 60960000; factor = 6096 } }
-    ∷ record { word = text "em"; means = record { kind = em_kind; amount = 10000; factor = 1 } }
-    ∷ record { word = text "ex"; means = record { kind = ex_kind; amount = 10000; factor = 1 } }
+    record { word = text "px"; means = record { kind = Units; amount = 3810000; factor = 381 } }
+    ∷ record { word = text "in"; means = record { kind = Units; amount = 365760000; factor = 36576 } }
+    ∷ record { word = text "cm"; means = record { kind = Units; amount = 144000000; factor = 14400 } }
+    ∷ record { word = text "mm"; means = record { kind = Units; amount = 14400000; factor = 1440 } }
+    ∷ record { word = text "pt"; means = record { kind = Units; amount = 5080000; factor = 508 } }
+    ∷ record { word = text "pc"; means = record { kind = Units; amount = 60960000; factor = 6096 } }
+    ∷ record { word = text "em"; means = record { kind = Em; amount = 10000; factor = 1 } }
+    ∷ record { word = text "ex"; means = record { kind = Ex; amount = 10000; factor = 1 } }
     ∷ []
 
 -- ---- the table's rule

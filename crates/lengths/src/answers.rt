@@ -1,12 +1,21 @@
 // What `height_length` answers, in the numbers of documents 01 and 02.
 ghost use Rattle.std.specs.Prelude.{◌≡◌};
-ghost use Rattle.lengths.specs.HeightLength.{without_length, numbers_of};
+ghost use Rattle.lengths.specs.Unit.{kind_number};
+ghost use Rattle.lengths.specs.HeightLength.{refusal_of, without_length, numbers_of};
 
 use combinators::refusals::{
     BAD_LENGTH, NOT_UTF8, Refusal, SHORT_STORE, TOO_LONG, no_refusal, refused, refused_at,
 };
 
-// What an answer counts: nothing where there is no length, units, or ten-thousandths of an `em` or an `ex`.
+// What an amount counts: units, or ten-thousandths of an `em` or an `ex`.
+#[derive(Clone, Copy, Debug, PartialEq, Eq)]
+pub enum Kind {
+    Units,
+    Em,
+    Ex,
+}
+
+// The kinds by their numbers in an answer; the first where there is no length.
 pub const NO_KIND: u32 = 0;
 
 pub const UNIT_KIND: u32 = 1;
@@ -15,15 +24,45 @@ pub const EM_KIND: u32 = 2;
 
 pub const EX_KIND: u32 = 3;
 
-// A value that is no length; a length, so much of a kind; or the refusal, with the first byte of the number that is no exact length.
-#[derive(Clone, Copy)]
-pub enum LengthAnswer {
-    NoLength,
-    Length { kind: u32, amount: u64 },
+impl Kind {
+    pub fn number(self) -> u32
+        ensures { result ≡ kind_number self }
+    {
+        match self {
+            Kind::Units => UNIT_KIND,
+            Kind::Em => EM_KIND,
+            Kind::Ex => EX_KIND,
+        }
+    }
+}
+
+// A length, so much of a kind.
+#[derive(Clone, Copy, Debug, PartialEq, Eq)]
+pub struct Length {
+    pub kind: Kind,
+    pub amount: u64,
+}
+
+// Why a value is refused; of a bad length the first byte of the number that is no exact length.
+#[derive(Clone, Copy, Debug, PartialEq, Eq)]
+pub enum LengthError {
     TooLong,
     ShortStore,
     NotUtf8,
     BadLength(usize),
+}
+
+impl From<LengthError> for Refusal {
+    ghost from_gives = { λ error refusal. refusal ≡ refusal_of error };
+
+    fn from(error: LengthError) -> Refusal {
+        match error {
+            LengthError::TooLong => refused(TOO_LONG),
+            LengthError::ShortStore => refused(SHORT_STORE),
+            LengthError::NotUtf8 => refused(NOT_UTF8),
+            LengthError::BadLength(place) => refused_at(BAD_LENGTH, place),
+        }
+    }
 }
 
 // The refusal; of a length its kind and its amount. What does not apply is 0.
@@ -46,32 +85,19 @@ fn without_length(refusal: Refusal) -> LengthNumbers
 }
 
 // What an answer stands for.
-pub fn numbers_of(answer: LengthAnswer) -> LengthNumbers
+pub fn numbers_of(answer: Result<Option<Length>, LengthError>) -> LengthNumbers
     ensures { result ≡ numbers_of answer }
 {
-    match answer {
-        LengthAnswer::NoLength => {
-            return without_length(no_refusal());
-        }
-        LengthAnswer::Length { kind, amount } => {
-            let refusal = no_refusal();
-            return LengthNumbers {
-                refusal,
-                kind,
-                amount,
-            };
-        }
-        LengthAnswer::TooLong => {
-            return without_length(refused(TOO_LONG));
-        }
-        LengthAnswer::ShortStore => {
-            return without_length(refused(SHORT_STORE));
-        }
-        LengthAnswer::NotUtf8 => {
-            return without_length(refused(NOT_UTF8));
-        }
-        LengthAnswer::BadLength(place) => {
-            return without_length(refused_at(BAD_LENGTH, place));
-        }
+    let length = match answer {
+        Ok(length) => length,
+        Err(error) => return without_length(Refusal::from(error)),
+    };
+    match length {
+        Some(length) => LengthNumbers {
+            refusal: no_refusal(),
+            kind: length.kind.number(),
+            amount: length.amount,
+        },
+        None => without_length(no_refusal()),
     }
 }

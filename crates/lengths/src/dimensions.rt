@@ -3,77 +3,69 @@
 ghost use Rattle.std.specs.Prelude.{◌≡◌};
 ghost use Rattle.lengths.specs.Length.{with_unit, dimension_length, number_length};
 
-use crate::answers::{EM_KIND, EX_KIND, LengthAnswer, UNIT_KIND};
+use crate::answers::{Kind, Length, LengthError};
 use crate::numerals::{MOST_DIGITS, numeral_of};
-use values::words::place_of;
+use values::words::lookup;
 
-// The names of the eight units: joined, and their lengths.
-const NAMES: [u8; 16] = *b"pxincmmmptpcemex";
-
-const NAME_LENGTHS: [u8; 8] = [2, 2, 2, 2, 2, 2, 2, 2];
-
-const KINDS: [u32; 8] = [
-    UNIT_KIND, // px
-    UNIT_KIND, // in
-    UNIT_KIND, // cm
-    UNIT_KIND, // mm
-    UNIT_KIND, // pt
-    UNIT_KIND, // pc
-    EM_KIND, // em
-    EX_KIND, // ex
+// The eight units: their names, what an amount in each counts, and how much a ten-thousandth of each is.
+const UNITS: [(&str, (Kind, u32)); 8] = [
+    ("px", (Kind::Units, 381)),
+    ("in", (Kind::Units, 36576)),
+    ("cm", (Kind::Units, 14400)),
+    ("mm", (Kind::Units, 1440)),
+    ("pt", (Kind::Units, 508)),
+    ("pc", (Kind::Units, 6096)),
+    ("em", (Kind::Em, 1)),
+    ("ex", (Kind::Ex, 1)),
 ];
-
-const FACTORS: [u32; 8] = [381, 36576, 14400, 1440, 508, 6096, 1, 1];
 
 // What the last digit of a number is worth in ten-thousandths, by its decimals. No length has more than four.
 const SCALES: [u64; 5] = [10000, 1000, 100, 10, 1];
 
 // The length of a number that starts at `place`, in a unit of the kind of which a ten-thousandth is the factor.
-fn with_unit(place: usize, n: &[u8], kind: u32, factor: u32) -> LengthAnswer
+fn with_unit(place: usize, n: &[u8], kind: Kind, factor: u32) -> Result<Option<Length>, LengthError>
     ensures { result ≡ with_unit place n.now kind factor }
 {
     let numeral = numeral_of(n);
     let decimals = numeral.decimals;
     if decimals >= SCALES.len() {
-        return LengthAnswer::BadLength(place); // five decimals or more
+        return Err(LengthError::BadLength(place)); // five decimals or more
     }
     let amount = numeral.digits * SCALES[decimals];
     if amount > MOST_DIGITS {
-        return LengthAnswer::BadLength(place); // above 10,000
+        return Err(LengthError::BadLength(place)); // above 10,000
     }
     if numeral.negative {
         if amount > 0 {
-            return LengthAnswer::BadLength(place); // below zero
+            return Err(LengthError::BadLength(place)); // below zero
         }
-        return LengthAnswer::Length { kind, amount: 0 };
+        return Ok(Some(Length { kind, amount: 0 }));
     }
-    LengthAnswer::Length {
+    Ok(Some(Length {
         kind,
-        amount: amount * factor as u64,
-    }
+        amount: amount * u64::from(factor),
+    }))
 }
 
 // The length of a number that starts at `place`, with the unit behind it.
-pub fn dimension_length(place: usize, n: &[u8], unit: &[u8]) -> LengthAnswer
+pub fn dimension_length(place: usize, n: &[u8], unit: &[u8]) -> Result<Option<Length>, LengthError>
     ensures { result ≡ dimension_length place n.now unit.now }
 {
-    let i = place_of(unit, &NAMES, &NAME_LENGTHS);
-    if i < FACTORS.len() {
-        return with_unit(place, n, KINDS[i], FACTORS[i]);
-    }
-    LengthAnswer::NoLength
+    let Some((kind, factor)) = lookup(unit, &UNITS) else {
+        return Ok(None);
+    };
+    with_unit(place, n, kind, factor)
 }
 
 // The length of a number without a unit: exactly zero, or none.
-pub fn number_length(n: &[u8]) -> LengthAnswer
+pub fn number_length(n: &[u8]) -> Result<Option<Length>, LengthError>
     ensures { result ≡ number_length n.now }
 {
-    let numeral = numeral_of(n);
-    if numeral.digits == 0 {
-        return LengthAnswer::Length {
-            kind: UNIT_KIND,
-            amount: 0,
-        };
+    if numeral_of(n).digits > 0 {
+        return Ok(None);
     }
-    LengthAnswer::NoLength
+    Ok(Some(Length {
+        kind: Kind::Units,
+        amount: 0,
+    }))
 }

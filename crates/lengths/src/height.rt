@@ -4,7 +4,7 @@ ghost use Rattle.std.specs.Prelude.{◌≡◌};
 ghost use Rattle.sheets.specs.SheetAnswer.{SheetLent};
 ghost use Rattle.lengths.specs.HeightLength.{numbers_of, length_left, height_length};
 
-use crate::answers::LengthAnswer;
+use crate::answers::{Length, LengthError};
 use crate::tokens::length_of;
 use characters::utf8::is_valid;
 use combinators::least::stores_suffice;
@@ -17,7 +17,7 @@ fn read_value(
     tokens: &mut [u32],
     brackets: &mut [u8],
     texts: &mut [u8],
-) -> LengthAnswer
+) -> Result<Option<Length>, LengthError>
     requires { SheetLent s.now rules.old tokens.old brackets.old texts.old }
     ensures { record { answer = numbers_of result; rules = rules.new; tokens = tokens.new; brackets = brackets.new; texts = texts.new } ≡ length_left s.now rules.old tokens.old brackets.old texts.old }
 {
@@ -33,23 +33,23 @@ pub fn height_length(
     tokens: &mut [u32],
     brackets: &mut [u8],
     texts: &mut [u8],
-) -> LengthAnswer
+) -> Result<Option<Length>, LengthError>
     ensures { record { answer = numbers_of result; rules = rules.new; tokens = tokens.new; brackets = brackets.new; texts = texts.new } ≡ height_length s.now rules.old tokens.old brackets.old texts.old }
 {
     if s.len() > SHEET_LIMIT {
-        return LengthAnswer::TooLong;
+        return Err(LengthError::TooLong);
     }
-    if stores_suffice(
+    if !stores_suffice(
         s.len(),
         rules.len(),
         tokens.len(),
         brackets.len(),
         texts.len(),
     ) {
-        if is_valid(s) {
-            return read_value(s, rules, tokens, brackets, texts);
-        }
-        return LengthAnswer::NotUtf8;
+        return Err(LengthError::ShortStore);
     }
-    LengthAnswer::ShortStore
+    if !is_valid(s) {
+        return Err(LengthError::NotUtf8);
+    }
+    read_value(s, rules, tokens, brackets, texts)
 }

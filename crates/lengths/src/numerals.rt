@@ -28,18 +28,13 @@ fn digits_from(leading: u64, t: &[u8]) -> u64
     ensures { result ≡ capped (numeral ten hex_digit leading t.now) }
 {
     let mut value = leading;
-    let mut i = 0;
-    while i < t.len() {
+    for digit in t {
         if value > MOST_DIGITS {
             return MOST_DIGITS + 1;
         }
-        value = value * TEN + hex_digit_of(t[i]) as u64;
-        i += 1;
+        value = value * TEN + u64::from(hex_digit_of(*digit));
     }
-    if value > MOST_DIGITS {
-        return MOST_DIGITS + 1;
-    }
-    value
+    value.min(MOST_DIGITS + 1)
 }
 
 // A number behind its sign: digits, and where a point follows them, those behind it.

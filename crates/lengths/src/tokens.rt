@@ -6,12 +6,12 @@ ghost use Rattle.lengths.specs.Number.{plus};
 ghost use Rattle.lengths.specs.Length.{only_whitespace, length_of};
 ghost use Rattle.lengths.specs.Reading.{length_behind, unit_text, Behind};
 
-use crate::answers::LengthAnswer;
+use crate::answers::{Length, LengthError};
 use crate::dimensions::{dimension_length, number_length};
 use crate::numbers::parse_number;
 use combinators::bytes::byte_is;
 use combinators::texts::part_of;
-use lexer::names::{Name, parse_ident};
+use lexer::names::parse_ident;
 use lexer::whitespace::skip_optional_whitespace;
 
 // A '+' or none.
@@ -19,10 +19,7 @@ fn plus_of(t: &[u8]) -> usize
     ensures value { result ≡ plus t.now }
     ensures upper_bound { result ≤ length t.now }
 {
-    if byte_is(t, 0, b'+') {
-        return 1;
-    }
-    0
+    usize::from(byte_is(t, 0, b'+'))
 }
 
 // Whether `s` is white space and comments alone.
@@ -33,29 +30,30 @@ fn only_whitespace(s: &[u8]) -> bool
 }
 
 // The length of a number of `n` bytes at the start of `t`, by what stands behind it; its token starts at `place`.
-fn length_behind(place: usize, t: &[u8], n: usize, texts: &mut [u8]) -> LengthAnswer
+fn length_behind(
+    place: usize,
+    t: &[u8],
+    n: usize,
+    texts: &mut [u8],
+) -> Result<Option<Length>, LengthError>
     requires { Behind t.now n texts.old }
     ensures value { result ≡ length_behind place t.now n }
     ensures texts_after { texts.new ≡ sets texts.old 0 (name_text (ident_of (drop n t.now))) }
 {
-    match parse_ident(&t[n..], texts, 0) {
-        Name::Text(m, length) => {
-            if only_whitespace(&t[n + m..]) {
-                return dimension_length(place, &t[..n], part_of(texts, 0, length));
-            }
-            return LengthAnswer::NoLength;
+    let Some(unit) = parse_ident(&t[n..], texts, 0) else {
+        if only_whitespace(&t[n..]) {
+            return number_length(&t[..n]);
         }
-        Name::NoName => {
-            if only_whitespace(&t[n..]) {
-                return number_length(&t[..n]);
-            }
-            return LengthAnswer::NoLength;
-        }
+        return Ok(None);
+    };
+    if only_whitespace(&t[n + unit.taken..]) {
+        return dimension_length(place, &t[..n], part_of(texts, 0, unit.length));
     }
+    Ok(None)
 }
 
 // The length that a value is.
-pub fn length_of(s: &[u8], texts: &mut [u8]) -> LengthAnswer
+pub fn length_of(s: &[u8], texts: &mut [u8]) -> Result<Option<Length>, LengthError>
     requires { length s.now + 2 ≤ length texts.old }
     ensures value { result ≡ length_of s.now }
     ensures texts_after { texts.new ≡ sets texts.old 0 (unit_text s.now) }
@@ -64,11 +62,8 @@ pub fn length_of(s: &[u8], texts: &mut [u8]) -> LengthAnswer
     let start = w + plus_of(&s[w..]);
     let t = &s[start..];
     let n = parse_number(t);
-    if n == 0 {
-        return LengthAnswer::NoLength;
-    }
-    if byte_is(t, n, b'%') {
-        return LengthAnswer::NoLength;
+    if n == 0 || byte_is(t, n, b'%') {
+        return Ok(None);
     }
     length_behind(w, t, n, texts)
 }

@@ -1,4 +1,5 @@
 -- The characters of a name: one and those behind it, where they end, how long their text is, and the loop of `emit_nmchars`.
+use Rattle.std.proofs.Common.{Option, Some, None}
 use mathlib.Core.Path.{◌≡◌, ap, sym, ◌∙◌}
 use mathlib.Core.List.{List, ◌++◌}
 use Prim.Native.Nat.{ℕ, ◌+◌, ◌-◌, ◌≤◌}
@@ -11,7 +12,6 @@ use Rattle.combinators.proofs.Lists.{rest}
 use Rattle.combinators.proofs.Repeats.{many-le, many-took, many-from, texts-took}
 use Rattle.characters.specs.Utf8.{utf8, taken_of}
 use Rattle.characters.specs.declared.utf8.Scalar.{Scalar}
-use Rattle.characters.specs.declared.utf8.Scalar.TheVariants.{Value, NoScalar}
 use Rattle.lexer.specs.Name.{nmchar_of, bytes_of, char_taken, char_text, chars_end, chars_text}
 use Rattle.lexer.proofs.Bounds.{Bound, bound-two, repeated}
 use Rattle.lexer.proofs.Writing.{Writing, Wrote, writing_more, writing-stop, writing-end, writing-small}
@@ -19,17 +19,17 @@ use Rattle.lexer.proofs.Characters.{char_of, char-le, char-bound}
 
 -- ---- one character
 -- the bytes that it takes
-takes : (s : List ℕ) (x : Scalar) → nmchar_of s ≡ x → char_taken s ≡ taken_of x
+takes : (s : List ℕ) (x : Option Scalar) → nmchar_of s ≡ x → char_taken s ≡ taken_of x
 unfolding char_taken
 takes s x e = ap taken_of e
 
 -- the text that it stands for
-stands : (s : List ℕ) (k v : ℕ) → nmchar_of s ≡ Value k v → char_text s ≡ utf8 v
+stands : (s : List ℕ) (k v : ℕ) → nmchar_of s ≡ Some (record { taken = k; value = v }) → char_text s ≡ utf8 v
 unfolding char_text bytes_of
 stands s k v e = ap bytes_of e
 
 -- a character, and those behind it
-module _ (s : List ℕ) (n v : ℕ) (e : nmchar_of s ≡ Value n v) where
+module _ (s : List ℕ) (n v : ℕ) (e : nmchar_of s ≡ Some (record { taken = n; value = v })) where
   -- a character takes a byte or more
   nonzero : ¬ (n ≡ 0)
   nonzero q = omega (arith, (char_of s n v e).some)
@@ -83,7 +83,7 @@ unfolding chars_end chars_text
 emitted s st₀ fill st i n w = ((w.0, w.1), w.2)
 
 -- a character that is read takes a byte or more
-pub chars-some : (x : Scalar) (t : List ℕ) → x ≡ nmchar_of t → (k v : ℕ) → x ≡ Value k v → 1 ≤ k
+pub chars-some : (x : Option Scalar) (t : List ℕ) → x ≡ nmchar_of t → (k v : ℕ) → x ≡ Some (record { taken = k; value = v }) → 1 ≤ k
 chars-some x t ex k v h = (char_of t k v (sym ex ∙ h)).some
 
 module _ (s st₀ : List ℕ) (fill : ℕ) (st : List ℕ) (f i n : ℕ) (w : Chars s st₀ fill st f i n) where
@@ -93,22 +93,22 @@ module _ (s st₀ : List ℕ) (fill : ℕ) (st : List ℕ) (f i n : ℕ) (w : Ch
   chars-small = writing-small _ _ _ _ _ _ _ _ _ w (chars-text-le s)
 
   -- a turn that reads v for k bytes
-  pub chars-more : (x : Scalar) → x ≡ nmchar_of (take (length s - i) (drop i s)) → (k v : ℕ) → x ≡ Value k v → (z : List ℕ) (g : ℕ)
+  pub chars-more : (x : Option Scalar) → x ≡ nmchar_of (take (length s - i) (drop i s)) → (k v : ℕ) → x ≡ Some (record { taken = k; value = v }) → (z : List ℕ) (g : ℕ)
       → record { bytes = z; fill = g } ≡ emits (record { bytes = st; fill = f }) (utf8 v) → length z ≡ length st → (m : ℕ) → m ≡ length (utf8 v)
       → Chars s st₀ fill z g (i + k) (n + m)
   unfolding taken_of
   chars-more x ex k v h z g ez lz m em =
-      let e : nmchar_of (drop i s) ≡ Value k v = ap nmchar_of (sym (rest s i)) ∙ sym ex ∙ h in
+      let e : nmchar_of (drop i s) ≡ Some (record { taken = k; value = v }) = ap nmchar_of (sym (rest s i)) ∙ sym ex ∙ h in
       let c = char_of (drop i s) k v e in
       let t = stands (drop i s) k v e in
       writing_more _ _ _ _ _ _ _ _ _ w k m z g (takes (drop i s) _ e) c.within_text (λ q. omega (arith, c.some))
       (em ∙ ap length (sym t)) (ez ∙ ap (emits _) (sym t)) lz
 
   -- the return where no character is left: what was taken and written is all of it
-  pub chars-stop : (x : Scalar) → x ≡ nmchar_of (take (length s - i) (drop i s)) → x ≡ NoScalar → Emitted s st₀ fill st i n
+  pub chars-stop : (x : Option Scalar) → x ≡ nmchar_of (take (length s - i) (drop i s)) → x ≡ None → Emitted s st₀ fill st i n
   unfolding taken_of
   chars-stop x ex h =
-      let e : nmchar_of (drop i s) ≡ NoScalar = ap nmchar_of (sym (rest s i)) ∙ sym ex ∙ h in
+      let e : nmchar_of (drop i s) ≡ None = ap nmchar_of (sym (rest s i)) ∙ sym ex ∙ h in
       emitted _ _ _ _ _ _ (writing-stop _ _ _ _ _ _ _ _ _ w (takes (drop i s) _ e))
 
   -- the text is at its end

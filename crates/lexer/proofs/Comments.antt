@@ -19,10 +19,6 @@ pub record Seeking (s : List ℕ) (i : ℕ) : Type 0 where
   pub within_text : i ≤ length s
   pub left : comment_end (i + 2) (drop i s) ≡ comment_end 2 s
 
--- the search begins at 0 with all of the text left
-pub seek-begin : (s : List ℕ) → Seeking s 0
-seek-begin s = record { within_text = omega arith; left = refl }
-
 module _ (s : List ℕ) (i : ℕ) (c : Seeking s i) where
   -- the text is at its end
   pub seek-end : length s ≤ i → 0 ≡ comment_end 2 s
@@ -114,7 +110,3 @@ module _ (s : List ℕ) (at : ℕ) where
   -- skipping from a place within the text ends within the text
   pub skip-from-le : at ≤ length s → at + skip_whitespace (drop at s) ≤ length s
   skip-from-le h = omega (arith, skip-le (drop at s), length-drop at s)
-
-  -- so does skipping in the lent rest
-  pub skipped-le : at ≤ length s → {w : ℕ} → w ≡ skip_whitespace (take (length s - at) (drop at s)) → at + w ≤ length s
-  skipped-le h e = omega (arith, skipped-from e, skip-from-le h)

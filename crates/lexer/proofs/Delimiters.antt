@@ -1,4 +1,5 @@
 -- A delimiter is the first character of its token, so a scalar value, for all texts.
+use Rattle.std.proofs.Common.{Option, Some, None}
 use mathlib.Core.Path.{◌≡◌, refl}
 use mathlib.Core.Bool.{true}
 use mathlib.Core.List.{List}
@@ -8,7 +9,6 @@ use Rattle.combinators.specs.Parsed.{Parsed, ok, err, behind, or_else}
 use Rattle.combinators.proofs.Rules.{pick-holds}
 use Rattle.characters.specs.Utf8.{is_scalar, scalar_of}
 use Rattle.characters.specs.declared.utf8.Scalar.{Scalar}
-use Rattle.characters.specs.declared.utf8.Scalar.TheVariants.{Value, NoScalar}
 use Rattle.characters.proofs.RoundTrip.{written_back}
 use Rattle.lexer.specs.Whitespace.{skip_whitespace}
 use Rattle.lexer.specs.Name.{ident_of, identstring_of}
@@ -91,10 +91,10 @@ module _ (c : ℕ) (h : is_scalar c ≡ true) where
 
 -- ---- the next token
 -- where no white space is
-at_only : (t : List ℕ) (x : Scalar) → scalar_of t ≡ x → Only (token_at t x)
+at_only : (t : List ℕ) (x : Option Scalar) → scalar_of t ≡ x → Only (token_at t x)
 unfolding token_at
-at_only t (Value n c) e = by_only c (written_back t n c e).scalar (start_of c) n t
-at_only t NoScalar h = λ n d e. cc
+at_only t (Some c) e = by_only c.value (written_back t c.taken c.value e).scalar (start_of c.value) c.taken t
+at_only t None h = λ n d e. cc
 
 -- a delimiter is a scalar value
 pub delim-scalar : (s : List ℕ) (n d : ℕ) → token_of s ≡ ok n (delim d) → is_scalar d ≡ true

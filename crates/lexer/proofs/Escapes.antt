@@ -1,4 +1,5 @@
 -- The loops over hex digits, and the returns of the readers of one character.
+use Rattle.std.proofs.Common.{Option, Some, None, MatchOption}
 use mathlib.Core.Path.{◌≡◌, refl, ap, sym, ◌∙◌}
 use mathlib.Core.List.{List}
 use mathlib.Core.Bool.{Bool, true, false}
@@ -8,47 +9,18 @@ use native.Mathlib.Nat.{add-zero}
 use native.Mathlib.Omega.{arith}
 use lib.ListN.{length, get_or, take, drop}
 use lib.Seq.{drop-drop}
-use Rattle.combinators.specs.Choice.{pick, is, within}
-use Rattle.combinators.specs.Ascii.{digit_zero, digit_nine, capital_a, capital_f, capital_z, small_a, small_f, reverse_solidus}
+use Rattle.combinators.specs.Choice.{pick, is}
+use Rattle.combinators.specs.Ascii.{digit_zero, digit_nine, capital_a, capital_f, small_a, small_f, reverse_solidus}
 use Rattle.combinators.proofs.Rules.{cases, pick-holds, pick_true, pick-false, told, is-no, is-yes-of, is-no-of, within-true}
 use Rattle.combinators.proofs.Lists.{byte-there, rest, first}
 use Rattle.characters.specs.Utf8.{or_replacement, scalar_of, replacement_character}
 use Rattle.characters.specs.declared.utf8.Scalar.{Scalar}
-use Rattle.characters.specs.declared.utf8.Scalar.TheVariants.{Value, NoScalar}
 use Rattle.lexer.specs.Name.{lower, is_hex_digit, hex_digit, hex_run, maximum_digits, hex_count, hex_value, escaped_of, ident_escape_of, behind_one, folded_char, either}
-
--- ---- the returns of `lower_of`: r is the byte b, and t whether it is a capital letter
-module _ (b r : ℕ) (t : Bool) (e : t ≡ within b capital_a capital_z) (er : r ≡ b) where
-  -- a capital letter is folded
-  pub folded : t ≡ true → r + 32 ≡ lower b
-  unfolding lower
-  folded h = pick_true _ _ _ _ (told _ _ _ e h) (rw er)
-
-  -- any other byte is kept
-  pub kept : t ≡ false → r ≡ lower b
-  unfolding lower
-  kept h = pick-false _ _ _ _ (told _ _ _ e h) er
-
--- ---- the returns of `hex_digit_of` for letters
-module _ (b r : ℕ) (no_digit : within b digit_zero digit_nine ≡ false) where
-  -- a small letter from `a` to `f` is worth 10 more than its distance from `a`
-  pub small-digit : within b small_a small_f ≡ true → r ≡ b - small_a → r + 10 ≡ hex_digit b
-  unfolding hex_digit
-  small-digit h e = pick-false _ _ _ _ no_digit (pick_true _ _ _ _ h (rw e))
-
-  -- a capital letter from `A` to `F` is worth 10 more than its distance from `A`
-  pub capital-digit : within b small_a small_f ≡ false → within b capital_a capital_f ≡ true → r ≡ b - capital_a → r + 10 ≡ hex_digit b
-  unfolding hex_digit
-  capital-digit n h e = pick-false _ _ _ _ no_digit (pick-false _ _ _ _ n (pick_true _ _ _ _ h (rw e)))
 
 -- ---- the loop of `hex_run`: at i, what is left to count, with what was counted, is the whole
 pub record Counting (s : List ℕ) (i : ℕ) : Type 0 where
   pub left : hex_run 0 maximum_digits s ≡ hex_run i (maximum_digits - i) (drop i s)
   pub bound : i ≤ maximum_digits
-
--- before the first digit none is counted, and all are left
-pub count-begin : (s : List ℕ) → Counting s 0
-count-begin s = record { left = refl; bound = omega arith }
 
 module _ (s : List ℕ) (i : ℕ) (c : Counting s i) where
   -- one byte of a text
@@ -161,25 +133,25 @@ module _ (t : List ℕ) (n : ℕ) (e : n ≡ hex_run 0 maximum_digits t) where
 -- ---- the returns of `nmstart_char` and `nmchar_char`: b is the first byte, and r whether p holds of it
 module _ (p : ℕ → Bool) (s : List ℕ) (b : ℕ) (eb : b ≡ get_or s 0 0) (r : Bool) (er : r ≡ p b) where
   -- where p holds of the first byte, the character is that byte folded, and takes one byte
-  pub char-yes : r ≡ true → (v : ℕ) → v ≡ lower b → Value 1 v ≡ folded_char p s
+  pub char-yes : r ≡ true → (v : ℕ) → v ≡ lower b → Some (record { taken = 1; value = v }) ≡ folded_char p s
   unfolding folded_char
   char-yes e v ev = pick_true _ _ _ _ (told _ _ _ (er ∙ ap p eb) e) (rw (ev, eb))
 
   -- where p does not hold of the first byte, there is no character
-  pub char-no : r ≡ false → NoScalar ≡ folded_char p s
+  pub char-no : r ≡ false → None ≡ folded_char p s
   unfolding folded_char
   char-no e = pick-false _ _ _ _ (told _ _ _ (er ∙ ap p eb) e) refl
 
 -- ---- the returns of `escaped`
 module _ (t : List ℕ) where
   -- the end of the text
-  pub escaped-end : length t ≡ 0 → Value 1 replacement_character ≡ escaped_of t
+  pub escaped-end : length t ≡ 0 → Some (record { taken = 1; value = replacement_character }) ≡ escaped_of t
   unfolding escaped_of
   escaped-end h = search cases
 
   module _ (d : ¬ (length t ≡ 0)) (b : ℕ) (eb : b ≡ get_or t 0 0) (r : Bool) (er : r ≡ is_hex_digit b) where
     -- hex digits behind the backslash stand for the scalar value that they write, or U+FFFD
-    pub escaped-hex : r ≡ true → (n m v : ℕ) → n ≡ hex_count t → m ≡ hex_value 0 n t → v ≡ or_replacement m → Value (1 + n) v ≡ escaped_of t
+    pub escaped-hex : r ≡ true → (n m v : ℕ) → n ≡ hex_count t → m ≡ hex_value 0 n t → v ≡ or_replacement m → Some (record { taken = 1 + n; value = v }) ≡ escaped_of t
     unfolding escaped_of
     escaped-hex e n m v en em ev =
         pick-false _ _ _ _ (is-no _ _ d) (pick_true _ _ _ _ (told _ _ _ (er ∙ ap is_hex_digit eb) e) (rw (ev, em, en)))
@@ -190,24 +162,24 @@ module _ (t : List ℕ) where
     other e = pick-false _ _ _ _ (is-no _ _ d) (pick-false _ _ _ _ (told _ _ _ (er ∙ ap is_hex_digit eb) e) refl)
 
     -- a character that is read behind the backslash is what the escape stands for
-    pub escaped-char : r ≡ false → (x : Scalar) → x ≡ scalar_of t → (n v : ℕ) → x ≡ Value n v → Value (1 + n) v ≡ escaped_of t
+    pub escaped-char : r ≡ false → (x : Option Scalar) → x ≡ scalar_of t → (n v : ℕ) → x ≡ Some (record { taken = n; value = v }) → Some (record { taken = 1 + n; value = v }) ≡ escaped_of t
     unfolding behind_one
     escaped-char e x ex n v h = ap behind_one (sym h ∙ ex) ∙ other e
 
     -- where no well-formed sequence stands behind the backslash, there is no escape
-    pub escaped-none : r ≡ false → (x : Scalar) → x ≡ scalar_of t → x ≡ NoScalar → NoScalar ≡ escaped_of t
+    pub escaped-none : r ≡ false → (x : Option Scalar) → x ≡ scalar_of t → x ≡ None → None ≡ escaped_of t
     unfolding behind_one
     escaped-none e x ex h = ap behind_one (sym h ∙ ex) ∙ other e
 
 -- ---- the returns of `ident_escape`: r says whether a backslash stands there
 module _ (s : List ℕ) (r : Bool) (er : r ≡ is (get_or s 0 0) reverse_solidus) where
   -- behind a backslash, what `escaped` reads of the rest of the text is the escape
-  pub escape-yes : r ≡ true → (x : Scalar) → x ≡ escaped_of (take (length s - 1) (drop 1 s)) → x ≡ ident_escape_of s
+  pub escape-yes : r ≡ true → (x : Option Scalar) → x ≡ escaped_of (take (length s - 1) (drop 1 s)) → x ≡ ident_escape_of s
   unfolding ident_escape_of
   escape-yes h x ex = pick_true _ _ _ _ (told _ _ _ er h) (ex ∙ ap escaped_of (rest s 1))
 
   -- where no backslash stands, there is no escape
-  pub escape-no : r ≡ false → NoScalar ≡ ident_escape_of s
+  pub escape-no : r ≡ false → None ≡ ident_escape_of s
   unfolding ident_escape_of
   escape-no h = pick-false _ _ _ _ (told _ _ _ er h) refl
 
@@ -216,13 +188,17 @@ module _ (s : List ℕ) (r : Bool) (er : r ≡ is (get_or s 0 0) reverse_solidus
   escape-there h = byte-there s 0 reverse_solidus (omega arith) (told _ _ _ er h)
 
 -- ---- the returns of `nmstart` and `nmchar`
-module _ (x a b : Scalar) (ex : x ≡ a) where
-  -- where the first alternative reads, it is the answer
-  pub either_first : (n v : ℕ) → x ≡ Value n v → Value n v ≡ either a b
-  unfolding either
-  either_first n v h = rw (sym ex ∙ h)
-
+module _ (x a b : Option Scalar) (ex : x ≡ a) where
   -- where the first does not, the second is the answer
-  pub either_second : x ≡ NoScalar → (y : Scalar) → y ≡ b → y ≡ either a b
+  pub either_second : x ≡ None → (y : Option Scalar) → y ≡ b → y ≡ either a b
   unfolding either
   either_second h y ey = rw (sym ex ∙ h) ey
+
+  -- both at once, as `or_else` answers
+  pub either-by : {E : Type 0} (r : Option Scalar) → MatchOption x E (λ c. r ≡ Some c) → (E → r ≡ b) → r ≡ either a b
+  unfolding either
+  either-by {E = E} r m f = go x ex m
+    where
+      go : (y : Option Scalar) → y ≡ a → MatchOption y E (λ c. r ≡ Some c) → r ≡ either a b
+      go (Some c) e m = rw (← e) m
+      go None e m = rw (← e) (f m)

@@ -1,4 +1,6 @@
 -- What a name takes, and how long its text is.
+use Rattle.std.proofs.lemmas.Option.{same_Some, none-some}
+use Rattle.std.proofs.Common.{Option, Some, None}
 use mathlib.Core.Path.{◌≡◌, refl, ap, sym, ◌∙◌}
 use mathlib.Core.List.{List}
 use Prim.Native.Nat.{ℕ, ◌+◌, ◌≤◌}
@@ -7,16 +9,14 @@ use lib.ListN.{length, take, drop}
 use Rattle.combinators.specs.Parsed.{Parsed, ok, err}
 use Rattle.combinators.proofs.Rules.{pick-holds, is_false}
 use Rattle.characters.specs.declared.utf8.Scalar.{Scalar}
-use Rattle.characters.specs.declared.utf8.Scalar.TheVariants.{Value, NoScalar}
 use Rattle.lexer.specs.Whitespace.{skip_whitespace}
 use Rattle.lexer.specs.Name.{nmstart_of, chars_end, chars_text, name_from, dash, name_of, chars_of, ident_of, identstring_of, name_answer}
-use Rattle.lexer.specs.declared.names.Name.{Name}
-use Rattle.lexer.specs.declared.names.Name.TheVariants.{Text}
+use Rattle.lexer.specs.declared.Written.{Written}
 use Rattle.lexer.proofs.Comments.{skip-le}
 use Rattle.lexer.proofs.Bounds.{Keeps, behind-keeps, Fits}
 use Rattle.lexer.proofs.Characters.{char_of}
 use Rattle.lexer.proofs.CharacterRuns.{chars-bound, chars-le}
-use Rattle.lexer.proofs.Idents.{text-none, start-same, name-some, name-none}
+use Rattle.lexer.proofs.Idents.{start-same, name-some, name-none}
 
 -- what an answer keeps to
 abbrev pub NameKeeps : List ℕ → Parsed (List ℕ) → Type 0
@@ -27,12 +27,12 @@ chars-fit : (t : List ℕ) → 1 ≤ chars_end t → Fits t (chars_end t) (chars
 chars-fit t h = record { some = h; within_text = chars-le t; bound = chars-bound t }
 
 -- by what starts the name
-name-at : (t : List ℕ) (x : Scalar) → nmstart_of (drop (dash t) t) ≡ x → name_of t ≡ name_from (take (dash t) t) (drop (dash t) t) x
+name-at : (t : List ℕ) (x : Option Scalar) → nmstart_of (drop (dash t) t) ≡ x → name_of t ≡ name_from (take (dash t) t) (drop (dash t) t) x
 unfolding name_of
 name-at t x e = ap (name_from (take (dash t) t) (drop (dash t) t)) e
 
 -- a name that starts with v takes what v takes, or more
-name-from : (b u : List ℕ) (i v n : ℕ) (c : List ℕ) → nmstart_of u ≡ Value i v → name_from b u (Value i v) ≡ ok n c → 1 ≤ n
+name-from : (b u : List ℕ) (i v n : ℕ) (c : List ℕ) → nmstart_of u ≡ Some (record { taken = i; value = v }) → name_from b u (Some (record { taken = i; value = v })) ≡ ok n c → 1 ≤ n
 unfolding name_from
 name-from b u i v n c e h =
     let q : length b + (i + chars_end (drop i u)) ≡ n = cc in
@@ -42,11 +42,11 @@ name-from b u i v n c e h =
 pub name-keeps : (t : List ℕ) → NameKeeps t (name_of t)
 name-keeps t = go (nmstart_of (drop (dash t) t)) refl
   where
-    go : (x : Scalar) → nmstart_of (drop (dash t) t) ≡ x → NameKeeps t (name_of t)
-    go (Value i v) h =
-        let e = name-some t i v h in
-        rw e (chars-fit t (name-from _ _ i v _ _ h (sym (name-at t _ h) ∙ e)))
-    go NoScalar h = rw (name-none t h) tt
+    go : (x : Option Scalar) → nmstart_of (drop (dash t) t) ≡ x → NameKeeps t (name_of t)
+    go (Some c) h =
+        let e = name-some t c.taken c.value h in
+        rw e (chars-fit t (name-from _ _ c.taken c.value _ _ h (sym (name-at t _ h) ∙ e)))
+    go None h = rw (name-none t h) tt
 
 -- one character of a name or more
 pub chars-keeps : (t : List ℕ) → NameKeeps t (chars_of t)
@@ -73,7 +73,7 @@ pub identstring-fits : (s : List ℕ) (n : ℕ) (b : List ℕ) → identstring_o
 identstring-fits s n b e = rw e at (identstring-keeps s)
 
 -- what an answer says of the bytes taken
-pub answer_le : (p : Parsed (List ℕ)) (t : List ℕ) → NameKeeps t p → (x : Name) → x ≡ name_answer p → (n m : ℕ) → x ≡ Text n m → n ≤ length t
+pub answer_le : (p : Parsed (List ℕ)) (t : List ℕ) → NameKeeps t p → (x : Option Written) → x ≡ name_answer p → (n m : ℕ) → x ≡ Some (record { taken = n; length = m }) → n ≤ length t
 unfolding name_answer
-answer_le (ok i b) t f x ex n m h = let q : n ≡ i = cc in rw q f.within_text
-answer_le err t f x ex n m h = text-none n m (sym h ∙ ex)
+answer_le (ok i b) t f x ex n m h = rw (ap (λ w. w.taken) (same_Some _ _ (sym h ∙ ex))) f.within_text
+answer_le err t f x ex n m h = absurd (none-some _ (sym ex ∙ h))

@@ -1,46 +1,30 @@
 -- A token by its first character, and the next token behind white space: the returns of `start_of` to `parse_token`.
+use Rattle.std.proofs.lemmas.Option.{same_Some, none-some}
+use Rattle.std.proofs.Common.{Option, Some, None}
 use mathlib.Core.Path.{◌≡◌, refl, ap, sym, ◌∙◌}
 use mathlib.Core.List.{List, []}
 use mathlib.Core.Bool.{Bool, true, false}
 use Prim.Native.Nat.{ℕ, ◌+◌, ◌-◌}
 use lib.ListN.{length, take, drop}
 use lib.Seq.{sets}
-use Rattle.combinators.specs.Choice.{pick, is, within}
+use Rattle.combinators.specs.Choice.{pick, is}
 use Rattle.combinators.specs.Ascii.{number_sign, plus_sign, hyphen_minus, full_stop, less_than_sign, reverse_solidus, digit_zero, digit_nine, left_parenthesis, right_parenthesis, quotation_mark, apostrophe, left_square_bracket, right_square_bracket, left_curly_bracket, right_curly_bracket}
 use Rattle.combinators.specs.Ascii as ascii
 use Rattle.combinators.specs.Parsed.{Parsed, ok, err, behind}
-use Rattle.combinators.proofs.Rules.{cases}
 use Rattle.combinators.proofs.Lists.{rest}
 use Rattle.characters.specs.Utf8.{scalar_of}
 use Rattle.characters.specs.declared.utf8.Scalar.{Scalar}
-use Rattle.characters.specs.declared.utf8.Scalar.TheVariants.{Value, NoScalar}
 use Rattle.lexer.specs.Whitespace.{skip_whitespace}
-use Rattle.lexer.specs.Number as numbers
-use Rattle.lexer.specs.Token.{Token, is_quote, is_ident_start, start_of, mark_of, token_by, token_at, token_of, coded, text_of, token_answer, token_text, lexed_answer}
+use Rattle.lexer.specs.Token.{Token, start_of, mark_of, token_by, token_at, token_of, coded, text_of, token_answer, token_text, lexed_answer}
 use Rattle.lexer.specs.declared.tokens.Lexed.{Lexed}
-use Rattle.lexer.specs.declared.tokens.Lexed.TheVariants.{At, Nothing}
 use Rattle.lexer.specs.declared.tokens.Start.{Start}
-use Rattle.lexer.specs.declared.tokens.Start.TheVariants.{Digit}
-use Rattle.lexer.specs.declared.tokens.TokenAnswer.{TokenAnswer}
-use Rattle.lexer.specs.declared.tokens.TokenAnswer.TheVariants.{Took, NoToken}
+use Rattle.lexer.specs.declared.tokens.TokenRead.{TokenRead}
 use Rattle.lexer.specs.declared.tokens.Token as declared
-use Rattle.lexer.proofs.TokenAnswers.{Lexes, lexes-err, took-none}
-
--- ---- `start_of`
--- a digit selects the numbers, where no test before it holds
-pub digit-start : (c : ℕ) → ¬ (c ≡ quotation_mark) → ¬ (c ≡ apostrophe) → ¬ (c ≡ number_sign) → ¬ (c ≡ plus_sign) → ¬ (c ≡ hyphen_minus) → ¬ (c ≡ full_stop)
-    → ¬ (c ≡ less_than_sign) → ¬ (c ≡ reverse_solidus) → is_ident_start c ≡ false → within c digit_zero digit_nine ≡ true → Digit ≡ start_of c
-unfolding start_of is_quote numbers.is_digit
-digit-start c n₁ n₂ n₃ n₄ n₅ n₆ n₇ n₈ i d = search cases depth 40
-
--- ---- `mark_of`: a mark, as the code has it
--- the code's token of a mark is that of the byte which it was made of
-pub marked : (k : Token) (c : ℕ) → k ≡ mark_of c → coded k ≡ coded (mark_of c)
-marked k c e = ap coded e
+use Rattle.lexer.proofs.TokenAnswers.{Lexes, lexes-err}
 
 -- ---- `token_by`
 -- the reader that the character selects
-pub selected : (c n : ℕ) (t st z : List ℕ) (fill : ℕ) (r : TokenAnswer) (k k' : Start) → k ≡ start_of c → k ≡ k' → Lexes (token_by k' n c t) st fill r z
+pub selected : (c n : ℕ) (t st z : List ℕ) (fill : ℕ) (r : Option TokenRead) (k k' : Start) → k ≡ start_of c → k ≡ k' → Lexes (token_by k' n c t) st fill r z
     → Lexes (token_by (start_of c) n c t) st fill r z
 selected c n t st z fill r k k' e h w = rw (sym e ∙ h) w
 
@@ -66,53 +50,55 @@ mark-text c =
     refl))))))))
 
 -- so the store is left alone
-pub mark-lexes : (c n : ℕ) (st : List ℕ) (fill : ℕ) (k : declared.Token) → k ≡ coded (mark_of c) → Lexes (ok n (mark_of c)) st fill (Took n k) st
+pub mark-lexes : (c n : ℕ) (st : List ℕ) (fill : ℕ) (k : declared.Token) → k ≡ coded (mark_of c) → Lexes (ok n (mark_of c)) st fill (Some (record { taken = n; token = k })) st
 unfolding token_answer token_text
-mark-lexes c n st fill k e = (ap (Took n) e, sym (ap (sets st fill) (mark-text c)))
+mark-lexes c n st fill k e = (ap (λ x. Some (record { taken = n; token = x })) e, sym (ap (sets st fill) (mark-text c)))
 
 -- ---- `token_at`: by the character at the start, if there is one
-module _ (t st : List ℕ) (fill : ℕ) (x : Scalar) (ex : x ≡ scalar_of t) where
+module _ (t st : List ℕ) (fill : ℕ) (x : Option Scalar) (ex : x ≡ scalar_of t) where
   -- the return where a character is there: the token by what it starts
-  pub at-char : (n c : ℕ) → x ≡ Value n c → (r : TokenAnswer) (z : List ℕ) → Lexes (token_by (start_of c) n c t) st fill r z
+  pub at-char : (n c : ℕ) → x ≡ Some (record { taken = n; value = c }) → (r : Option TokenRead) (z : List ℕ) → Lexes (token_by (start_of c) n c t) st fill r z
       → Lexes (token_at t (scalar_of t)) st fill r z
   unfolding token_at
   at-char n c h r z w = rw (sym ex ∙ h) w
 
   -- where no character can be read, there is no token and the store is as it was
-  pub at_none : x ≡ NoScalar → Lexes (token_at t (scalar_of t)) st fill NoToken st
+  pub at_none : x ≡ None → Lexes (token_at t (scalar_of t)) st fill None st
   unfolding token_at
   at_none h = lexes-err _ (rw (sym ex ∙ h)) st st fill refl
 
 -- ---- `parse_token`: the same behind w bytes of white space
 -- the answer and the store that it leaves
-abbrev pub LexedAs : ℕ → Parsed Token → List ℕ → ℕ → Lexed → List ℕ → Type 0
+abbrev pub LexedAs : ℕ → Parsed Token → List ℕ → ℕ → Option Lexed → List ℕ → Type 0
 LexedAs w p st fill r z = (r ≡ lexed_answer w p) × (z ≡ sets st fill (token_text p))
 
 -- a token of n bytes behind k bytes of white space starts at k and ends at k + n
-lexed-ok : (p : Parsed Token) (k n : ℕ) (st z : List ℕ) (fill : ℕ) (x : declared.Token) → Lexes p st fill (Took n x) z
-    → LexedAs k (behind k p) st fill (At k (k + n) x) z
+lexed-ok : (p : Parsed Token) (k n : ℕ) (st z : List ℕ) (fill : ℕ) (x : declared.Token) → Lexes p st fill (Some (record { taken = n; token = x })) z
+    → LexedAs k (behind k p) st fill (Some (record { start = k; end = k + n; token = x })) z
 unfolding behind token_answer token_text lexed_answer
-lexed-ok (ok i y) k n st z fill x w = let e = w.0 in (cc, w.1)
-lexed-ok err k n st z fill x w = took-none n x w.0
+lexed-ok (ok i y) k n st z fill x w =
+    let q : record { taken = n; token = x } ≡ record { taken = i; token = coded y } = same_Some _ _ w.0 in
+    (ap (λ r. Some (record { start = k; end = k + r.taken; token = r.token })) q, w.1)
+lexed-ok err k n st z fill x w = absurd (none-some _ (sym w.0))
 
 -- where there is no token behind the white space, there is no next token
-lexed-err : (p : Parsed Token) (k : ℕ) (st z : List ℕ) (fill : ℕ) → Lexes p st fill NoToken z → LexedAs k (behind k p) st fill Nothing z
+lexed-err : (p : Parsed Token) (k : ℕ) (st z : List ℕ) (fill : ℕ) → Lexes p st fill None z → LexedAs k (behind k p) st fill None z
 unfolding behind token_answer token_text lexed_answer
-lexed-err (ok i y) k st z fill w = took-none i (coded y) (sym w.0)
+lexed-err (ok i y) k st z fill w = absurd (none-some _ w.0)
 lexed-err err k st z fill w = (refl, w.1)
 
-module _ (s : List ℕ) (k : ℕ) (ek : k ≡ skip_whitespace s) (x : TokenAnswer) (st z : List ℕ) (fill : ℕ)
+module _ (s : List ℕ) (k : ℕ) (ek : k ≡ skip_whitespace s) (x : Option TokenRead) (st z : List ℕ) (fill : ℕ)
     (w : Lexes (token_at (take (length s - k) (drop k s)) (scalar_of (take (length s - k) (drop k s)))) st fill x z) where
   -- what the call on the rest of the text says of it
   lent-part : Lexes (token_at (drop k s) (scalar_of (drop k s))) st fill x z
   lent-part = rw (rest s k) at w
 
   -- a token that is read behind the white space is the next token of the text, and starts where the white space ends
-  pub lexed : (n : ℕ) (y : declared.Token) → x ≡ Took n y → LexedAs (skip_whitespace s) (token_of s) st fill (At k (k + n) y) z
+  pub lexed : (n : ℕ) (y : declared.Token) → x ≡ Some (record { taken = n; token = y }) → LexedAs (skip_whitespace s) (token_of s) st fill (Some (record { start = k; end = k + n; token = y })) z
   unfolding token_of
   lexed n y h = rw (← ek) (lexed-ok _ k n st z fill y (rw h at lent-part))
 
   -- where no token is read behind the white space, the text has no next token
-  pub nothing-lexed : x ≡ NoToken → LexedAs (skip_whitespace s) (token_of s) st fill Nothing z
+  pub nothing-lexed : x ≡ None → LexedAs (skip_whitespace s) (token_of s) st fill None z
   unfolding token_of
   nothing-lexed h = rw (← ek) (lexed-err _ k st z fill (rw h at lent-part))

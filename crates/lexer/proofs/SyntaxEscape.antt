@@ -2,6 +2,7 @@
 -- section 4.3.7, Consume an escaped code point), where the reader agrees with the document. Where they part, a law leaves it out or
 -- says so: in the document an escape takes one white space behind its digits, takes all of its digits at the end of the text too, and
 -- zero stands for U+FFFD.
+use Rattle.std.proofs.Common.{Some}
 use mathlib.Core.Path.{◌≡◌, refl, ap, sym, ◌∙◌}
 use mathlib.Core.List.{List, [], ◌∷◌, ◌++◌}
 use mathlib.Core.Bool.{Bool, true, false}
@@ -15,7 +16,6 @@ use Rattle.combinators.specs.Choice.{pick, or, and, is, within}
 use Rattle.combinators.specs.Ascii.{reverse_solidus}
 use Rattle.combinators.proofs.Rules.{within-past, within-yes, pick_true, pick-false, or_left, or_right, or-none, is-no, lt-or-ge, within-false}
 use Rattle.characters.specs.Utf8.{is_scalar, or_replacement, replacement_character}
-use Rattle.characters.specs.declared.utf8.Scalar.TheVariants.{Value}
 use Rattle.characters.proofs.Scalars.{or-replacement-same}
 use Rattle.lexer.specs.Name.{is_nmstart, is_nmchar, folded_char, nmchar_char_of, is_hex_digit, hex_digit, hex_run, maximum_digits, hex_value, escaped_of, ident_escape_of, nmchar_of}
 use Rattle.lexer.specs.Name as names
@@ -79,7 +79,7 @@ first-digit (more e es) h l = e
 -- The byte behind them is left to be read, and so is white space, which the document takes with the digits.
 pub escaped-code-point : (ds : List ℕ) (c : ℕ) (t : List ℕ) → HexDigits ds → 1 ≤ length ds → length ds ≤ maximum_digits
     → (length ds < maximum_digits → is_hex_digit c ≡ false) → ¬ (hexadecimal 0 ds ≡ 0)
-    → nmchar_of (reverse_solidus ∷ (ds ++ c ∷ t)) ≡ Value (1 + length ds) (code_point (hexadecimal 0 ds))
+    → nmchar_of (reverse_solidus ∷ (ds ++ c ∷ t)) ≡ Some (record { taken = 1 + length ds; value = code_point (hexadecimal 0 ds) })
 escaped-code-point ds c t h some six e d =
     let l = length-append ds (c ∷ t) in
     let run : length ds ≡ hex_run 0 maximum_digits (ds ++ c ∷ t) = sym (counted h 0 maximum_digits c t six e ∙ omega arith) in
@@ -90,10 +90,10 @@ escaped-code-point ds c t h some six e d =
 
 -- behind six hex digits an escape ends, whatever follows
 pub six-digits : (ds : List ℕ) (c : ℕ) (t : List ℕ) → HexDigits ds → length ds ≡ maximum_digits → ¬ (hexadecimal 0 ds ≡ 0)
-    → nmchar_of (reverse_solidus ∷ (ds ++ c ∷ t)) ≡ Value (1 + maximum_digits) (code_point (hexadecimal 0 ds))
+    → nmchar_of (reverse_solidus ∷ (ds ++ c ∷ t)) ≡ Some (record { taken = 1 + maximum_digits; value = code_point (hexadecimal 0 ds) })
 six-digits ds c t h l d =
     escaped-code-point ds c t h (omega arith) (omega arith) (λ q. absurd (omega arith)) d
-    ∙ ap (λ n. Value (1 + n) (code_point (hexadecimal 0 ds))) l
+    ∙ ap (λ n. Some (record { taken = 1 + n; value = code_point (hexadecimal 0 ds) })) l
 
 -- ---- the code point by the document's three conditions
 -- the last two: a surrogate, or greater than the maximum allowed code point
@@ -152,8 +152,8 @@ unfolding code_point
 code-point-conditions n = ap (pick (is n 0) replacement_character) (or-replacement-is n) ∙ either-of (is n 0) _ _ _
 
 -- `\41 `, `\0000412` and `\D800;`
-test-escaped : (nmchar_of (92 ∷ 52 ∷ 49 ∷ 32 ∷ []) ≡ Value 3 0x41) × (nmchar_of (92 ∷ 48 ∷ 48 ∷ 48 ∷ 48 ∷ 52 ∷ 49 ∷ 50 ∷ []) ≡ Value 7 0x41)
-    × (nmchar_of (92 ∷ 68 ∷ 56 ∷ 48 ∷ 48 ∷ 59 ∷ []) ≡ Value 5 replacement_character)
+test-escaped : (nmchar_of (92 ∷ 52 ∷ 49 ∷ 32 ∷ []) ≡ Some (record { taken = 3; value = 0x41 })) × (nmchar_of (92 ∷ 48 ∷ 48 ∷ 48 ∷ 48 ∷ 52 ∷ 49 ∷ 50 ∷ []) ≡ Some (record { taken = 7; value = 0x41 }))
+    × (nmchar_of (92 ∷ 68 ∷ 56 ∷ 48 ∷ 48 ∷ 59 ∷ []) ≡ Some (record { taken = 5; value = replacement_character }))
 unfolding hexadecimal hex_digit is_hex_digit code_point or_replacement is_scalar or and within is pick
 test-escaped = (
   escaped-code-point (52 ∷ 49 ∷ []) 32 [] (more refl (more refl none)) (omega arith) (omega arith) (λ q. refl) (λ q. omega arith),

@@ -2,6 +2,7 @@
 -- section 4.3.9, would start an ident sequence; section 4.3.11, Consume an ident sequence), where the reader agrees with the document.
 -- Where they part, a law leaves it out or says so: in the document a non-ASCII code point is an ident-start code point too, and "--"
 -- starts an ident sequence.
+use Rattle.std.proofs.Common.{Some, None}
 use mathlib.Core.Path.{◌≡◌, refl, ap, sym, ◌∙◌}
 use mathlib.Core.List.{List, [], ◌∷◌, ◌++◌, map}
 use mathlib.Core.Bool.{Bool, true, false}
@@ -15,7 +16,6 @@ use Rattle.combinators.specs.Parsed.{ok, behind}
 use Rattle.combinators.proofs.Rules.{pick-false, either, or_left, is-no, is_true, within-true}
 use Rattle.combinators.proofs.Repeats.{many-stop, texts-stop}
 use Rattle.characters.specs.Utf8.{taken_of}
-use Rattle.characters.specs.declared.utf8.Scalar.TheVariants.{Value, NoScalar}
 use Rattle.lexer.specs.Whitespace.{comment_of, whitespace_item, skip_whitespace}
 use Rattle.lexer.specs.Name.{is_nmstart, is_nmchar, lower, nmchar_char_of, nmstart_of, nmchar_of, char_taken, char_text, chars_end, chars_text, chars_of, dash, name_of, ident_of, identstring_of}
 use Rattle.lexer.proofs.Comments.{above-space}
@@ -108,7 +108,7 @@ unskipped x l e = skips-blank [] (x ∷ l) blanks.none (code-point-item x l e)
 -- where neither an ident code point nor a backslash follows
 module _ (t : List ℕ) (e : ident_code_point (get_or t 0 0) ≡ false) (d : ¬ (get_or t 0 0 ≡ reverse_solidus)) where
   -- no character of a name is read
-  unread : nmchar_of t ≡ NoScalar
+  unread : nmchar_of t ≡ None
   unfolding nmchar_of nmchar_char_of
   unread =
       let p = char-no is_nmchar t _ refl _ refl (sym (code-point-is _) ∙ e) in
@@ -155,7 +155,7 @@ sequence-unskipped (started {x} {r} e _) t = unskipped x (r ++ t) (start-code-po
 sequence-unskipped (dashed {x} {r} e _) t = unskipped hyphen_minus (x ∷ (r ++ t)) hyphen-code-point
 
 -- an ident-start code point starts a name
-start-read : (x : ℕ) (l : List ℕ) → ident_start x ≡ true → nmstart_of (x ∷ l) ≡ Value 1 (lower x)
+start-read : (x : ℕ) (l : List ℕ) → ident_start x ≡ true → nmstart_of (x ∷ l) ≡ Some (record { taken = 1; value = lower x })
 start-read x l e =
     let c = sym (start_is x) ∙ e in
     start_plain (x ∷ l) c ∙ char-plain (x ∷ l) (nmstart-nmchar x c)

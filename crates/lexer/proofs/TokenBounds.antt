@@ -1,5 +1,7 @@
 -- Every token takes a byte or more, no more than there are, and its text keeps to the bound, for all texts.
-use mathlib.Core.Path.{◌≡◌, refl, sym, ◌∙◌}
+use Rattle.std.proofs.lemmas.Option.{same_Some, none-some}
+use Rattle.std.proofs.Common.{Option, Some, None}
+use mathlib.Core.Path.{◌≡◌, refl, ap, sym, ◌∙◌}
 use mathlib.Core.List.{List, [], ◌++◌}
 use Prim.Native.Nat.{ℕ, ◌+◌, ◌<◌, ◌≤◌}
 use native.Mathlib.Omega.{arith}
@@ -12,7 +14,6 @@ use Rattle.combinators.proofs.Lists.{byte-there}
 use Rattle.combinators.proofs.Words.{starts-le}
 use Rattle.characters.specs.Utf8.{scalar_of}
 use Rattle.characters.specs.declared.utf8.Scalar.{Scalar}
-use Rattle.characters.specs.declared.utf8.Scalar.TheVariants.{Value, NoScalar}
 use Rattle.characters.proofs.Scalars.{scalar-some}
 use Rattle.lexer.specs.Whitespace.{skip_whitespace}
 use Rattle.lexer.specs.Name.{ident_of, identstring_of}
@@ -21,15 +22,13 @@ use Rattle.lexer.specs.Quoted.{string_end, string_text}
 use Rattle.lexer.specs.Token.{Token, numeric_from, numeric_of, ident_like_of, string_from, string_of, start_of, hash_of, plus_of, minus_of, less_of, token_by, token_at, token_of, text_of, token_answer, delim}
 use Rattle.lexer.specs.declared.tokens.Start.{Start}
 use Rattle.lexer.specs.declared.tokens.Start.TheVariants.{Quote, Hash, Plus, Minus, Dot, Less, Backslash, Letter, Digit, Other}
-use Rattle.lexer.specs.declared.tokens.TokenAnswer.{TokenAnswer}
-use Rattle.lexer.specs.declared.tokens.TokenAnswer.TheVariants.{Took}
+use Rattle.lexer.specs.declared.tokens.TokenRead.{TokenRead}
 use Rattle.lexer.specs.declared.tokens.Token as declared
 use Rattle.lexer.proofs.Comments.{skip-le}
 use Rattle.lexer.proofs.Digits.{number-le}
 use Rattle.lexer.proofs.Bounds.{short, bound-short, Fits, fits_after, fits-behind, Keeps, behind-keeps}
 use Rattle.lexer.proofs.Quotes.{string-le, string-short}
 use Rattle.lexer.proofs.IdentBounds.{ident-fits, identstring-fits}
-use Rattle.lexer.proofs.TokenAnswers.{took-none}
 use Rattle.lexer.proofs.TokenReaders.{quote-there}
 use Rattle.lexer.proofs.Lexing.{mark-text}
 
@@ -165,10 +164,10 @@ module _ (c n : ℕ) (t : List ℕ) (i : 1 ≤ n) (h : n ≤ length t) where
 
 -- ---- the next token
 -- where no white space is
-pub at-bounded : (t : List ℕ) (x : Scalar) → scalar_of t ≡ x → Bounded t (token_at t x)
+pub at-bounded : (t : List ℕ) (x : Option Scalar) → scalar_of t ≡ x → Bounded t (token_at t x)
 unfolding token_at
-at-bounded t (Value n c) e = let r = scalar-some t n c e in by-bounded c n t r.0 r.1 (start_of c)
-at-bounded t NoScalar e = tt
+at-bounded t (Some c) e = let r = scalar-some t c.taken c.value e in by-bounded c.value c.taken t r.0 r.1 (start_of c.value)
+at-bounded t None e = tt
 
 -- the next token takes a byte or more with the white space before it, no more than there are, and its text keeps to the bound
 pub token-bounded : (s : List ℕ) → Bounded s (token_of s)
@@ -181,7 +180,7 @@ pub token-fits : (s : List ℕ) (n : ℕ) (k : Token) → token_of s ≡ ok n k 
 token-fits s n k e = rw e at (token-bounded s)
 
 -- what an answer says of the bytes taken
-pub token-le : (p : Parsed Token) (s : List ℕ) → Bounded s p → (x : TokenAnswer) → x ≡ token_answer p → (n : ℕ) (k : declared.Token) → x ≡ Took n k → n ≤ length s
+pub token-le : (p : Parsed Token) (s : List ℕ) → Bounded s p → (x : Option TokenRead) → x ≡ token_answer p → (n : ℕ) (k : declared.Token) → x ≡ Some (record { taken = n; token = k }) → n ≤ length s
 unfolding token_answer
-token-le (ok i b) s f x ex n k h = let q : n ≡ i = cc in rw q f.within_text
-token-le err s f x ex n k h = took-none n k (sym h ∙ ex)
+token-le (ok i b) s f x ex n k h = rw (ap (λ r. r.taken) (same_Some _ _ (sym h ∙ ex))) f.within_text
+token-le err s f x ex n k h = absurd (none-some _ (sym ex ∙ h))

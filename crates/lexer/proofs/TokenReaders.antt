@@ -1,4 +1,5 @@
 -- The returns of the readers of tokens that a first character selects.
+use Rattle.std.proofs.Common.{Some, None, Option}
 use mathlib.Core.Path.{◌≡◌, refl, ap, sym, ◌∙◌}
 use mathlib.Core.List.{List, []}
 use mathlib.Core.Bool.{Bool, true, false}
@@ -18,10 +19,8 @@ use Rattle.lexer.specs.Name.{ident_of, identstring_of, name_text}
 use Rattle.lexer.specs.Number as numbers
 use Rattle.lexer.specs.Quoted.{string_end, string_text}
 use Rattle.lexer.specs.Token.{ident, function, hash, delim, number, dimension, percentage, numeric_from, numeric_of, ident_like_of, is_quote, string_from, string_of, cdc, cdc_mark, cdo_mark, hash_of, plus_of, minus_of, less_of, coded, text_of, token_answer, token_text, or_delim}
-use Rattle.lexer.specs.declared.names.Name.{Name}
-use Rattle.lexer.specs.declared.names.Name.TheVariants.{Text, NoName}
-use Rattle.lexer.specs.declared.tokens.TokenAnswer.{TokenAnswer}
-use Rattle.lexer.specs.declared.tokens.TokenAnswer.TheVariants.{Took, NoToken}
+use Rattle.lexer.specs.declared.Written.{Written}
+use Rattle.lexer.specs.declared.tokens.TokenRead.{TokenRead}
 use Rattle.lexer.specs.declared.tokens.Token as declared
 use Rattle.lexer.specs.declared.tokens.Token.TheVariants as code
 use Rattle.lexer.proofs.Digits.{number-le}
@@ -52,7 +51,7 @@ module _ (s : List ℕ) (n : ℕ) (en : n ≡ numbers.number s) where
   long = length-take-le n s (omega (arith, en, number-le s))
 
   -- where there is no number, there is no token and the store is as it was
-  pub no_number : n ≡ 0 → (st : List ℕ) (fill : ℕ) → Lexes (numeric_of s) st fill NoToken st
+  pub no_number : n ≡ 0 → (st : List ℕ) (fill : ℕ) → Lexes (numeric_of s) st fill None st
   unfolding numeric_of
   no_number h st fill = lexes-err _ (sym (pick_true _ _ _ _ (is-yes-of _ _ _ en h) refl)) st st fill refl
 
@@ -68,17 +67,17 @@ module _ (s : List ℕ) (n : ℕ) (en : n ≡ numbers.number s) where
 
     module _ (r : Bool) (er : r ≡ is (get_or s n 0) percent_sign) where
       -- a percent sign behind the number: a percentage, whose text is the number
-      pub percent : r ≡ true → Lexes (numeric_of s) st fill (Took (n + 1) (code.Percentage n)) l
+      pub percent : r ≡ true → Lexes (numeric_of s) st fill (Some (record { taken = n + 1; token = code.Percentage n })) l
       unfolding coded text_of
       percent h = lexes-ok _ _ _ (from ∙ from-percent n s (told _ _ _ er h)) _ (rw long) st l fill stored
 
-      module _ (h : r ≡ false) (x : Name) (z : List ℕ) (w : Named (ident_of (take (length s - n) (drop n s))) l f x z) where
+      module _ (h : r ≡ false) (x : Option Written) (z : List ℕ) (w : Named (ident_of (take (length s - n) (drop n s))) l f x z) where
         -- what the call on the rest of the text says of it
         named : Named (ident_of (drop n s)) l f x z
         named = rw (rest s n) at w
 
         -- a name behind the number: a dimension, whose unit lies behind the number in the store
-        pub unit : (m k : ℕ) → x ≡ Text m k → Lexes (numeric_of s) st fill (Took (n + m) (code.Dimension n k)) z
+        pub unit : (m k : ℕ) → x ≡ Some (record { taken = m; length = k }) → Lexes (numeric_of s) st fill (Some (record { taken = n + m; token = code.Dimension n k })) z
         unfolding coded text_of
         unit m k q =
             let i = name-ok (ident_of (drop n s)) m k (sym q ∙ named.0) in
@@ -86,7 +85,7 @@ module _ (s : List ℕ) (n : ℕ) (en : n ≡ numbers.number s) where
             (named.1 ∙ sets-onto st l (take n s) _ fill f e)
 
         -- no name behind the number: the number alone, and nothing more is stored
-        pub bare : x ≡ NoName → Lexes (numeric_of s) st fill (Took n (code.Number n)) z
+        pub bare : x ≡ None → Lexes (numeric_of s) st fill (Some (record { taken = n; token = code.Number n })) z
         unfolding coded text_of name_text
         bare q =
             let i = name-err (ident_of (drop n s)) (sym q ∙ named.0) in
@@ -100,15 +99,15 @@ like-ok : (s : List ℕ) (n : ℕ) (b : List ℕ) → ident_of s ≡ ok n b
 unfolding ident_like_of on_parsed
 like-ok s n b e = rw e
 
-module _ (s st z : List ℕ) (fill : ℕ) (x : Name) (w : Named (ident_of s) st fill x z) where
+module _ (s st z : List ℕ) (fill : ℕ) (x : Option Written) (w : Named (ident_of s) st fill x z) where
   -- where there is no name, there is no token and the store is as it was
-  pub no-ident : x ≡ NoName → Lexes (ident_like_of s) st fill NoToken z
+  pub no-ident : x ≡ None → Lexes (ident_like_of s) st fill None z
   unfolding ident_like_of on_parsed name_text
   no-ident q =
       let i = name-err (ident_of s) (sym q ∙ w.0) in
       lexes-err _ (rw i) st z fill (w.1 ∙ ap (λ p. sets st fill (name_text p)) i)
 
-  module _ (n m : ℕ) (q : x ≡ Text n m) (r : Bool) (er : r ≡ is (get_or s n 0) left_parenthesis) where
+  module _ (n m : ℕ) (q : x ≡ Some (record { taken = n; length = m })) (r : Bool) (er : r ≡ is (get_or s n 0) left_parenthesis) where
     -- the name that was read
     read : (ident_of s ≡ ok n (name_text (ident_of s))) × (m ≡ length (name_text (ident_of s)))
     read = name-ok (ident_of s) n m (sym q ∙ w.0)
@@ -118,12 +117,12 @@ module _ (s st z : List ℕ) (fill : ℕ) (x : Name) (w : Named (ident_of s) st 
     like = like-ok s n _ read.0
 
     -- the return where '(' stands behind the name: a function
-    pub function-like : r ≡ true → Lexes (ident_like_of s) st fill (Took (n + 1) (code.Function m)) z
+    pub function-like : r ≡ true → Lexes (ident_like_of s) st fill (Some (record { taken = n + 1; token = code.Function m })) z
     unfolding coded text_of
     function-like h = lexes-ok _ _ _ (like ∙ sym (pick_true _ _ _ _ (told _ _ _ er h) refl)) _ (rw read.1) st z fill w.1
 
     -- with any other byte behind it, the name is an identifier
-    pub ident-like : r ≡ false → Lexes (ident_like_of s) st fill (Took n (code.Ident m)) z
+    pub ident-like : r ≡ false → Lexes (ident_like_of s) st fill (Some (record { taken = n; token = code.Ident m })) z
     unfolding coded text_of
     ident-like h = lexes-ok _ _ _ (like ∙ sym (pick-false _ _ _ _ (told _ _ _ er h) refl)) _ (rw read.1) st z fill w.1
 
@@ -137,7 +136,7 @@ module _ (t : List ℕ) (q : ℕ) (eq : q ≡ get_or t 0 0) (c : Bool) (ec : c �
       (λ e. byte-there t 0 quotation_mark (omega arith) e) (λ e. byte-there t 0 apostrophe (omega arith) e)
 
   -- where the first byte is no quote, there is no string and the store is as it was
-  pub no-string : c ≡ false → (st : List ℕ) (fill : ℕ) → Lexes (string_of t) st fill NoToken st
+  pub no-string : c ≡ false → (st : List ℕ) (fill : ℕ) → Lexes (string_of t) st fill None st
   unfolding string_of
   no-string h st fill = lexes-err _ (sym (pick-false _ _ _ _ (told _ _ _ (ec ∙ ap is_quote eq) h) refl)) st st fill refl
 
@@ -155,19 +154,19 @@ module _ (t : List ℕ) (q : ℕ) (eq : q ≡ get_or t 0 0) (c : Bool) (ec : c �
     string-within = omega (arith, w.0.0, string-le q u, ap length (eu ∙ rest t 1), length-drop 1 t)
 
     -- at the end of the text
-    pub string-ended : n ≡ length u → Lexes (string_of t) st fill (Took (1 + n) (code.String m)) z
+    pub string-ended : n ≡ length u → Lexes (string_of t) st fill (Some (record { taken = 1 + n; token = code.String m })) z
     unfolding string_from coded text_of
     string-ended e = lexes-ok _ _ _ (quoted ∙ sym (pick_true _ _ _ _ (is-yes _ _ e) refl)) _ (rw w.0.1) st z fill w.1
 
     module _ (d : ¬ (n ≡ length u)) (r : Bool) (er : r ≡ is (get_or u n 0) q) where
       -- a string that ends at its quote takes the quote too
-      pub string-closed : r ≡ true → Lexes (string_of t) st fill (Took (1 + n + 1) (code.String m)) z
+      pub string-closed : r ≡ true → Lexes (string_of t) st fill (Some (record { taken = 1 + n + 1; token = code.String m })) z
       unfolding string_from coded text_of
       string-closed e =
           lexes-ok _ _ _ (quoted ∙ sym (pick-false _ _ _ _ (is-no _ _ d) (pick_true _ _ _ _ (told _ _ _ er e) refl))) _ (rw w.0.1) st z fill w.1
 
       -- the return where the string ends at a line feed: a bad string
-      pub string-bad : r ≡ false → Lexes (string_of t) st fill (Took (1 + n) (code.BadString m)) z
+      pub string-bad : r ≡ false → Lexes (string_of t) st fill (Some (record { taken = 1 + n; token = code.BadString m })) z
       unfolding string_from coded text_of
       string-bad e =
           lexes-ok _ _ _ (quoted ∙ sym (pick-false _ _ _ _ (is-no _ _ d) (pick-false _ _ _ _ (told _ _ _ er e) refl))) _ (rw w.0.1) st z fill w.1
@@ -183,58 +182,58 @@ hash-err : (c : ℕ) (t : List ℕ) → identstring_of (drop 1 t) ≡ err → ha
 unfolding hash_of on_parsed
 hash-err c t e = rw e
 
-module _ (c : ℕ) (t st z : List ℕ) (fill : ℕ) (x : Name) (w : Named (identstring_of (take (length t - 1) (drop 1 t))) st fill x z) where
+module _ (c : ℕ) (t st z : List ℕ) (fill : ℕ) (x : Option Written) (w : Named (identstring_of (take (length t - 1) (drop 1 t))) st fill x z) where
   -- what the call on the rest of the text says of it
   string-named : Named (identstring_of (drop 1 t)) st fill x z
   string-named = rw (rest t 1) at w
 
   -- a name that is read behind '#' is answered as a hash, with its text in the store
-  pub hashed : (m k : ℕ) → x ≡ Text m k → Lexes (hash_of c t) st fill (Took (1 + m) (code.Hash k)) z
+  pub hashed : (m k : ℕ) → x ≡ Some (record { taken = m; length = k }) → Lexes (hash_of c t) st fill (Some (record { taken = 1 + m; token = code.Hash k })) z
   unfolding coded text_of
   hashed m k q =
       let i = name-ok (identstring_of (drop 1 t)) m k (sym q ∙ string-named.0) in
       lexes-ok _ _ _ (hash-ok c t m _ i.0) _ (rw i.1) st z fill string-named.1
 
   -- where no name is read behind '#', the delimiter is answered and the store is as it was
-  pub not-hashed : x ≡ NoName → Lexes (hash_of c t) st fill (Took 1 (code.Delim c)) z
+  pub not-hashed : x ≡ None → Lexes (hash_of c t) st fill (Some (record { taken = 1; token = code.Delim c })) z
   unfolding coded text_of name_text
   not-hashed q =
       let i = name-err (identstring_of (drop 1 t)) (sym q ∙ string-named.0) in
       lexes-ok _ _ _ (hash-err c t i) _ refl st z fill (string-named.1 ∙ ap (λ p. sets st fill (name_text p)) i)
 
 -- ---- `plus_token`: behind '+'
-module _ (c : ℕ) (t st z : List ℕ) (fill : ℕ) (x : TokenAnswer) (w : Lexes (numeric_of (take (length t - 1) (drop 1 t))) st fill x z) where
+module _ (c : ℕ) (t st z : List ℕ) (fill : ℕ) (x : Option TokenRead) (w : Lexes (numeric_of (take (length t - 1) (drop 1 t))) st fill x z) where
   -- what the call on the rest of the text says of it
   numeric : Lexes (numeric_of (drop 1 t)) st fill x z
   numeric = rw (rest t 1) at w
 
   -- a token that is read behind '+' is the token, with the '+' among the bytes taken
-  pub plus-number : (m : ℕ) (k : declared.Token) → x ≡ Took m k → Lexes (plus_of c t) st fill (Took (1 + m) k) z
+  pub plus-number : (m : ℕ) (k : declared.Token) → x ≡ Some (record { taken = m; token = k }) → Lexes (plus_of c t) st fill (Some (record { taken = 1 + m; token = k })) z
   unfolding plus_of
   plus-number m k q = lexes-first _ _ st z fill _ _ (lexes-behind (numeric_of (drop 1 t)) 1 st z fill m k (rw q at numeric))
 
   -- where no number is read behind '+', the delimiter is answered and the store is as it was
-  pub plus-delim : x ≡ NoToken → Lexes (plus_of c t) st fill (Took 1 (code.Delim c)) z
+  pub plus-delim : x ≡ None → Lexes (plus_of c t) st fill (Some (record { taken = 1; token = code.Delim c })) z
   unfolding plus_of
   plus-delim q = lexes-second _ _ st z fill (lexes-behind-none (numeric_of (drop 1 t)) 1 st z fill (rw q at numeric)) _ _ (delim-lexes c z fill)
 
 -- ---- `minus_token`: from '-' on
-module _ (c : ℕ) (t st z : List ℕ) (fill : ℕ) (x : TokenAnswer) (w : Lexes (numeric_of t) st fill x z) where
+module _ (c : ℕ) (t st z : List ℕ) (fill : ℕ) (x : Option TokenRead) (w : Lexes (numeric_of t) st fill x z) where
   -- a number that is read from '-' on is the token
-  pub minus_number : (m : ℕ) (k : declared.Token) → x ≡ Took m k → Lexes (minus_of c t) st fill (Took m k) z
+  pub minus_number : (m : ℕ) (k : declared.Token) → x ≡ Some (record { taken = m; token = k }) → Lexes (minus_of c t) st fill (Some (record { taken = m; token = k })) z
   unfolding minus_of
   minus_number m k q = lexes-first _ _ st z fill m k (rw q at w)
 
-  module _ (q : x ≡ NoToken) (r : Bool) (er : r ≡ starts_with cdc_mark t) where
+  module _ (q : x ≡ None) (r : Bool) (er : r ≡ starts_with cdc_mark t) where
     -- where no number is read and the text starts with "-->", that mark is the token and takes three bytes
-    pub minus-cdc : r ≡ true → Lexes (minus_of c t) st fill (Took 3 code.CDC) z
+    pub minus-cdc : r ≡ true → Lexes (minus_of c t) st fill (Some (record { taken = 3; token = code.CDC })) z
     unfolding minus_of coded text_of
     minus-cdc h =
         lexes-second _ _ st z fill (rw q at w) _ _
         (lexes-ok _ 3 cdc (sym (pick_true _ _ _ _ (told _ _ _ er h) refl)) _ refl z z fill refl)
 
     -- a name, or the delimiter
-    pub minus-ident : r ≡ false → (y : TokenAnswer) (v : List ℕ) → Lexes (ident_like_of t) z fill y v → (a : TokenAnswer) → a ≡ or_delim y c
+    pub minus-ident : r ≡ false → (y : Option TokenRead) (v : List ℕ) → Lexes (ident_like_of t) z fill y v → (a : Option TokenRead) → a ≡ or_delim y c
         → Lexes (minus_of c t) st fill a v
     unfolding minus_of
     minus-ident h y v i a e =
@@ -244,12 +243,12 @@ module _ (c : ℕ) (t st z : List ℕ) (fill : ℕ) (x : TokenAnswer) (w : Lexes
 -- ---- `less_token`: from '<' on
 module _ (c : ℕ) (t : List ℕ) (r : Bool) (er : r ≡ starts_with cdo_mark t) where
   -- where the text starts with "<!--", that mark is the token and takes four bytes
-  pub less-cdo : r ≡ true → Took 4 code.CDO ≡ token_answer (less_of c t)
+  pub less-cdo : r ≡ true → Some (record { taken = 4; token = code.CDO }) ≡ token_answer (less_of c t)
   unfolding less_of token_answer coded pick
   less-cdo h = rw (told _ _ _ er h)
 
   -- where the text does not start with "<!--", the token is the delimiter
-  pub less-delim : r ≡ false → Took 1 (code.Delim c) ≡ token_answer (less_of c t)
+  pub less-delim : r ≡ false → Some (record { taken = 1; token = code.Delim c }) ≡ token_answer (less_of c t)
   unfolding less_of token_answer coded pick
   less-delim h = rw (told _ _ _ er h)
 
@@ -259,5 +258,5 @@ unfolding less_of token_text text_of
 less-text c t = pick-holds (λ p. token_text p ≡ []) _ _ _ (λ _. refl) (λ _. refl)
 
 -- so the store is left alone
-pub less-lexes : (c : ℕ) (t st : List ℕ) (fill : ℕ) (r : TokenAnswer) → r ≡ token_answer (less_of c t) → Lexes (less_of c t) st fill r st
+pub less-lexes : (c : ℕ) (t st : List ℕ) (fill : ℕ) (r : Option TokenRead) → r ≡ token_answer (less_of c t) → Lexes (less_of c t) st fill r st
 less-lexes c t st fill r e = (e, sym (ap (sets st fill) (less-text c t)))

@@ -1,30 +1,19 @@
 -- The returns of the functions that write token rows.
-use mathlib.Core.Path.{◌≡◌, ap, sym, ◌∙◌}
+use mathlib.Core.Path.{◌≡◌, ap, ◌∙◌}
 use mathlib.Core.List.{List, [], ◌∷◌, ◌++◌}
 use Prim.Native.Nat.{ℕ, ◌+◌, ◌^◌, ◌<◌}
 use native.Mathlib.Omega.{arith}
 use lib.ListN.{get_or}
-use Rattle.combinators.specs.Choice.{pick, is}
 use Rattle.combinators.specs.Store.{Store, emits}
 use Rattle.combinators.proofs.Emitted.{then}
-use Rattle.lexer.specs.TokenRow.{columns_of, delim_kind, number_kind, dimension_kind, percentage_kind, word, row_of, token_from, token_in, columns-back}
+use Rattle.lexer.specs.TokenRow.{columns_of, word, row_of, token_from, token_in, columns-back}
 use Rattle.lexer.specs.declared.rows.Columns.{Columns}
 use Rattle.lexer.specs.declared.tokens.Token as declared
-use Rattle.lexer.specs.declared.tokens.Token.TheVariants as code
 
 -- a number below 2^32 is its own word
 pub word_same : (x : ℕ) → x < 2 ^ 32 → word x ≡ x
 unfolding word
 word_same x h = omega arith
-
--- the columns of the token that a match found
-pub found : (k k' : declared.Token) → k ≡ k' → (r : Columns) → r ≡ columns_of k' → r ≡ columns_of k
-found k k' e r er = er ∙ ap columns_of (sym e)
-
--- the columns of a delimiter are its kind, its scalar value and 0
-pub delim-columns : (c v : ℕ) → v ≡ c → (r : Columns) → r ≡ record { kind = delim_kind; first = v; second = 0 } → r ≡ columns_of (code.Delim c)
-unfolding columns_of
-delim-columns c v e r er = er ∙ rw e
 
 -- five numbers, one behind the other
 five : (o₀ o₁ o₂ o₃ o₄ o₅ : Store) (a b c d e : ℕ) → o₁ ≡ emits o₀ (a ∷ []) → o₂ ≡ emits o₁ (b ∷ []) → o₃ ≡ emits o₂ (c ∷ []) → o₄ ≡ emits o₃ (d ∷ [])
@@ -47,23 +36,6 @@ module _ (k : declared.Token) (x : Columns) (ex : x ≡ columns_of k) (byte star
   pub row_written : (o₀ o₁ o₂ o₃ o₄ o₅ : Store) → o₁ ≡ emits o₀ (x.kind ∷ []) → o₂ ≡ emits o₁ (b ∷ []) → o₃ ≡ emits o₂ (s ∷ [])
       → o₄ ≡ emits o₃ (f ∷ []) → o₅ ≡ emits o₄ (g ∷ []) → o₅ ≡ emits o₀ (row_of byte start k)
   row_written o₀ o₁ o₂ o₃ o₄ o₅ p q r t u = five o₀ o₁ o₂ o₃ o₄ o₅ _ b s f g p q r t u ∙ ap (emits o₀) columns
-
--- a token of a known kind, with its numbers
-module _ (k a b n : ℕ) (e : n ≡ a) where
-  -- a row of the kind of numbers reads as a number with its length of text
-  pub number-from : k ≡ number_kind → code.Number n ≡ token_from k a b
-  unfolding token_from pick is
-  number-from h = rw (h, e)
-
-  -- a row of the kind of dimensions reads as a dimension with both lengths
-  pub dimension-from : k ≡ dimension_kind → (m : ℕ) → m ≡ b → code.Dimension n m ≡ token_from k a b
-  unfolding token_from pick is
-  dimension-from h m em = rw (h, e, em)
-
-  -- a row of the kind of percentages reads as a percentage with its length of text
-  pub percentage-from : k ≡ percentage_kind → code.Percentage n ≡ token_from k a b
-  unfolding token_from pick is
-  percentage-from h = rw (h, e)
 
 -- the token that a row's numbers say
 pub row_read : (rows : List ℕ) (at k a b : ℕ) → k ≡ get_or rows (at + 0) 0 → a ≡ get_or rows (at + 3) 0 → b ≡ get_or rows (at + 4) 0

@@ -1,6 +1,6 @@
 -- Names: `nmstart_char`, `nmchar_char`, `ident_escape`, `nmstart`, `nmchar`, `parse_ident` and `parse_identstring` of
 -- src/css/parser.rs. A reader of one character answers the bytes that it takes and the scalar value that they stand for.
-use Rattle.std.specs.Prelude.{ℕ, zero, suc, ◌+◌, ◌-◌, ◌*◌, Bool, List, [], ◌++◌, ◌≡◌, refl, length, get_or, take, drop}
+use Rattle.std.specs.Prelude.{ℕ, zero, suc, ◌+◌, ◌-◌, ◌*◌, Bool, List, [], ◌++◌, ◌≡◌, refl, length, get_or, take, drop, Option, Some, None}
 use Rattle.combinators.specs.Ascii.{hyphen_minus, digit_zero, digit_nine, capital_a, capital_f, capital_z, reverse_solidus, low_line, small_a, small_f, small_z}
 use Rattle.combinators.specs.Choice.{pick, or, and, is, within}
 use Rattle.combinators.specs.Parsed.{Parsed, ok, err, behind}
@@ -8,10 +8,8 @@ use Rattle.combinators.specs.Repeat.{many, texts, took}
 use Rattle.characters.specs.Literal.{text}
 use Rattle.characters.specs.Utf8.{utf8, or_replacement, replacement_character, scalar_of, taken_of, is_scalar, scalar_by, scalar_tail, lead_of, two, is_continuation, continuation}
 use Rattle.characters.specs.declared.utf8.Scalar.{Scalar}
-use Rattle.characters.specs.declared.utf8.Scalar.TheVariants.{Value, NoScalar}
 use Rattle.lexer.specs.Whitespace.{skip_whitespace, whitespace_item, is_whitespace, comment_of, comment_end}
-use Rattle.lexer.specs.declared.names.Name.{Name}
-use Rattle.lexer.specs.declared.names.Name.TheVariants.{Text, NoName}
+use Rattle.lexer.specs.declared.Written.{Written}
 
 -- ---- one character
 
@@ -32,13 +30,13 @@ unfoldable pub lower : ℕ → ℕ
 lower x = pick (within x capital_a capital_z) (x + case_distance) x
 
 -- a first character that p holds of, folded
-unfoldable pub folded_char : (ℕ → Bool) → List ℕ → Scalar
-folded_char p s = pick (p (get_or s 0 0)) (Value 1 (lower (get_or s 0 0))) NoScalar
+unfoldable pub folded_char : (ℕ → Bool) → List ℕ → Option Scalar
+folded_char p s = pick (p (get_or s 0 0)) (Some (record { taken = 1; value = lower (get_or s 0 0) })) None
 
-unfoldable pub nmstart_char_of : List ℕ → Scalar
+unfoldable pub nmstart_char_of : List ℕ → Option Scalar
 nmstart_char_of s = folded_char is_nmstart s
 
-unfoldable pub nmchar_char_of : List ℕ → Scalar
+unfoldable pub nmchar_char_of : List ℕ → Option Scalar
 nmchar_char_of s = folded_char is_nmchar s
 
 unfoldable pub is_hex_digit : ℕ → Bool
@@ -70,39 +68,39 @@ hex_value a zero s = a
 hex_value a (suc k) s = hex_value (a * 16 + hex_digit (get_or s 0 0)) k (drop 1 s)
 
 -- the same scalar value behind one byte more
-unfoldable pub behind_one : Scalar → Scalar
-behind_one (Value n v) = Value (1 + n) v
-behind_one NoScalar = NoScalar
+unfoldable pub behind_one : Option Scalar → Option Scalar
+behind_one (Some c) = Some (record { taken = 1 + c.taken; value = c.value })
+behind_one None = None
 
 -- behind the backslash: U+FFFD at the end of the text; hex digits, where surrogates and numbers above U+10FFFF are U+FFFD; or
 -- the next character
-unfoldable pub escaped_of : List ℕ → Scalar
+unfoldable pub escaped_of : List ℕ → Option Scalar
 escaped_of t =
-    pick (is (length t) 0) (Value 1 replacement_character)
-    (pick (is_hex_digit (get_or t 0 0)) (Value (1 + hex_count t) (or_replacement (hex_value 0 (hex_count t) t)))
+    pick (is (length t) 0) (Some (record { taken = 1; value = replacement_character }))
+    (pick (is_hex_digit (get_or t 0 0)) (Some (record { taken = 1 + hex_count t; value = or_replacement (hex_value 0 (hex_count t) t) }))
     (behind_one (scalar_of t)))
 
 -- `ident_escape`
-unfoldable pub ident_escape_of : List ℕ → Scalar
-ident_escape_of s = pick (is (get_or s 0 0) reverse_solidus) (escaped_of (drop 1 s)) NoScalar
+unfoldable pub ident_escape_of : List ℕ → Option Scalar
+ident_escape_of s = pick (is (get_or s 0 0) reverse_solidus) (escaped_of (drop 1 s)) None
 
 -- the first that reads (`alt`)
-unfoldable pub either : Scalar → Scalar → Scalar
-either (Value n v) r = Value n v
-either NoScalar r = r
+unfoldable pub either : Option Scalar → Option Scalar → Option Scalar
+either (Some c) r = Some c
+either None r = r
 
-unfoldable pub nmstart_of : List ℕ → Scalar
+unfoldable pub nmstart_of : List ℕ → Option Scalar
 nmstart_of s = either (nmstart_char_of s) (ident_escape_of s)
 
-unfoldable pub nmchar_of : List ℕ → Scalar
+unfoldable pub nmchar_of : List ℕ → Option Scalar
 nmchar_of s = either (nmchar_char_of s) (ident_escape_of s)
 
 -- ---- names
 
 -- what a character takes, and the bytes that it stands for
-unfoldable pub bytes_of : Scalar → List ℕ
-bytes_of (Value n v) = utf8 v
-bytes_of NoScalar = []
+unfoldable pub bytes_of : Option Scalar → List ℕ
+bytes_of (Some c) = utf8 c.value
+bytes_of None = []
 
 unfoldable pub char_taken : List ℕ → ℕ
 char_taken s = taken_of (nmchar_of s)
@@ -117,10 +115,10 @@ chars_end s = many char_taken 0 0 s
 unfoldable pub chars_text : List ℕ → List ℕ
 chars_text s = texts char_taken char_text 0 s
 
--- behind a first character that takes n bytes of t and stands for v, with the text b in front: the characters that follow
-unfoldable pub name_from : List ℕ → List ℕ → Scalar → Parsed (List ℕ)
-name_from b t (Value n v) = ok (length b + (n + chars_end (drop n t))) (b ++ (utf8 v ++ chars_text (drop n t)))
-name_from b t NoScalar = err
+-- behind a first character of t, with the text b in front: the characters that follow
+unfoldable pub name_from : List ℕ → List ℕ → Option Scalar → Parsed (List ℕ)
+name_from b t (Some c) = ok (length b + (c.taken + chars_end (drop c.taken t))) (b ++ (utf8 c.value ++ chars_text (drop c.taken t)))
+name_from b t None = err
 
 -- `opt(tag("-"))`
 unfoldable pub dash : List ℕ → ℕ
@@ -143,9 +141,9 @@ unfoldable pub identstring_of : List ℕ → Parsed (List ℕ)
 identstring_of s = behind (skip_whitespace s) (chars_of (drop (skip_whitespace s) s))
 
 -- ---- as the code answers: the bytes taken and the length of the text, which lies in the store
-unfoldable pub name_answer : Parsed (List ℕ) → Name
-name_answer (ok n b) = Text n (length b)
-name_answer err = NoName
+unfoldable pub name_answer : Parsed (List ℕ) → Option Written
+name_answer (ok n b) = Some (record { taken = n; length = length b })
+name_answer err = None
 
 unfoldable pub name_text : Parsed (List ℕ) → List ℕ
 name_text (ok n b) = b

@@ -1,5 +1,5 @@
 -- Tokens: `parse_numeric_token`, `parse_ident_like`, `parse_string_token` and `parse_token` of src/css/parser.rs.
-use Rattle.std.specs.Prelude.{ℕ, ◌+◌, Bool, List, [], ◌∷◌, ◌++◌, leb, length, get_or, take, drop}
+use Rattle.std.specs.Prelude.{ℕ, ◌+◌, Bool, List, [], ◌∷◌, ◌++◌, leb, length, get_or, take, drop, Option, Some, None}
 use Rattle.combinators.specs.Ascii.{exclamation_mark, quotation_mark, number_sign, percent_sign, apostrophe, left_parenthesis, right_parenthesis, plus_sign, hyphen_minus, full_stop, less_than_sign, greater_than_sign, left_square_bracket, reverse_solidus, right_square_bracket, left_curly_bracket, right_curly_bracket, capital_a, capital_z, low_line, small_a, small_z}
 use Rattle.combinators.specs.Ascii as ascii
 use Rattle.combinators.specs.Choice.{pick, or, is, within}
@@ -7,17 +7,14 @@ use Rattle.combinators.specs.Parsed.{Parsed, ok, err, on_parsed, behind, or_else
 use Rattle.combinators.specs.Word.{starts_with}
 use Rattle.characters.specs.Utf8.{scalar_of}
 use Rattle.characters.specs.declared.utf8.Scalar.{Scalar}
-use Rattle.characters.specs.declared.utf8.Scalar.TheVariants.{Value, NoScalar}
 use Rattle.lexer.specs.Whitespace.{skip_whitespace}
 use Rattle.lexer.specs.Name.{ident_of, identstring_of}
 use Rattle.lexer.specs.Number as numbers
 use Rattle.lexer.specs.Quoted.{string_end, string_text}
 use Rattle.lexer.specs.declared.tokens.Token as declared
 use Rattle.lexer.specs.declared.tokens.Token.TheVariants as code
-use Rattle.lexer.specs.declared.tokens.TokenAnswer.{TokenAnswer}
-use Rattle.lexer.specs.declared.tokens.TokenAnswer.TheVariants.{Took, NoToken}
+use Rattle.lexer.specs.declared.tokens.TokenRead.{TokenRead}
 use Rattle.lexer.specs.declared.tokens.Lexed.{Lexed}
-use Rattle.lexer.specs.declared.tokens.Lexed.TheVariants.{At, Nothing}
 use Rattle.lexer.specs.declared.tokens.Start.{Start}
 use Rattle.lexer.specs.declared.tokens.Start.TheVariants.{Quote, Hash, Plus, Minus, Dot, Less, Backslash, Letter, Digit, Other}
 
@@ -152,9 +149,9 @@ token_by Digit n c t = numeric_of t
 token_by Other n c t = ok n (mark_of c)
 
 -- by the first character, if there is one
-unfoldable pub token_at : List ℕ → Scalar → Parsed Token
-token_at t (Value n c) = token_by (start_of c) n c t
-token_at t NoScalar = err
+unfoldable pub token_at : List ℕ → Option Scalar → Parsed Token
+token_at t (Some c) = token_by (start_of c.value) c.taken c.value t
+token_at t None = err
 
 -- `parse_token`: behind white space and comments
 unfoldable pub token_of : List ℕ → Parsed Token
@@ -205,20 +202,20 @@ text_of close_round = []
 text_of open_brace = []
 text_of close_brace = []
 
-unfoldable pub token_answer : Parsed Token → TokenAnswer
-token_answer (ok n k) = Took n (coded k)
-token_answer err = NoToken
+unfoldable pub token_answer : Parsed Token → Option TokenRead
+token_answer (ok n k) = Some (record { taken = n; token = coded k })
+token_answer err = None
 
 unfoldable pub token_text : Parsed Token → List ℕ
 token_text (ok n k) = text_of k
 token_text err = []
 
 -- a token that starts behind w bytes of white space and comments
-unfoldable pub lexed_answer : ℕ → Parsed Token → Lexed
-lexed_answer w (ok n k) = At w n (coded k)
-lexed_answer w err = Nothing
+unfoldable pub lexed_answer : ℕ → Parsed Token → Option Lexed
+lexed_answer w (ok n k) = Some (record { start = w; end = n; token = coded k })
+lexed_answer w err = None
 
 -- what was read, or else a delimiter, as the code answers
-unfoldable pub or_delim : TokenAnswer → ℕ → TokenAnswer
-or_delim (Took n k) c = Took n k
-or_delim NoToken c = Took 1 (code.Delim c)
+unfoldable pub or_delim : Option TokenRead → ℕ → Option TokenRead
+or_delim (Some r) c = Some r
+or_delim None c = Some (record { taken = 1; token = code.Delim c })

@@ -9,7 +9,7 @@ pub mod names; // names.rt: names, with escapes
 pub mod tokens; // tokens.rt: tokens
 pub mod rows; // rows.rt: tokens written to lent numbers
 
-// What a repetition took from the text, and how many bytes it stands for in the store.
+// What was read takes so many bytes of the text, and stands for so many in the store, from the fill on.
 #[derive(Clone, Copy)]
 pub struct Written {
     pub taken: usize,

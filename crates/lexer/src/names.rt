@@ -8,106 +8,84 @@ use crate::whitespace::skip_optional_whitespace;
 use characters::utf8::{
     REPLACEMENT_CHARACTER, Scalar, emit_scalar, length_of, or_replacement, scalar_at,
 };
-use combinators::bytes::{between, byte_is, peek, same, wide};
-
-// A name: the bytes that it takes, and the length of its text, which lies in the store from the fill on.
-#[derive(Clone, Copy)]
-pub enum Name {
-    Text(usize, usize),
-    NoName,
-}
-
-// From a capital letter to its small one.
-const CASE_DISTANCE: u32 = 32;
+use combinators::bytes::{byte_is, peek};
 
 // An escape takes up to six hex digits.
 const MAXIMUM_DIGITS: usize = 6;
 
 // Whether `b` can start a name.
+#[tactic(auto, unfolding(crate::specs::Name::is_nmstart, combinators::specs::Choice::or, combinators::specs::Choice::is, combinators::specs::Choice::within, combinators::specs::Choice::and))]
 fn is_nmstart(b: u8) -> bool
     ensures { result ≡ is_nmstart b }
 {
-    if same(b, b'_') {
-        return true;
-    }
-    if between(b, b'a', b'z') {
-        return true;
-    }
-    between(b, b'A', b'Z')
+    matches!(b, b'_' | b'a'..=b'z' | b'A'..=b'Z')
 }
 
 // Whether `b` can stand in a name.
+#[tactic(auto, unfolding(crate::specs::Name::is_nmchar, combinators::specs::Choice::or, combinators::specs::Choice::is, combinators::specs::Choice::within, combinators::specs::Choice::and))]
 fn is_nmchar(b: u8) -> bool
     ensures { result ≡ is_nmchar b }
 {
-    if is_nmstart(b) {
-        return true;
-    }
-    if between(b, b'0', b'9') {
-        return true;
-    }
-    same(b, b'-')
+    is_nmstart(b) || matches!(b, b'0'..=b'9' | b'-')
 }
 
 // The byte, with A-Z folded to a-z.
+#[tactic(auto, unfolding(crate::specs::Name::lower, combinators::specs::Choice::pick, combinators::specs::Choice::within, combinators::specs::Choice::and))]
 fn lower_of(b: u8) -> u32
     ensures { result ≡ lower b }
 {
-    if between(b, b'A', b'Z') {
-        return wide(b) + CASE_DISTANCE;
-    }
-    wide(b)
+    u32::from(b.to_ascii_lowercase())
 }
 
 // A character that can start a name, other than an escape.
-pub fn nmstart_char(s: &[u8]) -> Scalar
+#[tactic(auto, unfolding(crate::specs::Name::nmstart_char_of, crate::specs::Name::folded_char, combinators::specs::Choice::pick))]
+pub fn nmstart_char(s: &[u8]) -> Option<Scalar>
     ensures { result ≡ nmstart_char_of s.now }
 {
     let b = peek(s, 0);
-    if is_nmstart(b) {
-        return Scalar::Value(1, lower_of(b));
+    if !is_nmstart(b) {
+        return None;
     }
-    Scalar::NoScalar
+    Some(Scalar {
+        taken: 1,
+        value: lower_of(b),
+    })
 }
 
 // A character of a name, other than an escape.
-pub fn nmchar_char(s: &[u8]) -> Scalar
+#[tactic(auto, unfolding(crate::specs::Name::nmchar_char_of, crate::specs::Name::folded_char, combinators::specs::Choice::pick))]
+pub fn nmchar_char(s: &[u8]) -> Option<Scalar>
     ensures { result ≡ nmchar_char_of s.now }
 {
     let b = peek(s, 0);
-    if is_nmchar(b) {
-        return Scalar::Value(1, lower_of(b));
+    if !is_nmchar(b) {
+        return None;
     }
-    Scalar::NoScalar
+    Some(Scalar {
+        taken: 1,
+        value: lower_of(b),
+    })
 }
 
 // Whether `b` is a hex digit.
+#[tactic(auto, unfolding(crate::specs::Name::is_hex_digit, combinators::specs::Choice::or, combinators::specs::Choice::within, combinators::specs::Choice::and))]
 pub fn is_hex_digit(b: u8) -> bool
     ensures { result ≡ is_hex_digit b }
 {
-    if between(b, b'0', b'9') {
-        return true;
-    }
-    if between(b, b'a', b'f') {
-        return true;
-    }
-    between(b, b'A', b'F')
+    b.is_ascii_hexdigit()
 }
 
 // What a hex digit is worth.
+#[tactic(auto, unfolding(crate::specs::Name::hex_digit, combinators::specs::Choice::pick, combinators::specs::Choice::within, combinators::specs::Choice::and))]
 pub fn hex_digit_of(b: u8) -> u32
     ensures { result ≡ hex_digit b }
 {
-    if between(b, b'0', b'9') {
-        return wide(b - b'0');
+    match b {
+        b'0'..=b'9' => u32::from(b - b'0'),
+        b'a'..=b'f' => u32::from(b - b'a') + 10,
+        b'A'..=b'F' => u32::from(b - b'A') + 10,
+        _ => 0,
     }
-    if between(b, b'a', b'f') {
-        return wide(b - b'a') + 10;
-    }
-    if between(b, b'A', b'F') {
-        return wide(b - b'A') + 10;
-    }
-    0
 }
 
 // How many hex digits `t` begins with, up to six.
@@ -115,26 +93,19 @@ fn hex_run(t: &[u8]) -> usize
     ensures { result ≡ hex_run 0 maximum_digits t.now }
 {
     let mut i = 0;
-    while i < MAXIMUM_DIGITS {
-        let b = peek(t, i);
-        if is_hex_digit(b) {
-            i += 1;
-        } else {
-            return i;
-        }
+    while i < MAXIMUM_DIGITS && is_hex_digit(peek(t, i)) {
+        i += 1;
     }
     i
 }
 
 // How many of them the escape takes: only the first where they run to the end of the text.
+#[tactic(auto, unfolding(crate::specs::Name::hex_count, combinators::specs::Choice::pick, combinators::specs::Choice::is))]
 fn hex_count(t: &[u8]) -> usize
     ensures { result ≡ hex_count t.now }
 {
     let n = hex_run(t);
-    if n == t.len() {
-        return 1;
-    }
-    n
+    if n == t.len() { 1 } else { n }
 }
 
 // The number that the first `n` digits of `t` write.
@@ -143,73 +114,58 @@ fn hex_value_of(t: &[u8], n: usize) -> u32
     ensures { result ≡ hex_value 0 n t.now }
 {
     let mut v: u32 = 0;
-    let mut i = 0;
-    while i < n {
-        let d = hex_digit_of(peek(t, i));
-        v = v * 16 + d;
-        i += 1;
+    for i in 0..n {
+        v = v * 16 + hex_digit_of(peek(t, i));
     }
     v
 }
 
 // What an escape stands for, from behind its backslash on; the backslash counts among the bytes taken.
-fn escaped(t: &[u8]) -> Scalar
+fn escaped(t: &[u8]) -> Option<Scalar>
     ensures { result ≡ escaped_of t.now }
 {
-    if t.len() == 0 {
-        return Scalar::Value(1, REPLACEMENT_CHARACTER);
+    if t.is_empty() {
+        return Some(Scalar {
+            taken: 1,
+            value: REPLACEMENT_CHARACTER,
+        });
     }
     if is_hex_digit(peek(t, 0)) {
         let n = hex_count(t);
-        let v = or_replacement(hex_value_of(t, n));
-        return Scalar::Value(1 + n, v);
+        return Some(Scalar {
+            taken: 1 + n,
+            value: or_replacement(hex_value_of(t, n)),
+        });
     }
-    match scalar_at(t) {
-        Scalar::Value(n, v) => {
-            return Scalar::Value(1 + n, v);
-        }
-        Scalar::NoScalar => {
-            return Scalar::NoScalar;
-        }
-    }
+    let c = scalar_at(t)?;
+    Some(Scalar {
+        taken: 1 + c.taken,
+        value: c.value,
+    })
 }
 
 // An escape: a backslash and what it makes of the text behind it.
-pub fn ident_escape(s: &[u8]) -> Scalar
+pub fn ident_escape(s: &[u8]) -> Option<Scalar>
     ensures { result ≡ ident_escape_of s.now }
 {
-    if byte_is(s, 0, b'\\') {
-        return escaped(&s[1..]);
+    if !byte_is(s, 0, b'\\') {
+        return None;
     }
-    Scalar::NoScalar
+    escaped(&s[1..])
 }
 
 // A character that can start a name.
-pub fn nmstart(s: &[u8]) -> Scalar
+pub fn nmstart(s: &[u8]) -> Option<Scalar>
     ensures { result ≡ nmstart_of s.now }
 {
-    match nmstart_char(s) {
-        Scalar::Value(n, v) => {
-            return Scalar::Value(n, v);
-        }
-        Scalar::NoScalar => {
-            return ident_escape(s);
-        }
-    }
+    nmstart_char(s).or_else(|| ident_escape(s))
 }
 
 // A character of a name.
-pub fn nmchar(s: &[u8]) -> Scalar
+pub fn nmchar(s: &[u8]) -> Option<Scalar>
     ensures { result ≡ nmchar_of s.now }
 {
-    match nmchar_char(s) {
-        Scalar::Value(n, v) => {
-            return Scalar::Value(n, v);
-        }
-        Scalar::NoScalar => {
-            return ident_escape(s);
-        }
-    }
+    nmchar_char(s).or_else(|| ident_escape(s))
 }
 
 // The characters of names that `s` begins with, as many as there are.
@@ -221,19 +177,12 @@ fn emit_nmchars(s: &[u8], store: &mut [u8], fill: usize) -> Written
     let mut f = fill;
     let mut n = 0;
     while i < s.len() {
-        match nmchar(&s[i..]) {
-            Scalar::Value(k, v) => {
-                f = emit_scalar(v, store, f);
-                n += length_of(v);
-                i += k;
-            }
-            Scalar::NoScalar => {
-                return Written {
-                    taken: i,
-                    length: n,
-                };
-            }
-        }
+        let Some(c) = nmchar(&s[i..]) else {
+            break;
+        };
+        f = emit_scalar(c.value, store, f);
+        n += length_of(c.value);
+        i += c.taken;
     }
     Written {
         taken: i,
@@ -246,69 +195,50 @@ fn dash_of(t: &[u8]) -> usize
     ensures value { result ≡ dash t.now }
     ensures upper_bound { result ≤ length t.now }
 {
-    if byte_is(t, 0, b'-') {
-        return 1;
-    }
-    0
+    usize::from(byte_is(t, 0, b'-'))
 }
 
 // A name at the start of `t`. The '-' and the start are characters of names too, so one run over them writes the name.
-fn parse_name(t: &[u8], store: &mut [u8], fill: usize) -> Name
+fn parse_name(t: &[u8], store: &mut [u8], fill: usize) -> Option<Written>
     ensures value { result ≡ name_answer (name_of t.now) }
     ensures store_after { store.new ≡ sets store.old fill (name_text (name_of t.now)) }
 {
     let d = dash_of(t);
-    match nmstart(&t[d..]) {
-        Scalar::Value(_, _) => {
-            let n = emit_nmchars(t, store, fill);
-            return Name::Text(n.taken, n.length);
-        }
-        Scalar::NoScalar => {
-            return Name::NoName;
-        }
-    }
+    nmstart(&t[d..])?;
+    Some(emit_nmchars(t, store, fill))
 }
 
 // One character of a name or more at the start of `t`.
-fn parse_chars(t: &[u8], store: &mut [u8], fill: usize) -> Name
+fn parse_chars(t: &[u8], store: &mut [u8], fill: usize) -> Option<Written>
     ensures value { result ≡ name_answer (chars_of t.now) }
     ensures store_after { store.new ≡ sets store.old fill (name_text (chars_of t.now)) }
 {
     let n = emit_nmchars(t, store, fill);
-    if n.taken == 0 {
-        return Name::NoName;
-    }
-    Name::Text(n.taken, n.length)
+    if n.taken == 0 { None } else { Some(n) }
 }
 
 // A name behind white space and comments.
-pub fn parse_ident(s: &[u8], store: &mut [u8], fill: usize) -> Name
+pub fn parse_ident(s: &[u8], store: &mut [u8], fill: usize) -> Option<Written>
     ensures value { result ≡ name_answer (ident_of s.now) }
     ensures store_after { store.new ≡ sets store.old fill (name_text (ident_of s.now)) }
 {
     let w = skip_optional_whitespace(s);
-    match parse_name(&s[w..], store, fill) {
-        Name::Text(n, length) => {
-            return Name::Text(w + n, length);
-        }
-        Name::NoName => {
-            return Name::NoName;
-        }
-    }
+    let n = parse_name(&s[w..], store, fill)?;
+    Some(Written {
+        taken: w + n.taken,
+        length: n.length,
+    })
 }
 
 // One character of a name or more, behind white space and comments.
-pub fn parse_identstring(s: &[u8], store: &mut [u8], fill: usize) -> Name
+pub fn parse_identstring(s: &[u8], store: &mut [u8], fill: usize) -> Option<Written>
     ensures value { result ≡ name_answer (identstring_of s.now) }
     ensures store_after { store.new ≡ sets store.old fill (name_text (identstring_of s.now)) }
 {
     let w = skip_optional_whitespace(s);
-    match parse_chars(&s[w..], store, fill) {
-        Name::Text(n, length) => {
-            return Name::Text(w + n, length);
-        }
-        Name::NoName => {
-            return Name::NoName;
-        }
-    }
+    let n = parse_chars(&s[w..], store, fill)?;
+    Some(Written {
+        taken: w + n.taken,
+        length: n.length,
+    })
 }

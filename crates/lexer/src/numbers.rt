@@ -1,15 +1,17 @@
-// Numbers at the start of a text, recognised: how many bytes they take, 0 where there is none.
+// Numbers at the start of a text, recognised: how many bytes they take, 0 where there is none. Counts and no Option, as the definitions
+// have them, which add counts up and compare them with 0.
 ghost use Rattle.std.specs.Prelude.{◌≡◌, ◌≤◌, length};
 ghost use Rattle.lexer.specs.Number.{is_digit, digits, decimal, unsigned, sign, signed, number};
 
 use crate::whitespace::skip_optional_whitespace;
-use combinators::bytes::{between, byte_is, peek};
+use combinators::bytes::{byte_is, peek};
 
 // Whether `b` is a digit.
+#[tactic(auto, unfolding(crate::specs::Number::is_digit, combinators::specs::Choice::within, combinators::specs::Choice::and))]
 pub fn is_digit(b: u8) -> bool
     ensures { result ≡ is_digit b }
 {
-    between(b, b'0', b'9')
+    b.is_ascii_digit()
 }
 
 // The digits that `s` begins with, counted.
@@ -18,12 +20,8 @@ pub fn parse_integer(s: &[u8]) -> usize
     ensures upper_bound { result ≤ length s.now }
 {
     let mut i = 0;
-    while i < s.len() {
-        if is_digit(s[i]) {
-            i += 1;
-        } else {
-            return i;
-        }
+    while i < s.len() && is_digit(s[i]) {
+        i += 1;
     }
     i
 }
@@ -34,41 +32,34 @@ pub fn parse_decimal(s: &[u8]) -> usize
     ensures upper_bound { result ≤ length s.now }
 {
     let n = parse_integer(s);
-    if byte_is(s, n, b'.') {
-        let m = parse_integer(&s[n + 1..]);
-        if m == 0 {
-            return 0;
-        }
-        return n + 1 + m;
+    if !byte_is(s, n, b'.') {
+        return 0;
     }
-    0
+    match parse_integer(&s[n + 1..]) {
+        0 => 0,
+        m => n + 1 + m,
+    }
 }
 
 // An integer, or else a decimal.
+#[tactic(auto, unfolding(crate::specs::Number::unsigned, combinators::specs::Choice::pick, combinators::specs::Choice::is))]
 fn parse_unsigned(s: &[u8]) -> usize
     ensures value { result ≡ unsigned s.now }
     ensures upper_bound { result ≤ length s.now }
 {
-    let n = parse_integer(s);
-    if n == 0 {
-        return parse_decimal(s);
+    match parse_integer(s) {
+        0 => parse_decimal(s),
+        n => n,
     }
-    n
 }
 
 // A sign or none.
+#[tactic(auto, unfolding(crate::specs::Number::sign, combinators::specs::Choice::pick, combinators::specs::Choice::or, combinators::specs::Choice::is))]
 pub fn parse_sign(s: &[u8]) -> usize
     ensures value { result ≡ sign s.now }
     ensures upper_bound { result ≤ length s.now }
 {
-    let b = peek(s, 0);
-    if b == b'-' {
-        return 1;
-    }
-    if b == b'+' {
-        return 1;
-    }
-    0
+    usize::from(matches!(peek(s, 0), b'-' | b'+'))
 }
 
 // A sign or none, and a number without one behind it.
@@ -77,11 +68,10 @@ pub fn parse_signed(s: &[u8]) -> usize
     ensures upper_bound { result ≤ length s.now }
 {
     let k = parse_sign(s);
-    let n = parse_unsigned(&s[k..]);
-    if n == 0 {
-        return 0;
+    match parse_unsigned(&s[k..]) {
+        0 => 0,
+        n => k + n,
     }
-    k + n
 }
 
 // White space or none, and a number with a sign or none behind it.
@@ -90,9 +80,8 @@ pub fn parse_number(s: &[u8]) -> usize
     ensures upper_bound { result ≤ length s.now }
 {
     let w = skip_optional_whitespace(s);
-    let n = parse_signed(&s[w..]);
-    if n == 0 {
-        return 0;
+    match parse_signed(&s[w..]) {
+        0 => 0,
+        n => w + n,
     }
-    w + n
 }

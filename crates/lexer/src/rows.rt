@@ -18,7 +18,7 @@ pub const TOKEN_FIRST: usize = 3;
 
 pub const TOKEN_SECOND: usize = 4;
 
-// The kinds. No token has 0, so that a cleared row is told from a written one.
+// The kinds, as numbers, since a row is lent and may hold any. No token has 0, so that a cleared row is told from a written one.
 pub const IDENT: u32 = 1;
 
 pub const FUNCTION: u32 = 2;
@@ -77,36 +77,33 @@ fn with_kind(kind: u32, first: usize, second: usize) -> Columns
     }
 }
 
-fn wide_number(x: u32) -> usize
-    ensures { result ≡ x }
-{
-    x as usize
-}
+impl From<Token> for Columns {
+    ghost from_gives = { λ k row. row ≡ columns_of k };
 
-fn columns_of(k: Token) -> Columns
-    ensures { result ≡ columns_of k }
-{
-    match k {
-        Token::Ident(n) => with_kind(IDENT, n, 0),
-        Token::Function(n) => with_kind(FUNCTION, n, 0),
-        Token::Hash(n) => with_kind(HASH, n, 0),
-        Token::String(n) => with_kind(STRING, n, 0),
-        Token::BadString(n) => with_kind(BAD_STRING, n, 0),
-        Token::Delim(c) => with_kind(DELIM, wide_number(c), 0),
-        Token::Number(n) => with_kind(NUMBER, n, 0),
-        Token::Dimension(n, m) => with_kind(DIMENSION, n, m),
-        Token::Percentage(n) => with_kind(PERCENTAGE, n, 0),
-        Token::CDO => with_kind(CDO, 0, 0),
-        Token::CDC => with_kind(CDC, 0, 0),
-        Token::Colon => with_kind(COLON, 0, 0),
-        Token::Semicolon => with_kind(SEMICOLON, 0, 0),
-        Token::Comma => with_kind(COMMA, 0, 0),
-        Token::OpenSquare => with_kind(OPEN_SQUARE, 0, 0),
-        Token::CloseSquare => with_kind(CLOSE_SQUARE, 0, 0),
-        Token::OpenRound => with_kind(OPEN_ROUND, 0, 0),
-        Token::CloseRound => with_kind(CLOSE_ROUND, 0, 0),
-        Token::OpenBrace => with_kind(OPEN_BRACE, 0, 0),
-        Token::CloseBrace => with_kind(CLOSE_BRACE, 0, 0),
+    #[tactic(auto, unfolding(crate::specs::TokenRow::columns_of))]
+    fn from(k: Token) -> Columns {
+        match k {
+            Token::Ident(n) => with_kind(IDENT, n, 0),
+            Token::Function(n) => with_kind(FUNCTION, n, 0),
+            Token::Hash(n) => with_kind(HASH, n, 0),
+            Token::String(n) => with_kind(STRING, n, 0),
+            Token::BadString(n) => with_kind(BAD_STRING, n, 0),
+            Token::Delim(c) => with_kind(DELIM, c as usize, 0),
+            Token::Number(n) => with_kind(NUMBER, n, 0),
+            Token::Dimension(n, m) => with_kind(DIMENSION, n, m),
+            Token::Percentage(n) => with_kind(PERCENTAGE, n, 0),
+            Token::CDO => with_kind(CDO, 0, 0),
+            Token::CDC => with_kind(CDC, 0, 0),
+            Token::Colon => with_kind(COLON, 0, 0),
+            Token::Semicolon => with_kind(SEMICOLON, 0, 0),
+            Token::Comma => with_kind(COMMA, 0, 0),
+            Token::OpenSquare => with_kind(OPEN_SQUARE, 0, 0),
+            Token::CloseSquare => with_kind(CLOSE_SQUARE, 0, 0),
+            Token::OpenRound => with_kind(OPEN_ROUND, 0, 0),
+            Token::CloseRound => with_kind(CLOSE_ROUND, 0, 0),
+            Token::OpenBrace => with_kind(OPEN_BRACE, 0, 0),
+            Token::CloseBrace => with_kind(CLOSE_BRACE, 0, 0),
+        }
     }
 }
 
@@ -122,7 +119,7 @@ fn word_of(x: usize) -> u32
 pub fn put_token(k: Token, byte: usize, start: usize, rows: &mut [u32], at: usize) -> usize
     ensures { record { bytes = rows.new; fill = result } ≡ emits (record { bytes = rows.old; fill = at }) (row_of byte start k) }
 {
-    let row = columns_of(k);
+    let row = Columns::from(k);
     let after_kind = emit_number(row.kind, rows, at);
     let after_byte = emit_number(word_of(byte), rows, after_kind);
     let after_start = emit_number(word_of(start), rows, after_byte);
@@ -131,75 +128,43 @@ pub fn put_token(k: Token, byte: usize, start: usize, rows: &mut [u32], at: usiz
 }
 
 // The mark of a kind: a closing brace where no other fits.
+#[tactic(auto, unfolding(crate::specs::TokenRow::mark_from, combinators::specs::Choice::pick, combinators::specs::Choice::is))]
 fn mark_of(kind: u32) -> Token
     ensures { result ≡ mark_from kind }
 {
-    if kind == CDO {
-        return Token::CDO;
+    match kind {
+        CDO => Token::CDO,
+        CDC => Token::CDC,
+        COLON => Token::Colon,
+        SEMICOLON => Token::Semicolon,
+        COMMA => Token::Comma,
+        OPEN_SQUARE => Token::OpenSquare,
+        CLOSE_SQUARE => Token::CloseSquare,
+        OPEN_ROUND => Token::OpenRound,
+        CLOSE_ROUND => Token::CloseRound,
+        OPEN_BRACE => Token::OpenBrace,
+        _ => Token::CloseBrace,
     }
-    if kind == CDC {
-        return Token::CDC;
-    }
-    if kind == COLON {
-        return Token::Colon;
-    }
-    if kind == SEMICOLON {
-        return Token::Semicolon;
-    }
-    if kind == COMMA {
-        return Token::Comma;
-    }
-    if kind == OPEN_SQUARE {
-        return Token::OpenSquare;
-    }
-    if kind == CLOSE_SQUARE {
-        return Token::CloseSquare;
-    }
-    if kind == OPEN_ROUND {
-        return Token::OpenRound;
-    }
-    if kind == CLOSE_ROUND {
-        return Token::CloseRound;
-    }
-    if kind == OPEN_BRACE {
-        return Token::OpenBrace;
-    }
-    Token::CloseBrace
 }
 
 // The token of a kind and two numbers.
+#[tactic(auto, unfolding(crate::specs::TokenRow::token_from, combinators::specs::Choice::pick, combinators::specs::Choice::is))]
 fn token_of(kind: u32, first: u32, second: u32) -> Token
     ensures { result ≡ token_from kind first second }
 {
-    let n = wide_number(first);
-    if kind == IDENT {
-        return Token::Ident(n);
+    let n = first as usize;
+    match kind {
+        IDENT => Token::Ident(n),
+        FUNCTION => Token::Function(n),
+        HASH => Token::Hash(n),
+        STRING => Token::String(n),
+        BAD_STRING => Token::BadString(n),
+        DELIM => Token::Delim(first),
+        NUMBER => Token::Number(n),
+        DIMENSION => Token::Dimension(n, second as usize),
+        PERCENTAGE => Token::Percentage(n),
+        _ => mark_of(kind),
     }
-    if kind == FUNCTION {
-        return Token::Function(n);
-    }
-    if kind == HASH {
-        return Token::Hash(n);
-    }
-    if kind == STRING {
-        return Token::String(n);
-    }
-    if kind == BAD_STRING {
-        return Token::BadString(n);
-    }
-    if kind == DELIM {
-        return Token::Delim(first);
-    }
-    if kind == NUMBER {
-        return Token::Number(n);
-    }
-    if kind == DIMENSION {
-        return Token::Dimension(n, wide_number(second));
-    }
-    if kind == PERCENTAGE {
-        return Token::Percentage(n);
-    }
-    mark_of(kind)
 }
 
 // The token whose row starts at `at`.

@@ -25,37 +25,33 @@ struct Turn {
 }
 
 // What stands behind the backslash that `s` begins with.
+#[tactic(auto, unfolding(crate::specs::Quoted::escaped_byte, combinators::specs::Choice::pick, combinators::specs::Choice::is))]
 fn escaped_byte(s: &[u8]) -> Quoted
     ensures { result ≡ escaped_byte s.now }
 {
     if s.len() == 1 {
         return Quoted::Skip(1);
     }
-    let b = peek(s, 1);
-    if b == b'\n' {
-        return Quoted::Skip(2);
+    match peek(s, 1) {
+        b'\n' => Quoted::Skip(2),
+        b => Quoted::Byte(2, b),
     }
-    Quoted::Byte(2, b)
 }
 
 // The character that `s` begins with.
+#[tactic(auto, unfolding(crate::specs::Quoted::quoted_of, combinators::specs::Choice::pick, combinators::specs::Choice::is))]
 fn quoted_byte(s: &[u8], quote: u8) -> Quoted
     ensures { result ≡ quoted_of quote s.now }
 {
-    if s.len() == 0 {
+    if s.is_empty() {
         return Quoted::Stop;
     }
-    let b = peek(s, 0);
-    if b == quote {
-        return Quoted::Stop;
+    match peek(s, 0) {
+        b if b == quote => Quoted::Stop,
+        b'\n' => Quoted::Stop,
+        b'\\' => escaped_byte(s),
+        b => Quoted::Byte(1, b),
     }
-    if b == b'\n' {
-        return Quoted::Stop;
-    }
-    if b == b'\\' {
-        return escaped_byte(s);
-    }
-    Quoted::Byte(1, b)
 }
 
 // The character that `s` begins with, written from `fill` on; it takes 0 at the end of the string.
@@ -63,30 +59,22 @@ fn emit_quoted(s: &[u8], quote: u8, store: &mut [u8], fill: usize) -> Turn
     ensures taken_value { (result.taken ≡ quoted_taken quote s.now) × (result.length ≡ length (quoted_text quote s.now)) }
     ensures fill_after { record { bytes = store.new; fill = result.fill } ≡ emits (record { bytes = store.old; fill = fill }) (quoted_text quote s.now) }
 {
-    let c = quoted_byte(s, quote);
-    match c {
-        Quoted::Byte(n, b) => {
-            let f = emit(b, store, fill);
-            return Turn {
-                taken: n,
-                length: 1,
-                fill: f,
-            };
-        }
-        Quoted::Skip(n) => {
-            return Turn {
-                taken: n,
-                length: 0,
-                fill: fill,
-            };
-        }
-        Quoted::Stop => {
-            return Turn {
-                taken: 0,
-                length: 0,
-                fill: fill,
-            };
-        }
+    match quoted_byte(s, quote) {
+        Quoted::Byte(n, b) => Turn {
+            taken: n,
+            length: 1,
+            fill: emit(b, store, fill),
+        },
+        Quoted::Skip(n) => Turn {
+            taken: n,
+            length: 0,
+            fill,
+        },
+        Quoted::Stop => Turn {
+            taken: 0,
+            length: 0,
+            fill,
+        },
     }
 }
 
@@ -101,10 +89,7 @@ pub fn emit_string(s: &[u8], quote: u8, store: &mut [u8], fill: usize) -> Writte
     while i < s.len() {
         let r = emit_quoted(&s[i..], quote, store, f);
         if r.taken == 0 {
-            return Written {
-                taken: i,
-                length: n,
-            };
+            break;
         }
         i += r.taken;
         f = r.fill;

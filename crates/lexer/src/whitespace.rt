@@ -1,8 +1,8 @@
-// White space and comments at the start of a text.
+// White space and comments at the start of a text: how many bytes they take. Counts and no Option, since `many` repeats a count, of which 0 ends it.
 ghost use Rattle.std.specs.Prelude.{◌≡◌, ◌+◌, ◌≤◌, length, drop};
 ghost use Rattle.lexer.specs.Whitespace.{comment_end, comment_of, is_whitespace, whitespace_item, skip_whitespace};
 
-use combinators::bytes::{byte_is, peek, same};
+use combinators::bytes::{byte_is, peek};
 
 const FORM_FEED: u8 = 0x0c;
 
@@ -10,14 +10,10 @@ const FORM_FEED: u8 = 0x0c;
 fn comment_end(s: &[u8]) -> usize
     ensures { result ≡ comment_end 2 s.now }
 {
-    let mut i = 0;
-    while i < s.len() {
-        if s[i] == b'*' {
-            if byte_is(s, i + 1, b'/') {
-                return i + 4; // "/*", i bytes, and "*/"
-            }
+    for i in 0..s.len() {
+        if s[i] == b'*' && byte_is(s, i + 1, b'/') {
+            return i + 4; // "/*", i bytes, and "*/"
         }
-        i += 1;
     }
     0
 }
@@ -26,45 +22,31 @@ fn comment_end(s: &[u8]) -> usize
 pub fn match_comment(s: &[u8]) -> usize
     ensures { result ≡ comment_of s.now }
 {
-    if byte_is(s, 0, b'/') {
-        if byte_is(s, 1, b'*') {
-            return comment_end(&s[2..]);
-        }
-        return 0;
+    if byte_is(s, 0, b'/') && byte_is(s, 1, b'*') {
+        comment_end(&s[2..])
+    } else {
+        0
     }
-    0
 }
 
-// Whether `b` is white space. All of it is at most a space, so that one comparison tells most bytes.
+// Whether `b` is white space.
+#[tactic(auto, unfolding(crate::specs::Whitespace::is_whitespace, combinators::specs::Choice::or, combinators::specs::Choice::is))]
 fn is_whitespace(b: u8) -> bool
     ensures { result ≡ is_whitespace b }
 {
-    if b > b' ' {
-        return false;
-    }
-    if b == b' ' {
-        return true;
-    }
-    if b == b'\t' {
-        return true;
-    }
-    if b == b'\r' {
-        return true;
-    }
-    if b == b'\n' {
-        return true;
-    }
-    same(b, FORM_FEED)
+    matches!(b, b' ' | b'\t' | b'\r' | b'\n' | FORM_FEED)
 }
 
 // The bytes of the character of white space or the comment that `s` begins with, 0 where it begins with neither.
+#[tactic(auto, unfolding(crate::specs::Whitespace::whitespace_item, combinators::specs::Choice::pick))]
 pub fn match_whitespace_item(s: &[u8]) -> usize
     ensures { result ≡ whitespace_item s.now }
 {
     if is_whitespace(peek(s, 0)) {
-        return 1;
+        1
+    } else {
+        match_comment(s)
     }
-    match_comment(s)
 }
 
 // How many bytes of white space and comments `s` begins with.
@@ -76,7 +58,7 @@ pub fn skip_optional_whitespace(s: &[u8]) -> usize
     while i < s.len() {
         let n = match_whitespace_item(&s[i..]);
         if n == 0 {
-            return i;
+            break;
         }
         i += n;
     }

@@ -4,8 +4,11 @@ use mathlib.Core.Bool.{Bool, true, false}
 use mathlib.Core.List.{List}
 use mathlib.Core.Path.{◌≡◌, refl, sym, ap, ◌∙◌}
 use native.Mathlib.Omega.{arith}
+use Rattle.std.specs.Prelude.{Some}
+use Rattle.std.specs.Char.{is_ascii_graphic}
+use Rattle.std.proofs.lemmas.Grind.{common_steps}
 use lib.ListN.{length, take, drop, get_or, length-drop}
-use Rattle.combinators.specs.Choice.{pick, or, is, within}
+use Rattle.combinators.specs.Choice.{pick, or, and, is, within}
 use Rattle.combinators.specs.Repeat.{many}
 use Rattle.combinators.proofs.Lists.{first, rest}
 use Rattle.combinators.proofs.Repeating.{Repeating, repeat-more, repeat-stop}
@@ -15,7 +18,6 @@ use Rattle.characters.specs.Trim.{white_taken, word_taken}
 use Rattle.characters.specs.Utf8.{lead_of, scalar_of}
 use Rattle.characters.specs.WhiteSpace.{is_white_space, member, in_ranges}
 use Rattle.characters.specs.declared.utf8.Lead.{Lead}
-use Rattle.characters.specs.declared.utf8.Scalar.TheVariants.{Value}
 use Rattle.characters.proofs.Reading.{at_ascii}
 use Rattle.characters.proofs.Trimming.{white-value, word_value}
 use Rattle.characters.proofs.WhiteSpaces.{white-space-ranges}
@@ -42,6 +44,11 @@ lead-one : (b : ℕ) → b ≤ 0x7f → 1 ≡ (lead_of b).long
 unfolding lead_of
 lead-one b h = ap (λ (l : Lead). l.long) (at_most (record { long = 1; low = 0; high = 0 }) _ _ b 0x7f h refl)
 
+-- the library's test of a visible ASCII character
+graphic-within : (b : ℕ) → is_ascii_graphic b ≡ within b 0x21 0x7e
+unfolding within and
+graphic-within b = grind (arith, common_steps)
+
 -- ---- the byte b at i
 module _ (s : List ℕ) (i : ℕ) (inside : i < length s) (b : ℕ) (eb : b ≡ get_or s i 0) where
   -- the text goes on there
@@ -49,14 +56,14 @@ module _ (s : List ℕ) (i : ℕ) (inside : i < length s) (b : ℕ) (eb : b ≡ 
   some_left z = absurd (omega (arith, length-drop i s))
 
   -- a byte of ASCII is read as a character
-  one_byte : b ≤ 0x7f → Value 1 b ≡ scalar_of (drop i s)
+  one_byte : b ≤ 0x7f → Some (record { taken = 1; value = b }) ≡ scalar_of (drop i s)
   one_byte h = at_ascii (drop i s) some_left b (eb ∙ sym (first s i)) (lead_of b) refl (sym (lead-one b h)) b refl
 
   -- ---- a visible character
-  module _ (g : Bool) (eg : g ≡ within b 0x21 0x7e) (yes-graphic : g ≡ true) where
+  module _ (g : Bool) (eg : g ≡ is_ascii_graphic b) (yes-graphic : g ≡ true) where
     -- it lies between `!` and `~`
     between_ends : (0x21 ≤ b) × (b ≤ 0x7e)
-    between_ends = within-true b 0x21 0x7e (sym eg ∙ yes-graphic)
+    between_ends = within-true b 0x21 0x7e (sym (graphic-within b) ∙ sym eg ∙ yes-graphic)
 
     -- a graphic ASCII character is no White_Space
     no-white : is_white_space b ≡ false

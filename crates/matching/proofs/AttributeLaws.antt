@@ -1,13 +1,14 @@
 -- A loop over the attributes of an element: any that passes, or the first of a name.
-use Prim.Native.Nat.{ℕ, suc, ◌+◌, ◌-◌, ◌≤◌, ◌<◌}
+use Rattle.std.specs.Prelude.{Option, Some, None, MatchOption, cond, ◌||◌}
+use Rattle.std.specs.List.{find, list_any, range_with_len}
+use Prim.Native.Nat.{ℕ, zero, suc, ◌+◌}
 use mathlib.Core.Bool.{Bool, true, false}
 use mathlib.Core.List.{List, [], ◌∷◌}
-use mathlib.Core.Path.{◌≡◌, refl, sym, ap, ap₂, ◌∙◌}
-use native.Mathlib.Omega.{arith}
-use Rattle.combinators.specs.Choice.{pick}
+use mathlib.Core.Path.{◌≡◌, refl, sym, ap, ◌∙◌}
+use Rattle.combinators.specs.Choice.{pick, or}
 use Rattle.combinators.specs.Part.{part}
 use Rattle.combinators.specs.Word.{same_text}
-use Rattle.combinators.proofs.Rules.{pick_true, pick-false, or_left, or-gives, and-gives, and-gives-false}
+use Rattle.combinators.proofs.Rules.{and-gives, and-gives-false}
 use Rattle.characters.specs.Literal.{text}
 use Rattle.characters.specs.Utf8.{utf8}
 use Rattle.page.specs.Path.{Attribute}
@@ -73,73 +74,40 @@ module _ (attributes names : List ℕ) (row : ℕ) where
     unfolding is_id
     id_other h = and-gives-false _ _ (id-test ∙ h)
 
--- ---- all of them: `ask` is what is asked of the list
+-- ---- all of them, from row `at` on
+module _ (attributes names : List ℕ) where
+  -- any that passes
+  pub any-row : (f : Attribute → Bool) (k at : ℕ) → list_any (λ row. f (attribute_of attributes names row)) (range_with_len at k) ≡ any_attribute f (attributes_from attributes names k at)
+  unfolding any_attribute attributes_from attribute_of or
+  any-row f zero at = refl
+  any-row f (suc k) at = go (f (attribute_of attributes names at)) (any-row f k (at + 1))
+    where
+      go : (t : Bool) {a b : Bool} → a ≡ b → t || a ≡ or t b
+      go true e = refl
+      go false e = e
 
--- at the i-th: what is left answers for the whole
-pub record Looking (ask : List Attribute → Bool) (attributes names : List ℕ) (at count i : ℕ) : Type 0 where
-  pub within_count : i ≤ count
-  pub left : ask (attributes_from attributes names (count - i) (at + i)) ≡ ask (attributes_from attributes names count at)
+  module _ (n w : List ℕ) where
+    -- by the value of a row that was found
+    by_value : Option ℕ → Bool
+    by_value None = false
+    by_value (Some row) = same_text (attribute_value attributes names row) w
 
-module _ (ask : List Attribute → Bool) (attributes names : List ℕ) (at count : ℕ) where
-  -- before the first attribute all of them are left, and answer for themselves
-  pub look-begin : Looking ask attributes names at count 0
-  look-begin =
-      let n : count - 0 ≡ count = omega arith in
-      let k : at + 0 ≡ at = omega arith in
-      record { within_count = omega arith; left = ap₂ (λ (x y : ℕ). ask (attributes_from attributes names x y)) n k }
+    -- the first of a name
+    first-row : (k at : ℕ) → by_value (find (λ row. is_named n (attribute_of attributes names row)) (range_with_len at k)) ≡ first_is n w (attributes_from attributes names k at)
+    unfolding by_value first_is attributes_from attribute_of pick
+    first-row zero at = refl
+    first-row (suc k) at = go (is_named n (attribute_of attributes names at)) _ (first-row k (at + 1))
+      where
+        go : (t : Bool) (o : Option ℕ) {b : Bool} → by_value o ≡ b → by_value (cond t (Some at) o) ≡ pick t (same_text (attribute_value attributes names at) w) b
+        go true o e = refl
+        go false o e = e
 
-  -- once all attributes were asked, the answer is that of none left
-  looked : (i : ℕ) → Looking ask attributes names at count i → count ≤ i → ask [] ≡ ask (attributes_from attributes names count at)
-  unfolding attributes_from
-  looked i v h = let z : count - i ≡ 0 = omega arith in sym (ap (λ (k : ℕ). ask (attributes_from attributes names k (at + i))) z) ∙ v.left
-
-  -- one is asked, and those behind it
-  opened : (i : ℕ) → Looking ask attributes names at count i → i < count
-      → ask (attribute_of attributes names (at + i) ∷ attributes_from attributes names (count - (i + 1)) (at + (i + 1))) ≡ ask (attributes_from attributes names count at)
-  unfolding attributes_from attribute_of
-  opened i v h =
-      let z : count - i ≡ suc (count - (i + 1)) = omega arith in
-      let y : at + (i + 1) ≡ at + i + 1 = omega arith in
-      ap (λ (k : ℕ). ask (attribute_of attributes names (at + i) ∷ attributes_from attributes names (count - (i + 1)) k)) y
-      ∙ sym (ap (λ (k : ℕ). ask (attributes_from attributes names k (at + i))) z) ∙ v.left
-
--- any attribute that passes
-module _ (f : Attribute → Bool) (attributes names : List ℕ) (at count i : ℕ) (v : Looking (any_attribute f) attributes names at count i) where
-  -- with no attribute left, none passes
-  pub any-end : count ≤ i → false ≡ any_attribute f (attributes_from attributes names count at)
-  unfolding any_attribute
-  any-end h = looked (any_attribute f) attributes names at count i v h
-
-  module _ (h : i < count) (t : Bool) (e : t ≡ f (attribute_of attributes names (at + i))) where
-    -- where an attribute passes, some of the list does
-    pub any_found : t ≡ true → true ≡ any_attribute f (attributes_from attributes names count at)
-    unfolding any_attribute
-    any_found p = sym (or_left _ _ (sym e ∙ p)) ∙ opened (any_attribute f) attributes names at count i v h
-
-    -- where an attribute does not pass, those behind it answer for all
-    pub any-more : t ≡ false → Looking (any_attribute f) attributes names at count (i + 1)
-    unfolding any_attribute
-    any-more p = record { within_count = omega arith; left = or-gives _ _ _ (sym e ∙ p) refl ∙ opened (any_attribute f) attributes names at count i v h }
-
--- the first attribute of a name
-module _ (n w : List ℕ) (attributes names : List ℕ) (at count i : ℕ) (v : Looking (first_is n w) attributes names at count i) where
-  -- with no attribute left, none of the name has the value
-  pub first-end : count ≤ i → false ≡ first_is n w (attributes_from attributes names count at)
-  unfolding first_is
-  first-end h = looked (first_is n w) attributes names at count i v h
-
-  module _ (h : i < count) (t : Bool) (e : t ≡ is_named n (attribute_of attributes names (at + i))) where
-    -- the first attribute of the name decides, by its value
-    pub first_found : t ≡ true → (r : Bool) → r ≡ same_text (attribute_value attributes names (at + i)) w → r ≡ first_is n w (attributes_from attributes names count at)
-    unfolding first_is attribute_of
-    first_found p r s =
-        pick_true _ _ _ (is_named n (attribute_of attributes names (at + i))) (sym e ∙ p) s ∙ opened (first_is n w) attributes names at count i v h
-
-    -- an attribute of another name is passed over, and those behind it answer for all
-    pub first_more : t ≡ false → Looking (first_is n w) attributes names at count (i + 1)
-    unfolding first_is
-    first_more p =
-        record {
-          within_count = omega arith;
-          left = pick-false _ _ _ (is_named n (attribute_of attributes names (at + i))) (sym e ∙ p) refl ∙ opened (first_is n w) attributes names at count i v h;
-        }
+    -- what was answered of it is what the definition answers
+    pub first-answer : (k at : ℕ) (o : Option ℕ) → o ≡ find (λ row. is_named n (attribute_of attributes names row)) (range_with_len at k) → (r : Bool) (P : ℕ → Type 0) → MatchOption o (r ≡ false) P
+        → ((row : ℕ) → P row → r ≡ same_text (attribute_value attributes names row) w) → r ≡ first_is n w (attributes_from attributes names k at)
+    unfolding by_value
+    first-answer k at o e r P m f = go o m ∙ ap by_value e ∙ first-row k at
+      where
+        go : (o : Option ℕ) → MatchOption o (r ≡ false) P → r ≡ by_value o
+        go None m = m
+        go (Some row) m = f row m

@@ -20,6 +20,7 @@ use Rattle.matching.specs.Climb.{climb_of}
 use Rattle.matching.specs.Topmost.{below_top, last_matched, topmost, selector_top, RightTop}
 use Rattle.matching.specs.Topmost.Line.{same}
 use Rattle.matching.specs.declared.matcher.SelectorMatch.{SelectorMatch}
+use Rattle.matching.specs.declared.matcher.SelectorMatch.TheVariants.{Matches, FailsLocally, FailsCompletely}
 use Rattle.matching.specs.declared.matcher.Climbed.{Climbed}
 use Rattle.matching.specs.declared.matcher.Climbed.TheVariants.{Ended}
 use Rattle.matching.proofs.CallLaws.{by-combinator}
@@ -38,6 +39,14 @@ below_top_lem nodes attributes text cs row top g t e x f = ap (below_top top) (s
 pub below-ended : (nodes attributes text : List ℕ) (cs : List Component) (row top : ℕ) → RightTop nodes attributes text cs row top
     → (t : Climbed) → t ≡ climb_of nodes attributes text cs row → (r s : SelectorMatch) → t ≡ Ended r → r ≡ s → below_top top (Ended s) ≡ matches cs (path_of nodes attributes text row)
 below-ended nodes attributes text cs row top g t e r s f h = below_top_lem nodes attributes text cs row top g t e (Ended s) (f ∙ ap Ended h)
+
+-- with another result than `Matches` the components do not match
+pub below-fails : (nodes attributes text : List ℕ) (cs : List Component) (row top : ℕ) → RightTop nodes attributes text cs row top
+    → (t : Climbed) → t ≡ climb_of nodes attributes text cs row → (r : SelectorMatch) → t ≡ Ended r → ¬ (r ≡ Matches) → false ≡ matches cs (path_of nodes attributes text row)
+unfolding below_top
+below-fails nodes attributes text cs row top g t e Matches f d = absurd (d refl)
+below-fails nodes attributes text cs row top g t e FailsLocally f d = below-ended nodes attributes text cs row top g t e _ _ f refl
+below-fails nodes attributes text cs row top g t e FailsCompletely f d = below-ended nodes attributes text cs row top g t e _ _ f refl
 
 module _ (store components nodes attributes text : List ℕ) where
   -- ---- turns of `topmost_ancestor`: what is found from a row on is what is found from the first on

@@ -1,6 +1,7 @@
 -- The rows of components: a number, a text, one component more; and the specificity that they add up to.
 use Prim.Native.Nat.{ℕ, zero, suc, ◌+◌, ◌*◌, ◌≤◌, ◌<◌, ◌^◌}
 use mathlib.Core.Bool.{false}
+use mathlib.Core.Logic.{◌⊎◌, inl, inr}
 use mathlib.Core.List.{List, [], ◌∷◌, ◌++◌, reverse, reverse_aux-append}
 use mathlib.Core.Path.{◌≡◌, refl, sym, ap, ◌∙◌}
 use native.Mathlib.Omega.{arith}
@@ -8,7 +9,7 @@ use lib.ListN.{length, get_or, drop, get_or-eq_default}
 use lib.Seq.{drop-drop, get_or-drop}
 use Rattle.combinators.specs.Choice.{pick, is}
 use Rattle.combinators.specs.Part.{part}
-use Rattle.combinators.proofs.Rules.{is_true, pick-holds}
+use Rattle.combinators.proofs.Rules.{is_true, pick-holds, lt-or-ge}
 use Rattle.syntax.specs.RuleLayout.{star_kind, class_kind, element_kind, hash_kind, child_kind, descendant_kind, nth_kind, attribute_kind, component_width, component_kind_at, component_text_at, component_first_at, component_second_at, component_from, read_component}
 use Rattle.syntax.specs.Selector.{Component, star, class, element, hash, child, descendant, nth, attribute, attribute_equal}
 use Rattle.syntax.specs.Stream.{Read, read_many}
@@ -118,6 +119,14 @@ module _ (store : List ℕ) (k f a b : ℕ) where
   pub adds-descendant : k ≡ descendant_kind → nothing ≡ added (component_from store k f a b)
   unfolding component_from added no_specificity specificity_of pick is
   adds-descendant e = rw e
+
+  -- so no combinator does
+  pub adds-combinator : child_kind ≤ k → k ≤ descendant_kind → nothing ≡ added (component_from store k f a b)
+  adds-combinator h l = go (lt-or-ge child_kind k)
+    where
+      go : (child_kind < k) ⊎ (k ≤ child_kind) → nothing ≡ added (component_from store k f a b)
+      go (inl g) = adds-descendant (omega arith)
+      go (inr g) = adds-child (omega arith)
 
   abbrev AsClass : Component → Type 0
   AsClass c = specificity_of 0 1 0 ≡ added c

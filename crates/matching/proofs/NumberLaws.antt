@@ -1,11 +1,17 @@
 -- The number of a selector decides its last descendant combinator on a row and on its ancestors; and the returns and turns of the functions that find it.
-use Prim.Native.Nat.{ℕ, suc, ◌-◌, ◌≤◌, ◌<◌}
+use Prim.Native.Nat.{ℕ, zero, suc, ◌+◌, ◌≤◌, ◌<◌}
 use mathlib.Core.Bool.{Bool, true, false}
-use mathlib.Core.List.{List, [], ◌∷◌}
+use mathlib.Core.List.{List, [], ◌∷◌, ◌++◌, map, map-id}
 use mathlib.Core.Logic.{◌⊎◌, inl, inr, ⊎_elim}
 use mathlib.Core.Path.{◌≡◌, refl, sym, ap, subst, ◌∙◌}
+use native.Mathlib.Numerals.{add-one}
 use native.Mathlib.Omega.{arith}
-use borrow.Author.Tests.{lt-ltb, le-ltb, ltb-true}
+use lib.Dec.{eqb}
+use Rattle.std.specs.Prelude.{◌||◌}
+use Rattle.std.specs.List.{list_any, range_with_len}
+use Rattle.std.proofs.lemmas.List.Folds.{list_any-append}
+use Rattle.std.proofs.lemmas.List.FromFn.{map-range_with_len_more}
+use borrow.Author.Tests.{lt-ltb, le-ltb, ltb-true, eqb-true, eqb-false}
 use Rattle.combinators.specs.Choice.{pick, is}
 use Rattle.combinators.proofs.Rules.{never, pick_true, pick-false, pick-holds, is-yes, is-no, is_true, is_false}
 use Rattle.syntax.specs.RuleLayout.{descendant_kind, component_kind_at}
@@ -387,37 +393,37 @@ module _ (components : List ℕ) where
   abbrev Has : List ℕ → ℕ → Bool
   Has store n = has_descendant (components_at store components n)
 
-  pub record Looking (left n : ℕ) : Type 0 where
-    pub same-has : (store : List ℕ) → Has store left ≡ Has store n
+  -- a test of one number more
+  any_more : (p : ℕ → Bool) (k : ℕ) → list_any p (range_with_len 0 (suc k)) ≡ (list_any p (range_with_len 0 k) || (p k || false))
+  any_more p k =
+      let e : map (λ (x : ℕ). x) (range_with_len 0 (k + 1)) ≡ map (λ (x : ℕ). x) (range_with_len 0 k) ++ k ∷ [] = map-range_with_len_more (λ (x : ℕ). x) 0 k k (omega arith) in
+      let f : range_with_len 0 (suc k) ≡ range_with_len 0 k ++ k ∷ [] = sym (map-id (range_with_len 0 (suc k))) ∙ (rw add-one at e) ∙ ap (λ (l : List ℕ). l ++ k ∷ []) (map-id (range_with_len 0 k)) in
+      ap (list_any p) f ∙ list_any-append p (range_with_len 0 k) (k ∷ [])
 
-  -- before the first component all are still to be looked at
-  pub look-begin : (left : ℕ) → Looking left left
-  look-begin left = record { same-has = λ store. refl }
+  -- a descendant combinator is among the first k components exactly where one of the k rows has its kind
+  pub any-descendant : (store : List ℕ) (k : ℕ) → list_any (λ i. eqb (component_number components i component_kind_at) descendant_kind) (range_with_len 0 k) ≡ Has store k
+  unfolding has_descendant component_at by_combinator
+  any-descendant store zero = sym (ap has_descendant (components-none store components))
+  any-descendant store (suc k) =
+      any_more (λ i. eqb (component_number components i component_kind_at) descendant_kind) k
+      ∙ go (eqb (component_number components k component_kind_at) descendant_kind) refl (any-descendant store k)
+      ∙ sym (ap has_descendant (components-more store components k))
+    where
+      last : (x : Bool) → (x || true) ≡ true
+      last true = refl
+      last false = refl
 
-  module _ (left n : ℕ) (g : Looking left n) where
-    -- where no component is left, there is no descendant combinator
-    pub look-end : n ≡ 0 → (store : List ℕ) → false ≡ Has store left
-    unfolding has_descendant
-    look-end e store = sym (g.same-has store ∙ ap (Has store) e ∙ ap has_descendant (components-none store components))
+      front : (x : Bool) → (x || false) ≡ x
+      front true = refl
+      front false = refl
 
-    module _ (some : 0 < n) (k : ℕ) (ek : k ≡ component_number components (n - 1) component_kind_at) where
-      -- the last component is one, or those before it have one
-      last-asked : (store : List ℕ) → Has store n ≡ by_combinator (component_at store components (n - 1)) (Has store (n - 1)) true (Has store (n - 1))
-      unfolding has_descendant
-      last-asked store =
-          let e : n ≡ suc (n - 1) = omega arith in
-          ap (Has store) e ∙ ap has_descendant (components-more store components (n - 1))
+      before : Bool
+      before = list_any (λ i. eqb (component_number components i component_kind_at) descendant_kind) (range_with_len 0 k)
 
-      -- where the last component is a descendant combinator, there is one
-      pub look-found : k ≡ descendant_kind → (store : List ℕ) → true ≡ Has store left
-      unfolding component_at by_combinator
-      look-found e store =
-          sym (g.same-has store ∙ last-asked store ∙ ap (λ (c : Component). by_combinator c (Has store (n - 1)) true (Has store (n - 1))) (from-descendant store _ _ _ _ (sym ek ∙ e)))
-
-      -- any other component is passed over, and those left of it are looked at
-      pub look-on : ¬ (k ≡ descendant_kind) → Looking left (n - 1)
-      unfolding component_at
-      look-on d = record { same-has = λ store. g.same-has store ∙ last-asked store ∙ second-passed store _ _ _ _ (λ y. d (ek ∙ y)) _ _ }
+      go : (t : Bool) → eqb (component_number components k component_kind_at) descendant_kind ≡ t
+          → before ≡ Has store k → (before || (t || false)) ≡ by_combinator (component_at store components k) (Has store k) true (Has store k)
+      go true e h = last before ∙ sym (ap (λ (c : Component). by_combinator c (Has store k) true (Has store k)) (from-descendant store _ _ _ _ (eqb-true _ _ e)))
+      go false e h = front before ∙ h ∙ sym (second-passed store _ _ _ _ (λ y. eqb-false _ _ e y) _ _)
 
 -- what is right for a row is right for its ancestors
 pub number-above : (nodes attributes text : List ℕ) (cs : List Component) (row top at : ℕ) → RightNumber nodes attributes text cs row top → Line nodes row at → RightNumber nodes attributes text cs at top

@@ -151,6 +151,12 @@ module _ (cs : List Component) (p : Path) where
   no_other m FailsLocally e = never (fails-locally cs p FailsLocally e refl ∙ m)
   no_other m FailsCompletely e = never (fails-here cs p FailsCompletely e refl ∙ m)
 
+  -- any other result says that they do not
+  pub selector-fails : (r : SelectorMatch) → r ≡ match_recursively cs p → ¬ (r ≡ Matches) → false ≡ matches cs p
+  selector-fails Matches e d = absurd (d refl)
+  selector-fails FailsLocally e d = fails-locally cs p FailsLocally e refl
+  selector-fails FailsCompletely e d = fails-here cs p FailsCompletely e refl
+
   -- the result is `Matches` exactly where the components match
   pub matches-exactly : Exactly (match_recursively cs p ≡ Matches) (matches cs p ≡ true)
   matches-exactly = ((λ h. sym (selector-matches cs p (match_recursively cs p) refl h)), (λ m. no_other m (match_recursively cs p) refl))

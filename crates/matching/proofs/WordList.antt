@@ -18,8 +18,8 @@ use Rattle.characters.specs.Trim.{white_of, white_taken, word_of, word_taken, tr
 use Rattle.characters.specs.Utf8.{is_scalar, utf8, scalar_of, valid, encode, Scalars}
 use Rattle.characters.specs.Utf8.Scalars.{none, more}
 use Rattle.characters.specs.WhiteSpace.{is_white_space}
+use Rattle.std.specs.Prelude.{Option, option_map, unwrap_or}
 use Rattle.characters.specs.declared.utf8.Scalar.{Scalar}
-use Rattle.characters.specs.declared.utf8.Scalar.TheVariants.{Value, NoScalar}
 use Rattle.characters.proofs.RoundTrip.{read_back}
 use Rattle.characters.proofs.Scalars.{utf8-some}
 use Rattle.characters.proofs.Texts.{valid-is}
@@ -332,9 +332,8 @@ has-word-exactly w vs h = found w (length (encode vs)) vs h (omega arith)
 -- ---- by characters
 
 -- the value of a character that was read
-unfoldable value_of : ℕ → Scalar → ℕ
-value_of d (Value n v) = v
-value_of d NoScalar = d
+unfoldable value_of : ℕ → Option Scalar → ℕ
+value_of d s = unwrap_or (option_map (λ (x : Scalar). x.value) s) d
 
 -- two texts with the same bytes have the same characters
 pub encode-once : (a b : List ℕ) → Scalars a → Scalars b → encode a ≡ encode b → a ≡ b

@@ -44,20 +44,15 @@ fn has_value(attributes: &[u32], text: &[u8], row: usize, value: &[u8]) -> bool
 fn is_class(attributes: &[u32], text: &[u8], row: usize, class: &[u8]) -> bool
     ensures { result ≡ is_class class.now (attribute_of attributes.now text.now row) }
 {
-    if is_named(attributes, text, row, &CLASS_NAME) {
-        return has_word(attribute_value(attributes, text, row), class);
-    }
-    false
+    is_named(attributes, text, row, &CLASS_NAME)
+        && has_word(attribute_value(attributes, text, row), class)
 }
 
 // Whether an attribute is an `id` and `hash` its value.
 fn is_id(attributes: &[u32], text: &[u8], row: usize, hash: &[u8]) -> bool
     ensures { result ≡ is_id hash.now (attribute_of attributes.now text.now row) }
 {
-    if is_named(attributes, text, row, &ID_NAME) {
-        return has_value(attributes, text, row, hash);
-    }
-    false
+    is_named(attributes, text, row, &ID_NAME) && has_value(attributes, text, row, hash)
 }
 
 // Whether `class` is a word of any `class`.
@@ -65,14 +60,7 @@ pub fn has_class(attributes: &[u32], text: &[u8], at: usize, count: usize, class
     requires { Countable at count }
     ensures { result ≡ any_attribute (is_class class.now) (attributes_from attributes.now text.now count at) }
 {
-    let mut i = 0;
-    while i < count {
-        if is_class(attributes, text, at + i, class) {
-            return true;
-        }
-        i += 1;
-    }
-    false
+    (at..at + count).any(|row| is_class(attributes, text, row, class))
 }
 
 // Whether any `id` is `hash`.
@@ -80,14 +68,7 @@ pub fn has_id(attributes: &[u32], text: &[u8], at: usize, count: usize, hash: &[
     requires { Countable at count }
     ensures { result ≡ any_attribute (is_id hash.now) (attributes_from attributes.now text.now count at) }
 {
-    let mut i = 0;
-    while i < count {
-        if is_id(attributes, text, at + i, hash) {
-            return true;
-        }
-        i += 1;
-    }
-    false
+    (at..at + count).any(|row| is_id(attributes, text, row, hash))
 }
 
 // Whether there is an attribute of a name.
@@ -95,14 +76,7 @@ pub fn has_attribute(attributes: &[u32], text: &[u8], at: usize, count: usize, n
     requires { Countable at count }
     ensures { result ≡ any_attribute (is_named name.now) (attributes_from attributes.now text.now count at) }
 {
-    let mut i = 0;
-    while i < count {
-        if is_named(attributes, text, at + i, name) {
-            return true;
-        }
-        i += 1;
-    }
-    false
+    (at..at + count).any(|row| is_named(attributes, text, row, name))
 }
 
 // Whether the first attribute of a name has a value.
@@ -117,12 +91,7 @@ pub fn attribute_is(
     requires { Countable at count }
     ensures { result ≡ first_is name.now value.now (attributes_from attributes.now text.now count at) }
 {
-    let mut i = 0;
-    while i < count {
-        if is_named(attributes, text, at + i, name) {
-            return has_value(attributes, text, at + i, value);
-        }
-        i += 1;
-    }
-    false
+    (at..at + count)
+        .find(|row| is_named(attributes, text, *row, name))
+        .is_some_and(|row| has_value(attributes, text, row, value))
 }

@@ -28,13 +28,12 @@ fn place_of(nodes: &[u32], row: usize) -> usize
     ensures { result ≡ place_of nodes.now row }
 {
     let parent = parent_of(nodes, row);
-    if parent < row {
-        let behind = (parent + 1) * NODE_WIDTH;
-        if behind <= nodes.len() {
-            return element_children(&nodes[behind..], parent, row - parent);
-        }
+    let behind = (parent + 1) * NODE_WIDTH;
+    if parent < row && behind <= nodes.len() {
+        element_children(&nodes[behind..], parent, row - parent)
+    } else {
+        place_among(nodes, row)
     }
-    place_among(nodes, row)
 }
 
 // Whether an nth-child holds of a row's place among its siblings.
@@ -70,17 +69,15 @@ fn attributes_asked(
     let name = first_text(components, store, i);
     let at = first_attribute(nodes, row);
     let count = attribute_count(nodes, row);
-    if kind == CLASS {
-        return has_class(attributes, text, at, count, name);
+    match kind {
+        CLASS => has_class(attributes, text, at, count, name),
+        HASH => has_id(attributes, text, at, count, name),
+        ATTRIBUTE => has_attribute(attributes, text, at, count, name),
+        _ => {
+            let value = second_text(components, store, i);
+            attribute_is(attributes, text, at, count, name, value)
+        }
     }
-    if kind == HASH {
-        return has_id(attributes, text, at, count, name);
-    }
-    if kind == ATTRIBUTE {
-        return has_attribute(attributes, text, at, count, name);
-    }
-    let value = second_text(components, store, i);
-    attribute_is(attributes, text, at, count, name, value)
 }
 
 // Whether an element passes a component that is neither star nor combinator, whose kind is told.
@@ -98,13 +95,11 @@ fn element_passes(
     requires rooted { Rooted nodes.now row }
     ensures { result ≡ element_passes store.now components.now i (element_at nodes.now attributes.now text.now row) }
 {
-    if kind == ELEMENT {
-        return is_called(nodes, text, row, first_text(components, store, i));
+    match kind {
+        ELEMENT => is_called(nodes, text, row, first_text(components, store, i)),
+        NTH => is_nth(components, i, nodes, row),
+        _ => attributes_asked(kind, components, store, i, nodes, attributes, text, row),
     }
-    if kind == NTH {
-        return is_nth(components, i, nodes, row);
-    }
-    attributes_asked(kind, components, store, i, nodes, attributes, text, row)
 }
 
 // Whether a row passes a component that is no combinator, whose kind is told. The document, row 0, passes star alone.
@@ -123,13 +118,8 @@ fn passes(
     requires rooted { Rooted nodes.now row }
     ensures { result ≡ matches (component_at store.now components.now i ∷ []) (path_of nodes.now attributes.now text.now row) }
 {
-    if kind == STAR {
-        return true;
-    }
-    if row == 0 {
-        return false;
-    }
-    element_passes(kind, components, store, i, nodes, attributes, text, row)
+    kind == STAR
+        || row != 0 && element_passes(kind, components, store, i, nodes, attributes, text, row)
 }
 
 // What comes of matching a selector: it matches the row; it fails locally, which says nothing of the rows above; it fails completely, on the row and on
@@ -162,10 +152,8 @@ pub fn match_locally(
     requires { Rooted nodes.now row }
     ensures { result ≡ climb_of nodes.now attributes.now text.now (components_at store.now components.now left) row }
 {
-    let mut n = left;
     let mut at = row;
-    while n > 0 {
-        n -= 1;
+    for n in (0..left).rev() {
         let kind = kind_at(components, n);
         if kind == DESCENDANT {
             return Climbed::Descendant(n, at);
@@ -175,9 +163,7 @@ pub fn match_locally(
                 return Climbed::Ended(SelectorMatch::FailsCompletely);
             }
             at = parent_of(nodes, at);
-        } else if passes(kind, components, store, n, nodes, attributes, text, at) {
-            // the row is asked for the component before it
-        } else {
+        } else if !passes(kind, components, store, n, nodes, attributes, text, at) {
             return Climbed::Ended(SelectorMatch::FailsLocally);
         }
     }
@@ -220,12 +206,11 @@ pub fn next_ancestor(
     requires { Inner nodes.now row }
     ensures { (attributes : List ℕ) → NextAncestor store.now components.now nodes.now attributes text.now n row result }
 {
-    if n > 0 {
-        if kind_at(components, n - 1) == ELEMENT {
-            return named_ancestor(components, store, n, nodes, text, row);
-        }
+    if n > 0 && kind_at(components, n - 1) == ELEMENT {
+        named_ancestor(components, store, n, nodes, text, row)
+    } else {
+        parent_of(nodes, row)
     }
-    parent_of(nodes, row)
 }
 
 // Matches the first `left` components on a row. A descendant combinator tries the parent and the parent's own ancestors: what stands before it is matched
@@ -243,9 +228,8 @@ fn match_recursively(
     requires { Rooted nodes.now row }
     ensures { result ≡ match_recursively (components_at store.now components.now left) (path_of nodes.now attributes.now text.now row) }
 {
-    let climbed = match_locally(components, store, left, nodes, attributes, text, row);
-    match climbed {
-        Climbed::Ended(result) => return result,
+    match match_locally(components, store, left, nodes, attributes, text, row) {
+        Climbed::Ended(result) => result,
         Climbed::Descendant(n, at) => {
             let mut above = at;
             while above != 0 {
@@ -265,7 +249,7 @@ fn match_recursively(
                     SelectorMatch::FailsLocally => {}
                 }
             }
-            return SelectorMatch::FailsCompletely;
+            SelectorMatch::FailsCompletely
         }
     }
 }
@@ -285,9 +269,5 @@ pub fn do_matches(
     ensures { result ≡ matches (components_at store.now components.now left) (path_of nodes.now attributes.now text.now row) }
 {
     let result = match_recursively(components, store, left, nodes, attributes, text, row);
-    match result {
-        SelectorMatch::Matches => return true,
-        SelectorMatch::FailsLocally => return false,
-        SelectorMatch::FailsCompletely => return false,
-    }
+    matches!(result, SelectorMatch::Matches)
 }

@@ -18,12 +18,10 @@ pub fn nth(a: i64, b: i64, idx: usize) -> bool
 {
     let offset = widened(idx) - b;
     if a == 0 {
-        return offset == 0;
+        offset == 0
+    } else {
+        offset % a == 0 && offset / a >= 0
     }
-    if offset % a == 0 {
-        return offset / a >= 0;
-    }
-    false
 }
 
 // A number with a sign as rows and the compiled sheet have it: v as 2v, negative as -2v-1.
@@ -32,8 +30,5 @@ pub fn signed_of(v: u32) -> i64
     ensures result_bound { nat_abs result ≤ 2 ^ 31 }
 {
     let half = widened((v / 2) as usize);
-    if v % 2 == 0 {
-        return half;
-    }
-    -1 - half
+    if v % 2 == 0 { half } else { -1 - half }
 }

@@ -27,14 +27,9 @@ fn matches_below(
     requires right_top { RightTop nodes.now attributes.now text.now (components_at store.now components.now left) row top }
     ensures { result ≡ matches (components_at store.now components.now left) (path_of nodes.now attributes.now text.now row) }
 {
-    let climbed = match_locally(components, store, left, nodes, attributes, text, row);
-    match climbed {
-        Climbed::Ended(result) => match result {
-            SelectorMatch::Matches => return true,
-            SelectorMatch::FailsLocally => return false,
-            SelectorMatch::FailsCompletely => return false,
-        },
-        Climbed::Descendant(_, at) => return top < at,
+    match match_locally(components, store, left, nodes, attributes, text, row) {
+        Climbed::Ended(result) => matches!(result, SelectorMatch::Matches),
+        Climbed::Descendant(_, at) => top < at,
     }
 }
 
@@ -80,10 +75,7 @@ fn selector_top(
     ensures upper_bound { result ≤ row }
 {
     let mut top = row;
-    let mut i = 0;
-    while i < left {
-        let before = i;
-        i += 1;
+    for before in 0..left {
         if kind_at(components, before) == DESCENDANT {
             top = topmost_ancestor(components, store, before, top, nodes, attributes, text, row);
             if top == row {
@@ -98,14 +90,7 @@ fn selector_top(
 fn has_descendant(components: &[u32], left: usize) -> bool
     ensures { (store : List ℕ) → result ≡ has_descendant (components_at store components.now left) }
 {
-    let mut n = left;
-    while n > 0 {
-        n -= 1;
-        if kind_at(components, n) == DESCENDANT {
-            return true;
-        }
-    }
-    false
+    (0..left).any(|i| kind_at(components, i) == DESCENDANT)
 }
 
 // The nearest of a row and its ancestors from which tests and child combinators lead to a descendant combinator of the first `left` components, or 0. The document is not asked: a
@@ -124,8 +109,7 @@ fn first_reaching(
 {
     let mut at = row;
     while at != 0 {
-        let climbed = match_locally(components, store, left, nodes, attributes, text, at);
-        match climbed {
+        match match_locally(components, store, left, nodes, attributes, text, at) {
             Climbed::Descendant(_, _) => return at,
             Climbed::Ended(_) => at = next_ancestor(components, store, left, nodes, text, at),
         }
@@ -146,10 +130,9 @@ fn parent_reached(
     requires { Rooted nodes.now row }
     ensures { result ≡ parent_reached nodes.now (climb_of nodes.now attributes.now text.now (components_at store.now components.now left) row) }
 {
-    let climbed = match_locally(components, store, left, nodes, attributes, text, row);
-    match climbed {
-        Climbed::Descendant(_, at) => return parent_of(nodes, at),
-        Climbed::Ended(_) => return 0,
+    match match_locally(components, store, left, nodes, attributes, text, row) {
+        Climbed::Descendant(_, at) => parent_of(nodes, at),
+        Climbed::Ended(_) => 0,
     }
 }
 
@@ -197,9 +180,10 @@ pub fn selector_number(
     ensures upper_bound { result ≤ row }
 {
     if has_descendant(components, left) {
-        return reached_number(components, store, left, nodes, attributes, text, row);
+        reached_number(components, store, left, nodes, attributes, text, row)
+    } else {
+        0
     }
-    0
 }
 
 // Whether the first `left` components, whose number is `top`, match a row. Before its number a selector is not even asked for its tests.
@@ -217,8 +201,5 @@ pub fn matches_by_number(
     requires right_number { RightNumber nodes.now attributes.now text.now (components_at store.now components.now left) row top }
     ensures { result ≡ matches (components_at store.now components.now left) (path_of nodes.now attributes.now text.now row) }
 {
-    if row < top {
-        return false;
-    }
-    matches_below(components, store, left, top, nodes, attributes, text, row)
+    top <= row && matches_below(components, store, left, top, nodes, attributes, text, row)
 }

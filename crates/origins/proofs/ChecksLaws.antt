@@ -2,6 +2,8 @@
 use mathlib.Core.Path.{◌≡◌, refl, sym, ◌∙◌}
 use mathlib.Core.Bool.{Bool, true, false}
 use mathlib.Core.List.{List}
+use mathlib.Core.Logic.{◌⊎◌, inl, inr}
+use native.Mathlib.Omega.{arith}
 use Prim.Native.Nat.{ℕ, ◌+◌, ◌≤◌, ◌<◌}
 use borrow.Author.Tests.{lt-ltb, le-ltb, ltb-false, leb-true}
 use lib.Dec.{ltb}
@@ -26,11 +28,20 @@ module _ (a u w : ℕ) where
   unfolding any_too_long
   agent-long h = or-gives-true _ _ (lt-ltb sheet_limit a h)
 
+  -- the same, by the test
+  pub agent-told : sheet_limit < a → ltb sheet_limit a ≡ any_too_long a u w
+  agent-told h = lt-ltb sheet_limit a h ∙ agent-long h
+
   module _ (h : a ≤ sheet_limit) where
     -- the return where the user's sheet is too long, and the agent's is not
     pub user-long : sheet_limit < u → true ≡ any_too_long a u w
     unfolding any_too_long
     user-long k = or-gives _ _ true (le-ltb sheet_limit a h) (or-gives-true _ _ (lt-ltb sheet_limit u k))
+
+    -- the same, where one of the two is
+    pub either-long : (sheet_limit < a) ⊎ ((a ≤ sheet_limit) × (sheet_limit < u)) → ltb sheet_limit u ≡ any_too_long a u w
+    either-long (inl k) = absurd (omega arith)
+    either-long (inr k) = lt-ltb sheet_limit u k.1 ∙ user-long k.1
 
     -- the return where neither is: the author's sheet alone decides
     pub author-long : u ≤ sheet_limit → ltb sheet_limit w ≡ any_too_long a u w

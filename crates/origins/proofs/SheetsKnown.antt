@@ -23,7 +23,8 @@ use Rattle.origins.specs.Checks.{Lent}
 use Rattle.origins.specs.Rules.{RulesRoom}
 use Rattle.origins.specs.declared.reading.SheetRules.{SheetRules}
 use Rattle.origins.specs.declared.reading.SheetsRules.{SheetsRules}
-use Rattle.origins.specs.declared.reading.SheetsRead.TheVariants as all
+use Rattle.std.specs.Prelude.{Ok, Err}
+use Rattle.origins.specs.declared.reading.SheetPanic.{SheetPanic}
 use Rattle.origins.proofs.RuleStyles.{each-room, styles-few-enough}
 
 -- ---- a sheet that others follow was read
@@ -83,16 +84,16 @@ pub record Came (m : Sheets) (s : SheetsRules) : Type 0 where
   pub lie : s ≡ sheets_rules agent user author
 
 -- an answer with rules says what the three sheets mean, and where each one's rules lie
-pub came : (m : Sheets) (s : SheetsRules) → all.Rules s ≡ sheets_answer m → Came m s
+pub came : (m : Sheets) (s : SheetsRules) → Ok s ≡ sheets_answer m → Came m s
 unfolding sheets_answer
 came (rules a u w) s h = record { agent = a; user = u; author = w; is = refl; lie = cc }
 came (panicked which q) s h = absurd (let z : ◌≡◌ {A = ℕ} 0 1 = cc in omega arith)
 
 -- an answer with a panic says in which sheet, and at which byte
-pub panic-known : (s : Sheets) (which p : ℕ) → all.Panic which p ≡ sheets_answer s → s ≡ panicked which p
+pub panic-known : (s : Sheets) (panic : SheetPanic) → Err panic ≡ sheets_answer s → s ≡ panicked panic.text panic.place
 unfolding sheets_answer
-panic-known (rules a u w) which p e = absurd (let z : ◌≡◌ {A = ℕ} 0 1 = cc in omega arith)
-panic-known (panicked v q) which p e = cc
+panic-known (rules a u w) panic e = absurd (let z : ◌≡◌ {A = ℕ} 0 1 = cc in omega arith)
+panic-known (panicked v q) panic e = let z : record { text = v; place = q } ≡ panic = cc in ap (λ (r : SheetPanic). panicked r.text r.place) z
 
 -- ---- three lists, one behind the other, and what lies from each on
 module _ (xs ys zs more : List ℕ) where

@@ -100,6 +100,10 @@ module _ {A : Type 0} (u : List ℕ → List ℕ → Read A) (rows : List ℕ) (
   none-behind texts zero place h = refl
   none-behind texts (suc k) place h = absurd (omega arith)
 
+  -- before the first all are left
+  pub passing-all : Passing (count - 0) at
+  passing-all = let e : count - 0 ≡ count = omega arith in rw e (λ _. refl)
+
   module _ (left place : ℕ) (c : Passing left place) where
     -- with one value passed over, the others are left from behind it
     pub passing-more : 0 < left → (next : ℕ) → ((texts : List ℕ) → drop next rows ≡ (u texts (drop place rows)).rest) → Passing (left - 1) next
@@ -108,3 +112,9 @@ module _ {A : Type 0} (u : List ℕ → List ℕ → Read A) (rows : List ℕ) (
     -- with none left, what lies here is what lies behind all of them
     pub passing-done : left ≤ 0 → (texts : List ℕ) → drop place rows ≡ (read_many (u texts) count (drop at rows)).rest
     passing-done h texts = none-behind texts left place h ∙ c texts
+
+  -- the same of a count of those that were passed
+  pub passing-next : (i place : ℕ) → Passing (count - i) place → i < count → (next : ℕ) → ((texts : List ℕ) → drop next rows ≡ (u texts (drop place rows)).rest) → Passing (count - (i + 1)) next
+  passing-next i place c h next e =
+      let q : count - (i + 1) ≡ count - i - 1 = omega arith in
+      rw q (passing-more (count - i) place c (omega arith) next e)

@@ -1,5 +1,5 @@
 -- The three sheets as they are read, one behind the other: their rules, or the first place where the crate panics.
-use Rattle.std.specs.Prelude.{ℕ, ◌+◌, ◌*◌, ◌^◌, ◌≤◌, ◌<◌, ◌≡◌, List, [], ◌++◌, length, drop}
+use Rattle.std.specs.Prelude.{ℕ, ◌+◌, ◌*◌, ◌^◌, ◌≤◌, ◌<◌, ◌≡◌, Result, Ok, Err, List, [], ◌++◌, length, drop}
 use Rattle.combinators.specs.LeastLengths.{text_least, bracket_least, number_least}
 use Rattle.lexer.specs.TokenRow.{token_width}
 use Rattle.syntax.specs.RuleLayout.{rule_rows, rule_texts, rules_at}
@@ -9,12 +9,11 @@ use Rattle.sheets.specs.Rules.{rule_width}
 use Rattle.sheets.specs.Sheet.{sheet_of}
 use Rattle.sheets.specs.SheetAnswer.{sheet_limit}
 use Rattle.combinators.specs.Store.{Zeros}
+use Rattle.selectors.specs.declared.readings.Panic.{Panic}
 use Rattle.origins.specs.declared.reading.RulesRead.{RulesRead}
-use Rattle.origins.specs.declared.reading.RulesRead.TheVariants as one
 use Rattle.origins.specs.declared.reading.SheetRules.{SheetRules}
 use Rattle.origins.specs.declared.reading.SheetsRules.{SheetsRules}
-use Rattle.origins.specs.declared.reading.SheetsRead as sheets
-use Rattle.origins.specs.declared.reading.SheetsRead.TheVariants as all
+use Rattle.origins.specs.declared.reading.SheetPanic.{SheetPanic}
 
 -- "the text (0 agent, 1 user, 2 author ..)"
 abbrev pub agent_text : ℕ
@@ -30,9 +29,10 @@ author_text = 2
 
 -- how many rules, the numbers that they take and the bytes of their texts; or the byte where the crate panics. Reading a sheet never fails
 -- (`sheet-never-fails` of `sheets`).
-unfoldable pub rules_answer : Outcome (List RuleSet) → RulesRead
+unfoldable pub rules_answer : Outcome (List RuleSet) → Result RulesRead Panic
 rules_answer o =
-    on_outcome o (λ _ rs. one.Rules (length rs) (length (rule_rows 0 rs)) (length (rule_texts rs))) (one.Rules 0 0 0) (λ p. one.Panic p)
+    on_outcome o (λ _ rs. Ok (record { count = length rs; numbers = length (rule_rows 0 rs); bytes = length (rule_texts rs) }))
+    (Ok (record { count = 0; numbers = 0; bytes = 0 })) (λ p. Err (record { place = p }))
 
 -- eight numbers for each byte, texts no longer than the sheet but for two bytes, and none of an empty sheet
 pub record RulesSize (s : List ℕ) (count numbers bytes : ℕ) : Type 0 where
@@ -41,9 +41,9 @@ pub record RulesSize (s : List ℕ) (count numbers bytes : ℕ) : Type 0 where
   pub short : bytes ≤ length s + 2
   pub nothing : length s ≡ 0 → bytes ≡ 0
 
-unfoldable pub RulesBounds : List ℕ → RulesRead → Type 0
-RulesBounds s (one.Rules count numbers bytes) = RulesSize s count numbers bytes
-RulesBounds s (one.Panic p) = Unit
+unfoldable pub RulesBounds : List ℕ → Result RulesRead Panic → Type 0
+RulesBounds s (Ok read) = RulesSize s read.count read.numbers read.bytes
+RulesBounds s (Err panic) = Unit
 
 -- what is asked of the stores, which are zero from a place and a fill on
 pub record ReadRoom (s rules : List ℕ) (place : ℕ) (tokens brackets texts : List ℕ) (fill : ℕ) : Type 0 where
@@ -91,9 +91,9 @@ sheets_rules a u w =
       end = length (rule_texts a) + length (rule_texts u) + length (rule_texts w);
     }
 
-unfoldable pub sheets_answer : Sheets → sheets.SheetsRead
-sheets_answer (rules a u w) = all.Rules (sheets_rules a u w)
-sheets_answer (panicked which p) = all.Panic which p
+unfoldable pub sheets_answer : Sheets → Result SheetsRules SheetPanic
+sheets_answer (rules a u w) = Ok (sheets_rules a u w)
+sheets_answer (panicked which p) = Err (record { text = which; place = p })
 
 -- the rules of a sheet that lie there
 unfoldable pub rules_from : List ℕ → List ℕ → SheetRules → List RuleSet

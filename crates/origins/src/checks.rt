@@ -9,24 +9,12 @@ use sheets::sheet::SHEET_LIMIT;
 pub fn any_too_long(agent: usize, user: usize, author: usize) -> bool
     ensures { result ≡ any_too_long agent user author }
 {
-    if agent > SHEET_LIMIT {
-        return true;
-    }
-    if user > SHEET_LIMIT {
-        return true;
-    }
-    author > SHEET_LIMIT
+    agent > SHEET_LIMIT || user > SHEET_LIMIT || author > SHEET_LIMIT
 }
 
 // Whether all sheets are UTF-8.
 pub fn all_valid(agent: &[u8], user: &[u8], author: &[u8]) -> bool
     ensures { result ≡ all_valid agent.now user.now author.now }
 {
-    if is_valid(agent) {
-        if is_valid(user) {
-            return is_valid(author);
-        }
-        return false;
-    }
-    false
+    is_valid(agent) && is_valid(user) && is_valid(author)
 }

@@ -8,7 +8,7 @@ ghost use Rattle.sheets.specs.Sheet.{sheet_of};
 ghost use Rattle.origins.specs.Reading.{rules_answer, ReadRoom, RulesBounds, sheets_of, sheets_rows, sheets_texts, sheets_answer, SheetsRoom};
 
 use combinators::stores::{wipe_bytes, wipe_numbers};
-use selectors::readings::ManyReading;
+use selectors::readings::Panic;
 use sheets::statements::parse_stylesheet;
 
 // The sheets by their numbers in a refusal.
@@ -18,19 +18,16 @@ pub const USER_TEXT: usize = 1;
 
 pub const AUTHOR_TEXT: usize = 2;
 
-// Of one sheet: how many rules, the numbers that they take and the bytes of their texts; or the byte where the crate panics.
-#[derive(Clone, Copy)]
-pub enum RulesRead {
-    Rules {
-        count: usize,
-        numbers: usize,
-        bytes: usize,
-    },
-    Panic(usize),
+// Of one sheet: how many rules, the numbers that they take and the bytes of their texts.
+#[derive(Clone, Copy, Debug, PartialEq, Eq)]
+pub struct RulesRead {
+    pub count: usize,
+    pub numbers: usize,
+    pub bytes: usize,
 }
 
 // Of a sheet in stores that hold several: how many rules, and where their numbers and their texts start.
-#[derive(Clone, Copy)]
+#[derive(Clone, Copy, Debug, PartialEq, Eq)]
 pub struct SheetRules {
     pub count: usize,
     pub place: usize,
@@ -38,7 +35,7 @@ pub struct SheetRules {
 }
 
 // Those of three sheets, and where the texts end.
-#[derive(Clone, Copy)]
+#[derive(Clone, Copy, Debug, PartialEq, Eq)]
 pub struct SheetsRules {
     pub agent: SheetRules,
     pub user: SheetRules,
@@ -46,11 +43,21 @@ pub struct SheetsRules {
     pub end: usize,
 }
 
-// Of three sheets: where their rules lie; or the sheet and the byte where the crate panics.
-#[derive(Clone, Copy)]
-pub enum SheetsRead {
-    Rules(SheetsRules),
-    Panic(usize, usize),
+// Of three sheets: the sheet and the byte where the crate panics.
+#[derive(Clone, Copy, Debug, PartialEq, Eq)]
+pub struct SheetPanic {
+    pub text: usize,
+    pub place: usize,
+}
+
+// A panic in the sheet of a number.
+fn in_sheet(text: usize, panic: Panic) -> SheetPanic
+    ensures { result ≡ record { text = text; place = panic.place } }
+{
+    SheetPanic {
+        text,
+        place: panic.place,
+    }
 }
 
 // Reads a sheet behind what the stores hold: its numbers from `place` on, its texts from `fill` on, which is where its rows count from.
@@ -62,7 +69,7 @@ fn read_behind(
     brackets: &mut [u8],
     texts: &mut [u8],
     fill: usize,
-) -> RulesRead
+) -> Result<RulesRead, Panic>
     requires { ReadRoom s.now rules.old place tokens.old brackets.old texts.old fill }
     ensures value { result ≡ rules_answer (sheet_of s.now) }
     ensures rules_after { rules.new ≡ sets rules.old place (written (rule_rows 0) (sheet_of s.now)) }
@@ -71,23 +78,12 @@ fn read_behind(
     ensures texts_after { texts.new ≡ sets texts.old fill (written rule_texts (sheet_of s.now)) }
     ensures rules_bounds { RulesBounds s.now result }
 {
-    match parse_stylesheet(s, &mut rules[place..], tokens, brackets, &mut texts[fill..]) {
-        ManyReading::Reads {
-            count,
-            numbers,
-            text,
-            ..
-        } => {
-            return RulesRead::Rules {
-                count,
-                numbers,
-                bytes: text,
-            };
-        }
-        ManyReading::Panics(p) => {
-            return RulesRead::Panic(p);
-        }
-    }
+    let read = parse_stylesheet(s, &mut rules[place..], tokens, brackets, &mut texts[fill..])?;
+    Ok(RulesRead {
+        count: read.count,
+        numbers: read.numbers,
+        bytes: read.text,
+    })
 }
 
 // Zeros again where the numbers and the texts of sheets lie.
@@ -108,7 +104,7 @@ pub fn read_sheets(
     tokens: &mut [u32],
     brackets: &mut [u8],
     texts: &mut [u8],
-) -> SheetsRead
+) -> Result<SheetsRules, SheetPanic>
     requires { SheetsRoom agent.now user.now author.now rules.old tokens.old brackets.old texts.old }
     ensures value { result ≡ sheets_answer (sheets_of agent.now user.now author.now) }
     ensures rules_after { rules.new ≡ sets rules.old 0 (sheets_rows (sheets_of agent.now user.now author.now)) }
@@ -116,63 +112,45 @@ pub fn read_sheets(
     ensures brackets_unchanged { brackets.new ≡ brackets.old }
     ensures texts_after { texts.new ≡ sets texts.old 0 (sheets_texts (sheets_of agent.now user.now author.now)) }
 {
-    match read_behind(agent, rules, 0, tokens, brackets, texts, 0) {
-        RulesRead::Panic(p) => {
-            return SheetsRead::Panic(AGENT_TEXT, p);
+    let agents = match read_behind(agent, rules, 0, tokens, brackets, texts, 0) {
+        Ok(read) => read,
+        Err(panic) => return Err(in_sheet(AGENT_TEXT, panic)),
+    };
+    let numbers = agents.numbers;
+    let bytes = agents.bytes;
+    // no `?`: what the sheets before left is wiped first
+    let users = match read_behind(user, rules, numbers, tokens, brackets, texts, bytes) {
+        Ok(read) => read,
+        Err(panic) => {
+            forget(rules, numbers, texts, bytes);
+            return Err(in_sheet(USER_TEXT, panic));
         }
-        RulesRead::Rules {
-            count: agents,
-            numbers,
-            bytes,
-        } => {
-            match read_behind(user, rules, numbers, tokens, brackets, texts, bytes) {
-                RulesRead::Panic(p) => {
-                    forget(rules, numbers, texts, bytes);
-                    return SheetsRead::Panic(USER_TEXT, p);
-                }
-                RulesRead::Rules {
-                    count: users,
-                    numbers: more,
-                    bytes: longer,
-                } => {
-                    let place = numbers + more;
-                    let fill = bytes + longer;
-                    match read_behind(author, rules, place, tokens, brackets, texts, fill) {
-                        RulesRead::Panic(p) => {
-                            forget(rules, place, texts, fill);
-                            return SheetsRead::Panic(AUTHOR_TEXT, p);
-                        }
-                        RulesRead::Rules {
-                            count: authors,
-                            bytes: last,
-                            ..
-                        } => {
-                            let end = fill + last;
-                            let agent_rules = SheetRules {
-                                count: agents,
-                                place: 0,
-                                from: 0,
-                            };
-                            let user_rules = SheetRules {
-                                count: users,
-                                place: numbers,
-                                from: bytes,
-                            };
-                            let author_rules = SheetRules {
-                                count: authors,
-                                place,
-                                from: fill,
-                            };
-                            return SheetsRead::Rules(SheetsRules {
-                                agent: agent_rules,
-                                user: user_rules,
-                                author: author_rules,
-                                end,
-                            });
-                        }
-                    }
-                }
-            }
+    };
+    let place = numbers + users.numbers;
+    let from = bytes + users.bytes;
+    let authors = match read_behind(author, rules, place, tokens, brackets, texts, from) {
+        Ok(read) => read,
+        Err(panic) => {
+            forget(rules, place, texts, from);
+            return Err(in_sheet(AUTHOR_TEXT, panic));
         }
-    }
+    };
+    Ok(SheetsRules {
+        agent: SheetRules {
+            count: agents.count,
+            place: 0,
+            from: 0,
+        },
+        user: SheetRules {
+            count: users.count,
+            place: numbers,
+            from: bytes,
+        },
+        author: SheetRules {
+            count: authors.count,
+            place,
+            from,
+        },
+        end: from + authors.bytes,
+    })
 }

@@ -24,10 +24,8 @@ pub fn skip_selectors(rows: &[u32], at: usize, count: u32) -> usize
     ensures { (texts : List ℕ) → drop result rows.now ≡ (read_many (read_selector texts) count (drop at rows.now)).rest }
 {
     let mut place = at;
-    let mut left = count;
-    while left > 0 {
+    for _ in 0..count {
         place = skip_selector(rows, place);
-        left -= 1;
     }
     place
 }

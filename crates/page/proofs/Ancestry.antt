@@ -8,11 +8,11 @@ use native.Mathlib.Omega.{arith}
 use borrow.Author.Tests.{ltb-true, lt-ltb, le-ltb}
 use lib.Dec.{ltb}
 use lib.ListN.{length}
+use Rattle.std.specs.Prelude.{Some, None}
 use Rattle.combinators.specs.Choice.{pick, or, is}
 use Rattle.combinators.proofs.Rules.{pick_true, pick-false, pick-holds, never, either, or_left, or-gives, is-yes, is-no, is_true, lt-or-ge}
 use Rattle.page.specs.Rows.{node_at}
 use Rattle.page.specs.Ancestors.{ancestors_from, ancestors_of, line_of, depth_of, member, climbed}
-use Rattle.page.specs.declared.ancestors.Climb.TheVariants.{Reached, NotThere}
 
 -- two choices by one test agree where their first arms do, if the test holds
 pub pick_same : {A : Type 0} (t : Bool) (x x' y : A) → (t ≡ true → x ≡ x') → pick t x y ≡ pick t x' y
@@ -139,10 +139,10 @@ pub record Climbing (nodes : List ℕ) (from row target left : ℕ) : Type 0 whe
 
 module _ (nodes : List ℕ) (from row target left : ℕ) (i : Climbing nodes from row target left) where
   -- at the row that is sought the climb arrives
-  pub climb-done : row ≡ target → Reached left ≡ climbed nodes from target
+  pub climb-done : row ≡ target → Some left ≡ climbed nodes from target
   unfolding climbed member
   climb-done e =
-      pick_true _ _ _ _ (or_yes (is-yes target row (sym e))) (ap Reached (i.deep ∙ ap (depth_of nodes) e)) ∙ i.same
+      pick_true _ _ _ _ (or_yes (is-yes target row (sym e))) (ap Some (i.deep ∙ ap (depth_of nodes) e)) ∙ i.same
     where
       or_yes : is target row ≡ true → or (is target row) (member target (ancestors_of nodes row)) ≡ true
       or_yes z = or_left _ _ z
@@ -154,7 +154,7 @@ module _ (nodes : List ℕ) (from row target left : ℕ) (i : Climbing nodes fro
     past l f = sym (or-gives _ _ _ (is-no target row (λ z. d (sym z))) refl) ∙ ap (member target) f
 
     -- a row whose parent is not before it is the last: the climb does not arrive
-    pub climb-stop : row ≤ p → NotThere ≡ climbed nodes from target
+    pub climb-stop : row ≤ p → None ≡ climbed nodes from target
     unfolding climbed member
     climb-stop h = pick-false _ _ _ _ (past [] (top-ancestors nodes row (rw (← e) h))) refl ∙ i.same
 
@@ -169,6 +169,6 @@ module _ (nodes : List ℕ) (from row target left : ℕ) (i : Climbing nodes fro
       climb-on =
           let b : depth_of nodes row ≡ suc (depth_of nodes p) = rw e (below-depth nodes row (rw (← e) l)) in
           record {
-            same = ap (λ (t : Bool). pick t (Reached (depth_of nodes target)) NotThere) (sym (past (line_of nodes p) (below-ancestors nodes row (rw (← e) l) ∙ rw e))) ∙ i.same;
+            same = ap (λ (t : Bool). pick t (Some (depth_of nodes target)) None) (sym (past (line_of nodes p) (below-ancestors nodes row (rw (← e) l) ∙ rw e))) ∙ i.same;
             deep = omega (arith, b, i.deep);
           }

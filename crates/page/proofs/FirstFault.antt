@@ -4,6 +4,8 @@ use mathlib.Core.Bool.{Bool, true, false}
 use mathlib.Core.Logic.{◌⊎◌, inl, inr}
 use Prim.Native.Nat.{ℕ, zero, suc, ◌+◌, ◌-◌, ◌≤◌, ◌<◌}
 use native.Mathlib.Omega.{arith}
+use Rattle.std.specs.Prelude.{Option, Some, None, not, cond}
+use Rattle.std.specs.List.{find, range_with_len}
 use Rattle.combinators.specs.Choice.{pick}
 use Rattle.combinators.proofs.Rules.{pick_true, pick-false, pick-holds, lt-or-ge}
 use Rattle.page.specs.Accepted.{first_fault}
@@ -19,8 +21,8 @@ module _ (right : ℕ → Bool) (rows : ℕ) where
   seek-begin = let z : rows - 0 ≡ rows = omega arith in record { work = ap (λ (k : ℕ). first_fault right k 0) z; le = omega arith }
 
   module _ (row : ℕ) (i : Seeking right rows row) where
-    -- with no row left there is no fault, and the answer is the count of rows
-    pub seek-done : rows ≤ row → row ≡ first_fault right rows 0
+    -- with no row left there is no fault
+    pub seek-done : rows ≤ row → None ≡ first_fault right rows 0
     unfolding first_fault
     seek-done h =
         let z : rows - row ≡ 0 = omega arith in
@@ -28,7 +30,7 @@ module _ (right : ℕ → Bool) (rows : ℕ) where
 
     module _ (l : row < rows) where
       -- what is sought from a row on
-      next : first_fault right (rows - row) row ≡ pick (right row) (first_fault right (rows - (row + 1)) (row + 1)) row
+      next : first_fault right (rows - row) row ≡ pick (right row) (first_fault right (rows - (row + 1)) (row + 1)) (Some row)
       unfolding first_fault
       next =
           let z : rows - row ≡ suc (rows - (row + 1)) = omega arith in
@@ -39,45 +41,70 @@ module _ (right : ℕ → Bool) (rows : ℕ) where
       seek-on e = record { work = pick_true _ _ _ _ e refl ∙ sym next ∙ i.work; le = omega arith }
 
       -- a row that fails behind rows that pass is the first
-      pub seek_stop : right row ≡ false → row ≡ first_fault right rows 0
+      pub seek_stop : right row ≡ false → Some row ≡ first_fault right rows 0
       seek_stop e = pick-false _ _ _ _ e refl ∙ sym next ∙ i.work
 
 -- ---- what it says of the rows
 module _ (right : ℕ → Bool) where
-  -- it is one of the rows, or the row behind them
-  pub fault-range : (k row : ℕ) → (row ≤ first_fault right k row) × (first_fault right k row ≤ row + k)
+  -- it is one of the rows
+  pub fault-range : (k row f : ℕ) → first_fault right k row ≡ Some f → (row ≤ f) × (f < row + k)
   unfolding first_fault
-  fault-range zero row = (omega arith, omega arith)
-  fault-range (suc k) row =
-      let i = fault-range k (row + 1) in
-      pick-holds (λ (f : ℕ). (row ≤ f) × (f ≤ row + suc k)) (right row) _ _ (λ _. (omega (arith, i.0), omega (arith, i.1))) (λ _. (omega arith, omega arith))
+  fault-range zero row f e = absurd (cc)
+  fault-range (suc k) row f e =
+      pick-holds (λ (o : Option ℕ). o ≡ Some f → (row ≤ f) × (f < row + suc k)) (right row) _ _
+      (λ _ q. let i = fault-range k (row + 1) f q in (omega (arith, i.0), omega (arith, i.1)))
+      (λ _ q. let z : row ≡ f = cc in (omega arith, omega arith)) e
 
   -- the rows before it pass
-  pub fault-passed : (k row m : ℕ) → row ≤ m → m < first_fault right k row → right m ≡ true
+  pub fault-passed : (k row f m : ℕ) → first_fault right k row ≡ Some f → row ≤ m → m < f → right m ≡ true
   unfolding first_fault
-  fault-passed zero row m h l = absurd (omega arith)
-  fault-passed (suc k) row m h l =
-      pick-holds (λ (f : ℕ). m < f → right m ≡ true) (right row) _ _
-      (λ (e : right row ≡ true) (q : m < first_fault right k (row + 1)). here-or e (λ (z : row + 1 ≤ m). fault-passed k (row + 1) m z q) (lt-or-ge row m))
-      (λ _ (q : m < row). absurd (omega arith)) l
+  fault-passed zero row f m e h l = absurd (cc)
+  fault-passed (suc k) row f m e h l =
+      pick-holds (λ (o : Option ℕ). o ≡ Some f → right m ≡ true) (right row) _ _
+      (λ (t : right row ≡ true) q. here-or t (λ (z : row + 1 ≤ m). fault-passed k (row + 1) f m q z l) (lt-or-ge row m))
+      (λ _ q. let z : row ≡ f = cc in absurd (omega arith)) e
     where
       here-or : right row ≡ true → (row + 1 ≤ m → right m ≡ true) → (row < m) ⊎ (m ≤ row) → right m ≡ true
       here-or e f (inl z) = f (omega arith)
       here-or e f (inr z) = let o : m ≡ row = omega arith in rw o e
 
-  -- it fails, where it is one of them
-  pub fault-fails : (k row : ℕ) → first_fault right k row < row + k → right (first_fault right k row) ≡ false
+  -- it fails
+  pub fault-fails : (k row f : ℕ) → first_fault right k row ≡ Some f → right f ≡ false
   unfolding first_fault
-  fault-fails zero row l = absurd (omega arith)
-  fault-fails (suc k) row l =
-      pick-holds (λ (f : ℕ). f < row + suc k → right f ≡ false) (right row) _ _
-      (λ _ (q : first_fault right k (row + 1) < row + suc k). let z : first_fault right k (row + 1) < row + 1 + k = omega arith in fault-fails k (row + 1) z)
-      (λ (e : right row ≡ false) _. e) l
+  fault-fails zero row f e = absurd (cc)
+  fault-fails (suc k) row f e =
+      pick-holds (λ (o : Option ℕ). o ≡ Some f → right f ≡ false) (right row) _ _
+      (λ _ q. fault-fails k (row + 1) f q)
+      (λ (t : right row ≡ false) q. let z : row ≡ f = cc in rw (← z) t) e
 
-  -- it is none where all pass
-  pub fault-none : (k row : ℕ) → ((m : ℕ) → row ≤ m → m < row + k → right m ≡ true) → first_fault right k row ≡ row + k
+  -- there is none where all pass
+  pub fault-none : (k row : ℕ) → ((m : ℕ) → row ≤ m → m < row + k → right m ≡ true) → first_fault right k row ≡ None
   unfolding first_fault
-  fault-none zero row f = omega arith
+  fault-none zero row f = refl
   fault-none (suc k) row f =
-      let i : first_fault right k (row + 1) ≡ row + 1 + k = fault-none k (row + 1) (λ (m : ℕ) (h : row + 1 ≤ m) (l : m < row + 1 + k). f m (omega arith) (omega arith)) in
-      sym (pick_true _ _ _ _ (f row (omega arith) (omega arith)) (sym i)) ∙ omega arith
+      let i = fault-none k (row + 1) (λ (m : ℕ) (h : row + 1 ≤ m) (l : m < row + 1 + k). f m (omega arith) (omega arith)) in
+      sym (pick_true _ _ _ _ (f row (omega arith) (omega arith)) (sym i))
+
+  -- and all pass where there is none
+  pub fault-all : (k row m : ℕ) → first_fault right k row ≡ None → row ≤ m → m < row + k → right m ≡ true
+  unfolding first_fault
+  fault-all zero row m e h l = absurd (omega arith)
+  fault-all (suc k) row m e h l =
+      pick-holds (λ (o : Option ℕ). o ≡ None → right m ≡ true) (right row) _ _
+      (λ (t : right row ≡ true) q. here-or t (λ (z : row + 1 ≤ m). fault-all k (row + 1) m q z (omega arith)) (lt-or-ge row m))
+      (λ _ q. absurd (cc)) e
+    where
+      here-or : right row ≡ true → (row + 1 ≤ m → right m ≡ true) → (row < m) ⊎ (m ≤ row) → right m ≡ true
+      here-or e f (inl z) = f (omega arith)
+      here-or e f (inr z) = let o : m ≡ row = omega arith in rw o e
+
+-- ---- the library's words for it
+-- it is the first number of the range that fails
+pub fault-found : (right : ℕ → Bool) (k row : ℕ) → find (λ r. not (right r)) (range_with_len row k) ≡ first_fault right k row
+unfolding first_fault pick
+fault-found right zero row = refl
+fault-found right (suc k) row = go (right row) (fault-found right k (row + 1))
+  where
+    go : (t : Bool) {o p : Option ℕ} → o ≡ p → cond (not t) (Some row) o ≡ pick t p (Some row)
+    go true e = e
+    go false e = refl

@@ -1,32 +1,17 @@
 -- What is read off a row: a number in a column, and a text by its start and length.
 use mathlib.Core.Path.{◌≡◌, sym}
 use mathlib.Core.List.{List}
-use Prim.Native.Nat.{ℕ, ◌+◌, ◌*◌, ◌≤◌}
+use Prim.Native.Nat.{ℕ, ◌≤◌}
 use native.Mathlib.Omega.{arith}
-use lib.ListN.{length, get_or, get_or-eq_default}
+use lib.ListN.{length, get_or-eq_default}
 use Rattle.combinators.specs.Part.{part}
-use Rattle.page.specs.Rows.{node_width, node_number, node_at, name_of, attribute_width, attribute_number, attribute_at, attribute_name, attribute_value}
+use Rattle.page.specs.Rows.{node_number, node_at, name_of, attribute_at, attribute_name, attribute_value}
 
 module _ (rows : List ℕ) (row column r : ℕ) where
-  -- a number of a node row stands at the row's place and its column
-  pub node-there : r ≡ get_or rows (row * node_width + column) 0 → r ≡ node_number rows row column
-  unfolding node_number
-  node-there e = e
-
   -- a row past the end has zeros
   pub node-past : length rows ≤ row → 0 ≡ node_number rows row column
   unfolding node_number
   node-past h = sym (get_or-eq_default rows 0 (omega arith))
-
-  -- a number of an attribute row stands at the row's place and its column
-  pub attribute-there : r ≡ get_or rows (row * attribute_width + column) 0 → r ≡ attribute_number rows row column
-  unfolding attribute_number
-  attribute-there e = e
-
-  -- a row past the end has zeros
-  pub attribute-past : length rows ≤ row → 0 ≡ attribute_number rows row column
-  unfolding attribute_number
-  attribute-past h = sym (get_or-eq_default rows 0 (omega arith))
 
 module _ (rows text : List ℕ) (row start n : ℕ) (r : List ℕ) (cut : r ≡ part text start n) where
   -- a node's name is the part that its row gives

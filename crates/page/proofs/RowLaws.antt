@@ -1,5 +1,5 @@
 -- The rules of a row: how the code finds that a row keeps them or does not.
-use mathlib.Core.Path.{◌≡◌, refl, sym, ap, ◌∙◌}
+use mathlib.Core.Path.{◌≡◌, refl, sym, ap, ap₂, ◌∙◌}
 use mathlib.Core.Bool.{Bool, true, false}
 use mathlib.Core.List.{List}
 use Prim.Native.Nat.{ℕ, zero, suc, ◌+◌, ◌-◌, ◌≤◌, ◌<◌}
@@ -8,20 +8,16 @@ use native.Mathlib.Nat.{not-suc-le-zero}
 use native.Mathlib.Numerals.{add-one}
 use borrow.Author.Tests.{ltb-true, le-leb, lt-leb}
 use lib.Dec.{eqb, leb, ltb}
+use Rattle.std.specs.Prelude.{Option, Some, None}
+use Rattle.std.specs.Bool.{then_some}
 use Rattle.combinators.specs.Choice.{pick, or, and, is}
 use Rattle.combinators.proofs.Rules.{never, pick_true, pick-false, pick-holds, and_both, and_left, and_right, and-gives, and-true, either, is-yes, is-no, is_true}
 use Rattle.page.specs.Rows.{NodeRow, node_at, node_count, element_kind, other_kind, attribute_at, attribute_rows}
 use Rattle.page.specs.Ancestors.{ancestors_from, ancestors_of, line_of, depth_of, member, climbed}
 use Rattle.page.specs.Accepted.{attributes_before, attributes_end, texts_end, bytes_before, ends_in_zeros, is_document, is_parent, parent_right, depth_limit, attributes_follow, element_follows, kind_right, row_right, first_bad_row}
 use Rattle.page.specs.CheckAnswers.{attributes_answer, behind, element_answer, kind_answer, depth_answer, BehindRow, Carried, row_answer}
-use Rattle.page.specs.declared.ancestors.Climb.{Climb}
-use Rattle.page.specs.declared.ancestors.Climb.TheVariants.{Reached, NotThere}
-use Rattle.page.specs.declared.rules.Follow.{Follow}
-use Rattle.page.specs.declared.rules.Follow.TheVariants.{End, Broken}
 use Rattle.page.specs.declared.rules.Totals.{Totals}
-use Rattle.page.specs.declared.rules.Totals.TheVariants.{Behind, Against}
-use Rattle.page.specs.declared.rules.RowAnswer.{RowAnswer}
-use Rattle.page.specs.declared.rules.RowAnswer.TheVariants.{Right, Wrong}
+use Rattle.page.specs.declared.rules.Progress.{Progress}
 use Rattle.page.proofs.Ancestry.{below-depth, depth-most}
 use Rattle.page.proofs.FirstFault.{Seeking, seek-begin, seek-on, seek_stop, seek-done}
 
@@ -30,6 +26,26 @@ pub test-is : (y x k : ℕ) → y ≡ x → eqb y k ≡ is x k
 unfolding is
 test-is y x k e = ap (λ (z : ℕ). eqb z k) e
 
+-- ---- an answer that is there if a test holds
+module _ {A : Type 0} (t : Bool) (x : A) where
+  -- where there is one, the test held, and it is this one
+  pub picked : (y : A) → Some y ≡ pick t (Some x) None → (t ≡ true) × (y ≡ x)
+  unfolding pick
+  picked y e = go t e
+    where
+      go : (t : Bool) → Some y ≡ pick t (Some x) None → (t ≡ true) × (y ≡ x)
+      go true e = (refl, cc)
+      go false e = absurd (cc)
+
+  -- where there is none, it failed
+  pub not_picked : None ≡ pick t (Some x) None → t ≡ false
+  unfolding pick
+  not_picked e = go t e
+    where
+      go : (t : Bool) → None ≡ pick t (Some x) None → t ≡ false
+      go true e = absurd (cc)
+      go false e = refl
+
 -- ---- `follow_attributes`: the texts of those left end where those of all end
 pub record Following (attributes : List ℕ) (first count start at left end : ℕ) : Type 0 where
   pub work : attributes_answer attributes left at end ≡ attributes_answer attributes count first start
@@ -37,7 +53,7 @@ pub record Following (attributes : List ℕ) (first count start at left end : �
 
 module _ (attributes : List ℕ) (first count start at left end : ℕ) (i : Following attributes first count start at left end) where
   -- with no attribute row left, the texts end here
-  pub following-done : left ≤ 0 → End end ≡ attributes_answer attributes count first start
+  pub following-done : left ≤ 0 → Some end ≡ attributes_answer attributes count first start
   unfolding attributes_answer attributes_follow attributes_end pick
   following-done h =
       let z : left ≡ 0 = omega arith in
@@ -49,13 +65,13 @@ module _ (attributes : List ℕ) (first count start at left end : ℕ) (i : Foll
     here = let z : suc (left - 1) ≡ left = omega arith in ap (λ (k : ℕ). attributes_answer attributes k at end) z ∙ i.work
 
     -- its name does not start where it should
-    pub name-breaks : ¬ (s ≡ end) → Broken ≡ attributes_answer attributes count first start
+    pub name-breaks : ¬ (s ≡ end) → None ≡ attributes_answer attributes count first start
     unfolding attributes_answer attributes_follow
     name-breaks d = pick-false _ _ _ _ (and_left _ _ (is-no _ _ (λ (e : (attribute_at attributes at).name_start ≡ end). d (es ∙ e)))) refl ∙ here
 
     module _ (y : s ≡ end) (n v : ℕ) (en : n ≡ (attribute_at attributes at).name_length) (ev : v ≡ (attribute_at attributes at).value_start) where
       -- its value does not start behind its name
-      pub value-breaks : ¬ (v ≡ end + n) → Broken ≡ attributes_answer attributes count first start
+      pub value-breaks : ¬ (v ≡ end + n) → None ≡ attributes_answer attributes count first start
       unfolding attributes_answer attributes_follow
       value-breaks d =
           pick-false _ _ _ _
@@ -71,61 +87,49 @@ module _ (attributes : List ℕ) (first count start at left end : ℕ) (i : Foll
                 rw (en, ew)
                 (ap
                 (λ (t : Bool).
-                pick t (End (attributes_end attributes (left - 1) (at + 1) (end + (attribute_at attributes at).name_length + (attribute_at attributes at).value_length))) Broken)
+                pick t (Some (attributes_end attributes (left - 1) (at + 1) (end + (attribute_at attributes at).name_length + (attribute_at attributes at).value_length))) None)
                 (and-gives _ _ _ (is-yes _ _ (sym es ∙ y)) (and-gives _ _ _ (is-yes _ _ (sym ev ∙ e ∙ ap (λ (k : ℕ). end + k) en)) refl))
                 ∙ here);
             sum = omega (arith, i.sum);
           }
 
--- what an answer with an end says of its test, and one without
-ended : (t : Bool) (x end : ℕ) → End end ≡ pick t (End x) Broken → (t ≡ true) × (end ≡ x)
-unfolding pick
-ended true x end e = (refl, cc)
-ended false x end e = absurd (let z : ◌≡◌ {A = ℕ} 0 1 = cc in omega arith)
-
--- an answer that is broken says that the test failed
-broken : (t : Bool) (x : ℕ) → Broken ≡ pick t (End x) Broken → t ≡ false
-unfolding pick
-broken true x e = absurd (let z : ◌≡◌ {A = ℕ} 0 1 = cc in omega arith)
-broken false x e = refl
-
 -- ---- `check_element`: name and attributes, where they start and end
 module _ (attributes : List ℕ) (n : NodeRow) (first start s : ℕ) (es : s ≡ n.name_start) where
   -- its name does not start where it should
-  pub element-start : ¬ (s ≡ start) → Against ≡ element_answer attributes n first start
+  pub element-start : ¬ (s ≡ start) → None ≡ element_answer attributes n first start
   unfolding element_answer element_follows
   element-start d = pick-false _ _ _ _ (and_left _ _ (and_left _ _ (is-no _ _ (λ (e : n.name_start ≡ start). d (es ∙ e))))) refl
 
   module _ (f : ℕ) (ef : f ≡ n.first_attribute) where
     -- its attributes do not start where those of the rows before end
-    pub element-first : ¬ (f ≡ first) → Against ≡ element_answer attributes n first start
+    pub element-first : ¬ (f ≡ first) → None ≡ element_answer attributes n first start
     unfolding element_answer element_follows
     element-first d = pick-false _ _ _ _ (and_left _ _ (and_right _ _ (is-no _ _ (λ (e : n.first_attribute ≡ first). d (ef ∙ e))))) refl
 
     module _ (k m : ℕ) (ek : k ≡ n.attribute_count) (em : m ≡ attribute_rows attributes) where
       -- they end past the attribute rows lent
-      pub element-past : m < first + k → Against ≡ element_answer attributes n first start
+      pub element-past : m < first + k → None ≡ element_answer attributes n first start
       unfolding element_answer element_follows
       element-past h =
           let l : attribute_rows attributes < first + n.attribute_count = rw (← ek, ← em) h in
           pick-false _ _ _ _ (and_right _ _ (and_left _ _ (lt-leb (first + n.attribute_count) (attribute_rows attributes) l))) refl
 
-      module _ (b : ℕ) (eb : b ≡ n.name_length) (r : Follow) (er : r ≡ attributes_answer attributes k first (start + b)) where
+      module _ (b : ℕ) (eb : b ≡ n.name_length) (r : Option ℕ) (er : r ≡ attributes_answer attributes k first (start + b)) where
         -- what was asked of the element's attributes
         follows : r ≡ attributes_answer attributes n.attribute_count first (start + n.name_length)
         follows = rw (← ek, ← eb) er
 
         -- their texts do not lie end to end
-        pub element-breaks : r ≡ Broken → Against ≡ element_answer attributes n first start
+        pub element-breaks : r ≡ None → None ≡ element_answer attributes n first start
         unfolding element_answer element_follows attributes_answer
-        element-breaks e = pick-false _ _ _ _ (and_right _ _ (and_right _ _ (broken _ _ (sym e ∙ follows)))) refl
+        element-breaks e = pick-false _ _ _ _ (and_right _ _ (and_right _ _ (not_picked _ _ (sym e ∙ follows)))) refl
 
         -- the return where name and attributes lie in place: the totals go on behind them
-        pub element-ends : s ≡ start → f ≡ first → first + k ≤ m → (end : ℕ) → r ≡ End end → Behind (first + k) end ≡ element_answer attributes n first start
+        pub element-ends : s ≡ start → f ≡ first → first + k ≤ m → (end : ℕ) → r ≡ Some end → Some (record { first = first + k; start = end }) ≡ element_answer attributes n first start
         unfolding element_answer element_follows attributes_answer behind texts_end
         element-ends ys yf h end e =
             let l : first + n.attribute_count ≤ attribute_rows attributes = rw (← ek, ← em) h in
-            let o = ended _ _ end (sym e ∙ follows) in
+            let o = picked _ _ end (sym e ∙ follows) in
             let g : n.first_attribute ≡ first = sym ef ∙ yf in
             pick_true _ _ _ _
             (and_both _ _ (and_both _ _ (is-yes _ _ (sym es ∙ ys)) (is-yes _ _ g)) (and_both _ _ (le-leb (first + n.attribute_count) (attribute_rows attributes) l) o.0))
@@ -154,14 +158,14 @@ module _ (attributes : List ℕ) (n : NodeRow) (first start : ℕ) (z : ends_in_
 
 module _ (attributes : List ℕ) (n : NodeRow) (first start kind : ℕ) (ek : kind ≡ n.kind) where
   -- other content that ends in zeros goes on from where the rows before leave off
-  pub other-right : kind ≡ other_kind → (z : Bool) → z ≡ ends_in_zeros n → z ≡ true → Behind first start ≡ kind_answer attributes n first start
+  pub other-right : kind ≡ other_kind → (z : Bool) → z ≡ ends_in_zeros n → z ≡ true → Some (record { first = first; start = start }) ≡ kind_answer attributes n first start
   unfolding kind_answer kind_right behind
   other-right y z e t =
       let s : ends_in_zeros n ≡ true = sym e ∙ t in
       pick_true _ _ _ _ (sym (pick_true _ _ _ _ (is-yes _ _ (sym ek ∙ y)) (sym s))) (rw (no-texts attributes n first start s, no_more attributes n first start s))
 
   -- and other content that does not is against the rules
-  pub other-wrong : kind ≡ other_kind → (z : Bool) → z ≡ ends_in_zeros n → z ≡ false → Against ≡ kind_answer attributes n first start
+  pub other-wrong : kind ≡ other_kind → (z : Bool) → z ≡ ends_in_zeros n → z ≡ false → None ≡ kind_answer attributes n first start
   unfolding kind_answer kind_right
   other-wrong y z e t = pick-false _ _ _ _ (sym (pick_true _ _ _ _ (is-yes _ _ (sym ek ∙ y)) (sym (sym e ∙ t)))) refl
 
@@ -172,14 +176,14 @@ module _ (attributes : List ℕ) (n : NodeRow) (first start kind : ℕ) (ek : ki
     no_other v e = sym (pick-false _ _ _ _ (is-no _ _ (λ (e : n.kind ≡ other_kind). d (ek ∙ e))) e)
 
     -- an element is asked for its name and attributes
-    pub element-decides : kind ≡ element_kind → (r : Totals) → r ≡ element_answer attributes n first start → r ≡ kind_answer attributes n first start
+    pub element-decides : kind ≡ element_kind → (r : Option Totals) → r ≡ element_answer attributes n first start → r ≡ kind_answer attributes n first start
     unfolding kind_answer element_answer
     element-decides y r e =
-        e ∙ ap (λ (t : Bool). pick t (behind attributes n first start) Against)
+        e ∙ ap (λ (t : Bool). pick t (Some (behind attributes n first start)) None)
         (sym (no_other (element_follows attributes n first start) (and-gives _ _ _ (is-yes _ _ (sym ek ∙ y)) refl)))
 
     -- a kind that there is not
-    pub no_kind : ¬ (kind ≡ element_kind) → Against ≡ kind_answer attributes n first start
+    pub no_kind : ¬ (kind ≡ element_kind) → None ≡ kind_answer attributes n first start
     unfolding kind_answer
     no_kind z = pick-false _ _ _ _ (no_other false (sym (and_left _ _ (is-no _ _ (λ (e : n.kind ≡ element_kind). z (ek ∙ e)))))) refl
 
@@ -204,35 +208,23 @@ line_before nodes row x e =
     either (x ≤ row) _ _ e (λ (q : is x row ≡ true). let z : x ≡ row = is_true x row q in omega arith)
     (λ (q : member x (ancestors_from row nodes row) ≡ true). let z : x < row = ancestor-before nodes row row x q in omega arith)
 
--- what the answer of a climb says
-arrived : (t : Bool) (x d : ℕ) → Reached d ≡ pick t (Reached x) NotThere → (t ≡ true) × (d ≡ x)
-unfolding pick
-arrived true x d e = (refl, cc)
-arrived false x d e = absurd (let z : ◌≡◌ {A = ℕ} 0 1 = cc in omega arith)
-
--- an answer that the climb did not arrive says that the test failed
-absent : (t : Bool) (x : ℕ) → NotThere ≡ pick t (Reached x) NotThere → t ≡ false
-unfolding pick
-absent true x e = absurd (let z : ◌≡◌ {A = ℕ} 0 1 = cc in omega arith)
-absent false x e = refl
-
 module _ (nodes : List ℕ) (row depth : ℕ) (h : BehindRow nodes row depth) (p : ℕ) (ep : p ≡ (node_at nodes row).parent) (t : Bool) (et : t ≡ is_parent nodes p) where
   -- its parent can be none
-  pub parent-none : t ≡ false → NotThere ≡ depth_answer nodes row
+  pub parent-none : t ≡ false → None ≡ depth_answer nodes row
   unfolding depth_answer parent_right
   parent-none n = pick-false _ _ _ _ (and_left _ _ (and_left _ _ (rw (← ep) (sym et ∙ n)))) refl
 
-  module _ (r : Climb) (er : r ≡ climbed nodes (row - 1) p) where
+  module _ (r : Option ℕ) (er : r ≡ climbed nodes (row - 1) p) where
     -- its parent is not the row before, nor an ancestor of it
-    pub parent-away : r ≡ NotThere → NotThere ≡ depth_answer nodes row
+    pub parent-away : r ≡ None → None ≡ depth_answer nodes row
     unfolding depth_answer parent_right climbed
-    parent-away e = pick-false _ _ _ _ (and_left _ _ (and_right _ _ (rw (← ep) (absent _ _ (sym e ∙ er))))) refl
+    parent-away e = pick-false _ _ _ _ (and_left _ _ (and_right _ _ (rw (← ep) (not_picked _ _ (sym e ∙ er))))) refl
 
-    module _ (above : ℕ) (e : r ≡ Reached above) where
+    module _ (above : ℕ) (e : r ≡ Some above) where
       -- its parent is in the line of the row before
       open-parent : member p (line_of nodes (row - 1)) ≡ true
       unfolding climbed
-      open-parent = (arrived _ _ above (sym e ∙ er)).0
+      open-parent = (picked _ _ above (sym e ∙ er)).0
 
       -- so it lies one deeper than its parent
       own-depth : depth_of nodes row ≡ above + 1
@@ -240,19 +232,19 @@ module _ (nodes : List ℕ) (row depth : ℕ) (h : BehindRow nodes row depth) (p
       own-depth =
           let b : p ≤ row - 1 = line_before nodes (row - 1) p open-parent in
           let l : (node_at nodes row).parent < row = rw (← ep) (omega (arith, h.later)) in
-          let d : above ≡ depth_of nodes p = (arrived _ _ above (sym e ∙ er)).1 in
+          let d : above ≡ depth_of nodes p = (picked _ _ above (sym e ∙ er)).1 in
           let u : depth_of nodes row ≡ suc (depth_of nodes p) = rw ep (below-depth nodes row l) in
           omega arith
 
       -- it is not too deep
-      pub parent-right : t ≡ true → above < depth_limit → Reached (above + 1) ≡ depth_answer nodes row
+      pub parent-right : t ≡ true → above < depth_limit → Some (above + 1) ≡ depth_answer nodes row
       unfolding depth_answer parent_right
       parent-right y l =
           let s : depth_of nodes row ≤ depth_limit = omega (arith, own-depth) in
-          pick_true _ _ _ _ (and_both _ _ (and_both _ _ (rw (← ep) (sym et ∙ y)) (rw (← ep) open-parent)) (le-leb (depth_of nodes row) depth_limit s)) (ap Reached (sym own-depth))
+          pick_true _ _ _ _ (and_both _ _ (and_both _ _ (rw (← ep) (sym et ∙ y)) (rw (← ep) open-parent)) (le-leb (depth_of nodes row) depth_limit s)) (ap Some (sym own-depth))
 
       -- a parent at the greatest depth has no children
-      pub too-deep : depth_limit ≤ above → NotThere ≡ depth_answer nodes row
+      pub too-deep : depth_limit ≤ above → None ≡ depth_answer nodes row
       unfolding depth_answer
       too-deep l =
           let s : depth_limit < depth_of nodes row = omega (arith, own-depth) in
@@ -271,34 +263,39 @@ module _ (nodes attributes : List ℕ) where
 
   module _ (row : ℕ) (o : row ≡ 0) (d : Bool) (e : d ≡ is_document (node_at nodes 0)) where
     -- the row that is looked at is row 0
-    first-row : (r : RowAnswer) → r ≡ row_answer nodes attributes 0 → r ≡ row_answer nodes attributes row
+    first-row : (r : Option Progress) → r ≡ row_answer nodes attributes 0 → r ≡ row_answer nodes attributes row
     first-row r f = f ∙ ap (row_answer nodes attributes) (sym o)
 
-    -- row 0 is the document
-    pub document-right : d ≡ true → Right 0 0 0 ≡ row_answer nodes attributes row
+    -- row 0 is the document, behind which all is as before it
+    pub document-right : (before : Progress) → Carried nodes attributes row before.depth before.totals.first before.totals.start → d ≡ true → Some before ≡ row_answer nodes attributes row
     unfolding row_answer row_right is_document attributes_before bytes_before
-    document-right t =
+    document-right before known t =
         let z : ends_in_zeros (node_at nodes 0) ≡ true = (and-true _ _ (sym e ∙ t)).1 in
         let l : depth_of nodes 0 ≡ 0 = omega (arith, depth-most nodes 0) in
+        let b : depth_of nodes (0 - 1) ≡ 0 = omega (arith, depth-most nodes 0) in
+        let at : Carried nodes attributes 0 before.depth before.totals.first before.totals.start = rw (← o) known in
+        let p : before.depth ≡ 0 = at.deep ∙ b in
+        let q : before.totals.first ≡ 0 = at.attributes-so-far in
+        let r : before.totals.start ≡ 0 = at.bytes-so-far in
         first-row _
-        (pick_true _ _ _ _ (sym e ∙ t) (rw (l, no_more attributes (node_at nodes 0) 0 0 z, no-texts attributes (node_at nodes 0) 0 0 z)))
+        (pick_true _ _ _ _ (sym e ∙ t)
+        (ap Some (begins before (depth_of nodes 0) _ _ (p ∙ sym l) (q ∙ sym (no_more attributes (node_at nodes 0) 0 0 z)) (r ∙ sym (no-texts attributes (node_at nodes 0) 0 0 z)))))
+      where
+        begins : (b : Progress) (d f s : ℕ) → b.depth ≡ d → b.totals.first ≡ f → b.totals.start ≡ s → b ≡ record { depth = d; totals = record { first = f; start = s } }
+        begins b d f s e g h = rw (← e, ← g, ← h) refl
 
     -- a row 0 that is not all zeros is wrong
-    pub document-wrong : d ≡ false → Wrong ≡ row_answer nodes attributes row
+    pub document-wrong : d ≡ false → None ≡ row_answer nodes attributes row
     unfolding row_answer row_right
     document-wrong t = first-row _ (pick-false _ _ _ _ (sym e ∙ t) refl)
 
--- what the answer of the rules of a kind says
-behind-right : (t : Bool) (v x : Totals) → v ≡ pick t x Against → (a b : ℕ) → v ≡ Behind a b → (t ≡ true) × (x ≡ Behind a b)
-unfolding pick
-behind-right true v x e a b f = (refl, cc)
-behind-right false v x e a b f = absurd (let z : ◌≡◌ {A = ℕ} 0 1 = cc in omega arith)
-
--- an answer that the row is against the rules says that the test failed
-against-wrong : (t : Bool) (a b : ℕ) → Against ≡ pick t (Behind a b) Against → t ≡ false
-unfolding pick
-against-wrong true a b e = absurd (let z : ◌≡◌ {A = ℕ} 0 1 = cc in omega arith)
-against-wrong false a b e = refl
+    -- so what is carried on is as before, or nothing
+    pub document-only : (before : Progress) → Carried nodes attributes row before.depth before.totals.first before.totals.start → then_some d before ≡ row_answer nodes attributes row
+    document-only before known = go d refl
+      where
+        go : (t : Bool) → d ≡ t → then_some t before ≡ row_answer nodes attributes row
+        go true t = document-right before known t
+        go false t = document-wrong t
 
 -- three tests fail where the first two do, or the last
 first_two : (a b c : Bool) → and a b ≡ false → and a (and b c) ≡ false
@@ -307,55 +304,42 @@ first_two true b c e = and_left b c e
 first_two false b c e = refl
 
 module _ (nodes attributes : List ℕ) (row depth first start : ℕ) (here : Carried nodes attributes row depth first start) (l : 0 < row) where
-  -- what `check_parent` asks of the row before
-  pub behind-row : BehindRow nodes row depth
-  behind-row = record { later = l; deep = here.deep }
-
-  module _ (c : Climb) (ec : c ≡ depth_answer nodes row) where
+  module _ (c : Option ℕ) (ec : c ≡ depth_answer nodes row) where
     -- its parent is wrong, or it lies too deep
-    pub row-misplaced : c ≡ NotThere → Wrong ≡ row_answer nodes attributes row
+    pub row-misplaced : c ≡ None → None ≡ row_answer nodes attributes row
     unfolding row_answer depth_answer
-    row-misplaced e = pick-false _ _ _ _ (later-right nodes attributes row l ∙ first_two _ _ _ (absent _ _ (sym e ∙ ec))) refl
+    row-misplaced e = pick-false _ _ _ _ (later-right nodes attributes row l ∙ first_two _ _ _ (not_picked _ _ (sym e ∙ ec))) refl
 
-    module _ (own : ℕ) (e : c ≡ Reached own) (k : Totals) (ek : k ≡ kind_answer attributes (node_at nodes row) first start) where
+    module _ (own : ℕ) (e : c ≡ Some own) (k : Option Totals) (ek : k ≡ kind_answer attributes (node_at nodes row) first start) where
       -- what was asked of its kind
       asked : k ≡ kind_answer attributes (node_at nodes row) (attributes_before nodes row) (bytes_before nodes attributes row)
       asked = rw (← here.attributes-so-far, ← here.bytes-so-far) ek
 
       -- what its kind asks does not hold
-      pub row-against : k ≡ Against → Wrong ≡ row_answer nodes attributes row
+      pub row-against : k ≡ None → None ≡ row_answer nodes attributes row
       unfolding row_answer kind_answer behind
-      row-against f = pick-false _ _ _ _ (later-right nodes attributes row l ∙ and_right _ _ (and_right _ _ (against-wrong _ _ _ (sym f ∙ asked)))) refl
+      row-against f = pick-false _ _ _ _ (later-right nodes attributes row l ∙ and_right _ _ (and_right _ _ (not_picked _ _ (sym f ∙ asked)))) refl
 
       -- where parent and texts are right the row is, and the totals go on
-      pub row-right : (next end : ℕ) → k ≡ Behind next end → Right own next end ≡ row_answer nodes attributes row
+      pub row-right : (next : Totals) → k ≡ Some next → Some (record { depth = own; totals = next }) ≡ row_answer nodes attributes row
       unfolding row_answer depth_answer kind_answer behind attributes_before bytes_before
-      row-right next end f =
-          let o = arrived _ _ own (sym e ∙ ec) in
+      row-right next f =
+          let o = picked _ _ own (sym e ∙ ec) in
           let t = and-true _ _ o.0 in
-          let b = behind-right _ k _ asked next end f in
+          let b = picked _ _ next (sym f ∙ asked) in
           pick_true _ _ _ _ (later-right nodes attributes row l ∙ and_both _ _ t.0 (and_both _ _ t.1 b.0))
-          (rw add-one (totals (depth_of nodes row) o.1 b.1))
+          (rw add-one (totals (depth_of nodes row) _ o.1 b.1))
         where
-          totals : (d : ℕ) → own ≡ d → {a b : ℕ} → Behind a b ≡ Behind next end → Right own next end ≡ Right d a b
-          totals d e f = cc
+          reached : ℕ → Totals → Option Progress
+          reached d x = Some (record { depth = d; totals = x })
+
+          totals : (d : ℕ) (x : Totals) → own ≡ d → next ≡ x → reached own next ≡ reached d x
+          totals d x e f = ap₂ reached e f
 
 -- ---- `first_bad_row`: the rows before keep the rules, and what they leave is carried
 pub record Checking (nodes attributes : List ℕ) (rows row depth first start : ℕ) : Type 0 where
   pub seek : Seeking (row_right nodes attributes) rows row
   pub here : Carried nodes attributes row depth first start
-
--- what the answer of a row says
-righted : (t : Bool) (d a b own next end : ℕ) → Right own next end ≡ pick t (Right d a b) Wrong → (t ≡ true) × (own ≡ d) × (next ≡ a) × (end ≡ b)
-unfolding pick
-righted true d a b own next end e = (refl, cc, cc, cc)
-righted false d a b own next end e = absurd (let z : ◌≡◌ {A = ℕ} 0 1 = cc in omega arith)
-
--- an answer that the row is wrong says that the test failed
-wronged : (t : Bool) (d a b : ℕ) → Wrong ≡ pick t (Right d a b) Wrong → t ≡ false
-unfolding pick
-wronged true d a b e = absurd (let z : ◌≡◌ {A = ℕ} 0 1 = cc in omega arith)
-wronged false d a b e = refl
 
 module _ (nodes attributes : List ℕ) (rows : ℕ) where
   -- before row 0 nothing is counted
@@ -367,20 +351,23 @@ module _ (nodes attributes : List ℕ) (rows : ℕ) where
 
   module _ (row depth first start : ℕ) (i : Checking nodes attributes rows row depth first start) where
     -- with no row left, no row is against the rules
-    pub checking-done : rows ≤ row → rows ≡ node_count nodes → row ≡ first_bad_row nodes attributes
+    pub checking-done : rows ≤ row → rows ≡ node_count nodes → None ≡ first_bad_row nodes attributes
     unfolding first_bad_row
     checking-done h e = rw (← e) (seek-done (row_right nodes attributes) rows row i.seek h)
 
-    module _ (l : row < rows) (r : RowAnswer) (er : r ≡ row_answer nodes attributes row) where
+    module _ (l : row < rows) (r : Option Progress) (er : r ≡ row_answer nodes attributes row) where
       -- the row keeps the rules
-      pub checking-on : (own next end : ℕ) → r ≡ Right own next end → Checking nodes attributes rows (row + 1) own next end
+      pub checking-on : (next : Progress) → r ≡ Some next → Checking nodes attributes rows (row + 1) next.depth next.totals.first next.totals.start
       unfolding row_answer
-      checking-on own next end e =
-          let t = righted _ _ _ _ own next end (sym e ∙ er) in
+      checking-on next e =
+          let t = picked _ _ next (sym e ∙ er) in
           let b : row + 1 - 1 ≡ row = omega arith in
-          record { seek = seek-on (row_right nodes attributes) rows row i.seek l t.0; here = record { deep = rw b t.1; attributes-so-far = t.2; bytes-so-far = t.3 } }
+          record {
+            seek = seek-on (row_right nodes attributes) rows row i.seek l t.0;
+            here = record { deep = rw b (ap (λ (p : Progress). p.depth) t.1); attributes-so-far = ap (λ (p : Progress). p.totals.first) t.1; bytes-so-far = ap (λ (p : Progress). p.totals.start) t.1 };
+          }
 
       -- the row is against the rules
-      pub checking-stop : r ≡ Wrong → rows ≡ node_count nodes → row ≡ first_bad_row nodes attributes
+      pub checking-stop : r ≡ None → rows ≡ node_count nodes → Some row ≡ first_bad_row nodes attributes
       unfolding row_answer first_bad_row
-      checking-stop e n = rw (← n) (seek_stop (row_right nodes attributes) rows row i.seek l (wronged _ _ _ _ (sym e ∙ er)))
+      checking-stop e n = rw (← n) (seek_stop (row_right nodes attributes) rows row i.seek l (not_picked _ _ (sym e ∙ er)))

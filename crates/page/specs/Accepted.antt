@@ -1,5 +1,5 @@
 -- Which pages are accepted: the rules of document 01, "The page", a Bool for each sentence, and the refusal that they give.
-use Rattle.std.specs.Prelude.{ℕ, zero, suc, ◌+◌, ◌%◌, Bool, true, List, leb, ltb, length}
+use Rattle.std.specs.Prelude.{ℕ, zero, suc, ◌+◌, ◌%◌, Bool, true, List, leb, length, Option, Some, None, Result, Ok, Err}
 use Rattle.combinators.specs.Choice.{pick, or, and, is}
 use Rattle.combinators.specs.Refusal.{no_refusal, refused, refused_at, too_large, bad_row, bad_text}
 use Rattle.combinators.specs.declared.refusals.Refusal.{Refusal}
@@ -7,8 +7,8 @@ use Rattle.combinators.specs.Part.{part}
 use Rattle.characters.specs.Utf8.{valid}
 use Rattle.page.specs.Rows.{node_width, node_count, NodeRow, node_at, document_kind, element_kind, other_kind, attribute_width, attribute_rows, attribute_at}
 use Rattle.page.specs.Ancestors.{line_of, depth_of, member}
-use Rattle.page.specs.declared.check.PageAnswer.{PageAnswer}
-use Rattle.page.specs.declared.check.PageAnswer.TheVariants.{Page, TooLarge, BadRow, BadText}
+use Rattle.page.specs.declared.check.PageError.{PageError}
+use Rattle.page.specs.declared.check.PageError.TheVariants.{TooLarge, BadRow, BadText}
 
 -- ---- refusal 5: "over 4,096 nodes, 16,384 attributes or 65,536 name bytes lent, or a number list that is no whole count of rows"
 abbrev pub node_limit : ℕ
@@ -118,26 +118,29 @@ texts_right nodes attributes text row =
     (attribute_texts_right attributes text (node_at nodes row).attribute_count (node_at nodes row).first_attribute)
 
 -- ---- the refusal
--- the first of k rows, from `row` on, that fails a test; the row behind them where none does
-unfoldable pub first_fault : (ℕ → Bool) → ℕ → ℕ → ℕ
-first_fault right zero row = row
-first_fault right (suc k) row = let rest = first_fault right k (row + 1) in pick (right row) rest row
+-- the first of k rows, from `row` on, that fails a test
+unfoldable pub first_fault : (ℕ → Bool) → ℕ → ℕ → Option ℕ
+first_fault right zero row = None
+first_fault right (suc k) row = let rest = first_fault right k (row + 1) in pick (right row) rest (Some row)
 
 -- the first row that is against the rules
-unfoldable pub first_bad_row : List ℕ → List ℕ → ℕ
+unfoldable pub first_bad_row : List ℕ → List ℕ → Option ℕ
 first_bad_row nodes attributes = first_fault (row_right nodes attributes) (node_count nodes) 0
 
 -- the first row with a text that cannot be read
-unfoldable pub first_bad_text : List ℕ → List ℕ → List ℕ → ℕ
+unfoldable pub first_bad_text : List ℕ → List ℕ → List ℕ → Option ℕ
 first_bad_text nodes attributes text = first_fault (texts_right nodes attributes text) (node_count nodes) 0
+
+-- a refusal with a row for its place, or what else there is where no row is at fault
+unfoldable pub refused_row : ℕ → Option ℕ → Refusal → Refusal
+refused_row number (Some row) others = refused_at number row
+refused_row number None others = others
 
 -- of a page within the limits: any 6 comes before any 7, and to have no row at all is against the rules
 unfoldable pub rows_refusal : List ℕ → List ℕ → List ℕ → Refusal
 rows_refusal nodes attributes text =
-    let bad = first_bad_row nodes attributes in
-    let unread = first_bad_text nodes attributes text in
-    let texts = pick (ltb unread (node_count nodes)) (refused_at bad_text unread) no_refusal in
-    let rows = pick (ltb bad (node_count nodes)) (refused_at bad_row bad) texts in
+    let texts = refused_row bad_text (first_bad_text nodes attributes text) no_refusal in
+    let rows = refused_row bad_row (first_bad_row nodes attributes) texts in
     pick (is (node_count nodes) 0) (refused_at bad_row 0) rows
 
 -- the lowest number that applies, with its place
@@ -146,9 +149,13 @@ page_refusal nodes attributes text =
     let rows = rows_refusal nodes attributes text in
     pick (within_limits nodes attributes text) rows (refused too_large)
 
--- what each answer of `check_page` stands for
-unfoldable pub refusal_of : PageAnswer → Refusal
-refusal_of Page = no_refusal
-refusal_of TooLarge = refused too_large
-refusal_of (BadRow row) = refused_at bad_row row
-refusal_of (BadText row) = refused_at bad_text row
+-- what each error of `check_page` stands for
+unfoldable pub error_refusal : PageError → Refusal
+error_refusal TooLarge = refused too_large
+error_refusal (BadRow row) = refused_at bad_row row
+error_refusal (BadText row) = refused_at bad_text row
+
+-- what each answer stands for
+unfoldable pub refusal_of : Result Unit PageError → Refusal
+refusal_of (Ok accepted) = no_refusal
+refusal_of (Err error) = error_refusal error

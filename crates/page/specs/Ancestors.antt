@@ -1,9 +1,7 @@
 -- The ancestors of a row, its depth, and its place among the element children of its parent.
-use Rattle.std.specs.Prelude.{ℕ, zero, suc, ◌+◌, Bool, false, List, [], ◌∷◌, ltb, length}
+use Rattle.std.specs.Prelude.{ℕ, zero, suc, ◌+◌, Bool, false, List, [], ◌∷◌, ltb, length, Option, Some, None}
 use Rattle.combinators.specs.Choice.{pick, or, and, is}
 use Rattle.page.specs.Rows.{node_at, element_kind}
-use Rattle.page.specs.declared.ancestors.Climb.{Climb}
-use Rattle.page.specs.declared.ancestors.Climb.TheVariants.{Reached, NotThere}
 
 -- the parent, its parent and so on, as long as each row is before the one below it; on an accepted page that is up to row 0. At most k are counted.
 -- "`Rc`, `Weak` and `RefCell` become row numbers."
@@ -30,8 +28,8 @@ member x [] = false
 member x (y ∷ l) = or (is x y) (member x l)
 
 -- the depth of a row that is row `from` or an ancestor of it
-unfoldable pub climbed : List ℕ → ℕ → ℕ → Climb
-climbed nodes from row = pick (member row (line_of nodes from)) (Reached (depth_of nodes row)) NotThere
+unfoldable pub climbed : List ℕ → ℕ → ℕ → Option ℕ
+climbed nodes from row = pick (member row (line_of nodes from)) (Some (depth_of nodes row)) None
 
 -- a row is an element with the parent p
 unfoldable pub is_element_child : List ℕ → ℕ → ℕ → Bool

@@ -1,16 +1,8 @@
 // How deep a row lies, and its place among its siblings.
 ghost use Rattle.std.specs.Prelude.{◌≡◌, ◌≤◌};
-ghost use Rattle.combinators.specs.Choice.{pick};
 ghost use Rattle.page.specs.Ancestors.{depth_of, climbed, is_element_child, element_children, place_of};
 
 use crate::rows::{ELEMENT, kind_of, parent_of};
-
-// Where the climb from one row to another above it ends: at the depth of the other, or it is not there.
-#[derive(Clone, Copy)]
-pub enum Climb {
-    Reached(usize),
-    NotThere,
-}
 
 // How deep a row lies.
 pub fn depth_of(nodes: &[u32], row: usize) -> usize
@@ -29,7 +21,7 @@ pub fn depth_of(nodes: &[u32], row: usize) -> usize
 }
 
 // The depth of row `target`, if it is row `from`, which lies at `depth`, or an ancestor of it.
-pub fn climb_to(nodes: &[u32], from: usize, depth: usize, target: usize) -> Climb
+pub fn climb_to(nodes: &[u32], from: usize, depth: usize, target: usize) -> Option<usize>
     requires { depth ≡ depth_of nodes.now from }
     ensures { result ≡ climbed nodes.now from target }
 {
@@ -38,26 +30,19 @@ pub fn climb_to(nodes: &[u32], from: usize, depth: usize, target: usize) -> Clim
     while row != target {
         let parent = parent_of(nodes, row);
         if parent >= row {
-            return Climb::NotThere;
+            return None;
         }
         row = parent;
         left -= 1;
     }
-    Climb::Reached(left)
+    Some(left)
 }
 
-// 1 where a row is an element with the parent `parent`, and 0 where it is not.
-fn element_child(nodes: &[u32], parent: usize, row: usize) -> usize
-    ensures value { result ≡ pick (is_element_child nodes.now parent row) 1 0 }
-    ensures upper_bound { result ≤ 1 }
+// Whether a row is an element with the parent `parent`.
+fn is_element_child(nodes: &[u32], parent: usize, row: usize) -> bool
+    ensures { result ≡ is_element_child nodes.now parent row }
 {
-    if kind_of(nodes, row) == ELEMENT {
-        if parent_of(nodes, row) == parent {
-            return 1;
-        }
-        return 0;
-    }
-    0
+    kind_of(nodes, row) == ELEMENT && parent_of(nodes, row) == parent
 }
 
 // How many of the first `rows` rows are elements with the parent `parent`.
@@ -65,11 +50,10 @@ pub fn element_children(nodes: &[u32], parent: usize, rows: usize) -> usize
     ensures value { result ≡ element_children nodes.now parent rows }
     ensures upper_bound { result ≤ rows }
 {
+    // each row adds 0 or 1: `filter` and `count` branch at each row, and take more than twice as long
     let mut count = 0;
-    let mut i = 0;
-    while i < rows {
-        count += element_child(nodes, parent, i);
-        i += 1;
+    for row in 0..rows {
+        count += usize::from(is_element_child(nodes, parent, row));
     }
     count
 }
@@ -78,9 +62,5 @@ pub fn element_children(nodes: &[u32], parent: usize, rows: usize) -> usize
 pub fn place_among(nodes: &[u32], row: usize) -> usize
     ensures { result ≡ place_of nodes.now row }
 {
-    let parent = parent_of(nodes, row);
-    if row < nodes.len() {
-        return element_children(nodes, parent, row + 1);
-    }
-    element_children(nodes, parent, row)
+    element_children(nodes, parent_of(nodes, row), row.saturating_add(1))
 }

@@ -1,8 +1,7 @@
 // The rows of a page: a node's numbers and an attribute's, and the texts that they name. A number that is not there reads as 0.
-ghost use Rattle.std.specs.Prelude.{◌≡◌, ◌<◌, length, get_or};
-ghost use Rattle.page.specs.Rows.{number_bound, node_width, attribute_width, node_number, node_at, node_count, attribute_number, attribute_at, attribute_rows, name_of, attribute_name, attribute_value};
+ghost use Rattle.std.specs.Prelude.{◌≡◌, ◌+◌, ◌*◌, ◌<◌, get_or};
+ghost use Rattle.page.specs.Rows.{number_bound, node_number, node_at, node_count, attribute_number, attribute_at, attribute_rows, name_of, attribute_name, attribute_value};
 
-use combinators::stores::number_at;
 use combinators::texts::part_of;
 
 // A node's numbers.
@@ -52,42 +51,28 @@ pub fn attribute_rows(attributes: &[u32]) -> usize
     attributes.len() / ATTRIBUTE_WIDTH
 }
 
-// A number that is there.
-fn number_there(rows: &[u32], at: usize) -> u32
-    requires { at < length rows.now }
-    ensures { result ≡ get_or rows.now at 0 }
+// The number in a column of a row, where a row has `WIDTH` numbers.
+pub fn number_in<const WIDTH: usize>(rows: &[u32], row: usize, column: usize) -> u32
+    ensures { result ≡ get_or rows.now (row * WIDTH + column) 0 }
 {
-    rows[at]
+    let place = row.saturating_mul(WIDTH).saturating_add(column);
+    rows.get(place).copied().unwrap_or(0)
 }
 
-// The number in a column of a node's row. Of a row that is there whole, one test serves all columns.
+// The number in a column of a node's row.
 fn node_number(nodes: &[u32], row: usize, column: usize) -> usize
-    requires { column < node_width }
     ensures value { result ≡ node_number nodes.now row column }
     ensures upper_bound { result < number_bound }
 {
-    if row < nodes.len() / NODE_WIDTH {
-        return number_there(nodes, row * NODE_WIDTH + column) as usize;
-    }
-    if row < nodes.len() {
-        return number_at(nodes, row * NODE_WIDTH, column) as usize;
-    }
-    0
+    number_in::<NODE_WIDTH>(nodes, row, column) as usize
 }
 
-// The number in a column of an attribute's row, in the same way.
+// The number in a column of an attribute's row.
 fn attribute_number(attributes: &[u32], row: usize, column: usize) -> usize
-    requires { column < attribute_width }
     ensures value { result ≡ attribute_number attributes.now row column }
     ensures upper_bound { result < number_bound }
 {
-    if row < attributes.len() / ATTRIBUTE_WIDTH {
-        return number_there(attributes, row * ATTRIBUTE_WIDTH + column) as usize;
-    }
-    if row < attributes.len() {
-        return number_at(attributes, row * ATTRIBUTE_WIDTH, column) as usize;
-    }
-    0
+    number_in::<ATTRIBUTE_WIDTH>(attributes, row, column) as usize
 }
 
 // What a node is: the document, an element or something else.

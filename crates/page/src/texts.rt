@@ -8,37 +8,27 @@ use crate::rows::{
     name_start, node_count, value_length, value_start,
 };
 use characters::utf8::is_valid;
-use combinators::texts::part_of;
 
 // Whether `n` bytes from `start` on lie in the byte text and are UTF-8.
 fn is_text(text: &[u8], start: usize, n: usize) -> bool
     ensures { result ≡ text_right text.now start n }
 {
-    if start > text.len() {
-        return false;
-    }
-    if n > text.len() - start {
-        return false;
-    }
-    is_valid(part_of(text, start, n))
+    start <= text.len() && n <= text.len() - start && is_valid(&text[start..start + n])
 }
 
 // Whether the name and the value of an attribute are texts.
 fn attribute_text(attributes: &[u32], text: &[u8], at: usize) -> bool
     ensures { result ≡ attribute_text_right attributes.now text.now at }
 {
-    if is_text(
+    is_text(
         text,
         attribute_name_start(attributes, at),
         attribute_name_length(attributes, at),
-    ) {
-        return is_text(
-            text,
-            value_start(attributes, at),
-            value_length(attributes, at),
-        );
-    }
-    false
+    ) && is_text(
+        text,
+        value_start(attributes, at),
+        value_length(attributes, at),
+    )
 }
 
 // Whether the names and values of `count` attribute rows from `first` on are texts.
@@ -46,46 +36,25 @@ fn attribute_texts(attributes: &[u32], text: &[u8], first: usize, count: usize) 
     requires { (first < number_bound) × (count < number_bound) }
     ensures { result ≡ attribute_texts_right attributes.now text.now count first }
 {
-    let mut at = first;
-    let mut left = count;
-    while left > 0 {
-        if attribute_text(attributes, text, at) {
-            at += 1;
-            left -= 1;
-        } else {
-            return false;
-        }
-    }
-    true
+    (first..first + count).all(|at| attribute_text(attributes, text, at))
 }
 
 // Whether a row's name and its attributes' names and values are texts.
 fn row_texts(nodes: &[u32], attributes: &[u32], text: &[u8], row: usize) -> bool
     ensures { result ≡ texts_right nodes.now attributes.now text.now row }
 {
-    if is_text(text, name_start(nodes, row), name_length(nodes, row)) {
-        return attribute_texts(
+    is_text(text, name_start(nodes, row), name_length(nodes, row))
+        && attribute_texts(
             attributes,
             text,
             first_attribute(nodes, row),
             attribute_count(nodes, row),
-        );
-    }
-    false
+        )
 }
 
-// The first row one of whose texts is none; the count of rows where all are.
-pub fn first_bad_text(nodes: &[u32], attributes: &[u32], text: &[u8]) -> usize
+// The first row one of whose texts is none.
+pub fn first_bad_text(nodes: &[u32], attributes: &[u32], text: &[u8]) -> Option<usize>
     ensures { result ≡ first_bad_text nodes.now attributes.now text.now }
 {
-    let rows = node_count(nodes);
-    let mut row = 0;
-    while row < rows {
-        if row_texts(nodes, attributes, text, row) {
-            row += 1;
-        } else {
-            return row;
-        }
-    }
-    row
+    (0..node_count(nodes)).find(|row| !row_texts(nodes, attributes, text, *row))
 }

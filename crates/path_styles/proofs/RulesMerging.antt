@@ -96,8 +96,8 @@ module _ (c : Cascade) (pseudo origin : ℕ) (spec : Specificity) (styles : List
     pub merging : Merging c row₀ (styles_declared count at) row (styles_declared n place)
 
   -- nothing is merged yet
-  pub styles-begin : RowRoom row₀ → StylesMerging count at row₀
-  styles-begin r = record { merging = merging-begin c row₀ _ r }
+  pub styles-begin : RowRoom row₀ → (n : ℕ) → n ≡ count → StylesMerging n at row₀
+  styles-begin r n e = rw e (record { merging = merging-begin c row₀ _ r })
 
   -- the first of them, and the others
   one-declared : (n place next : ℕ) → 0 < n → drop next styles ≡ drop (place + style_width) styles
@@ -121,13 +121,14 @@ module _ (c : Cascade) (pseudo origin : ℕ) (spec : Specificity) (styles : List
 
   module _ (n place : ℕ) (row : List ℕ) (m : StylesMerging n place row) where
     -- a style is merged
-    pub styles-more : 0 < n → (s : StyleNumbers) → s ≡ numbers_at (drop place styles) → (z : List ℕ)
+    pub styles-more : 0 < n → (fewer : ℕ) → fewer ≡ n - 1 → (s : StyleNumbers) → s ≡ numbers_at (drop place styles) → (z : List ℕ)
         → Merged c row z (record { pseudo = pseudo; slot = s.slot; candidate = record { weight = record { important = s.important; origin = origin; spec = spec }; value = s.value } })
-        → (next : ℕ) → drop next styles ≡ drop (place + style_width) styles → StylesMerging (n - 1) next z
-    styles-more h s e z d next p =
+        → (next : ℕ) → drop next styles ≡ drop (place + style_width) styles → StylesMerging fewer next z
+    styles-more h fewer q s e z d next p =
+        rw q (
         record {
           merging = merging-more c row₀ _ row _ m.merging (style_declared place ∷ []) (styles_declared (n - 1) next) (one-declared n place next h p) z (style-merged place row z s e d);
-        }
+        })
 
     -- when none is left, all styles are merged into the row
     pub styles-done : n ≤ 0 → row ≡ merged_row c row₀ (styles_declared count at)
@@ -196,8 +197,8 @@ module _ (c : Cascade) (origin : ℕ) (p : Path) (ds : List (Styled Value)) (tex
     pub passing : Passing read_selector rows count at n place
 
   -- nothing is merged yet
-  pub selectors-begin : RowRoom row₀ → SelectorsMerging count at row₀
-  selectors-begin r = record { merging = merging-begin c row₀ _ r; passing = λ _. refl }
+  pub selectors-begin : RowRoom row₀ → (n : ℕ) → n ≡ count → SelectorsMerging n at row₀
+  selectors-begin r n e = rw e (record { merging = merging-begin c row₀ _ r; passing = λ _. refl })
 
   -- the first of them, and the others
   one-selector : (n place next : ℕ) → 0 < n → drop next rows ≡ (read_selector texts (drop place rows)).rest
@@ -217,13 +218,14 @@ module _ (c : Cascade) (origin : ℕ) (p : Path) (ds : List (Styled Value)) (tex
 
   module _ (n place : ℕ) (row : List ℕ) (m : SelectorsMerging n place row) where
     -- a selector is merged
-    pub selectors-more : 0 < n → (z : List ℕ) → z ≡ merged_row c row (map (from_rule origin) (selector_says p ds (read_selector texts (drop place rows)).value))
-        → (next : ℕ) → ((texts : List ℕ) → drop next rows ≡ (read_selector texts (drop place rows)).rest) → SelectorsMerging (n - 1) next z
-    selectors-more h z ez next e =
+    pub selectors-more : 0 < n → (fewer : ℕ) → fewer ≡ n - 1 → (z : List ℕ) → z ≡ merged_row c row (map (from_rule origin) (selector_says p ds (read_selector texts (drop place rows)).value))
+        → (next : ℕ) → ((texts : List ℕ) → drop next rows ≡ (read_selector texts (drop place rows)).rest) → SelectorsMerging fewer next z
+    selectors-more h fewer q z ez next e =
+        rw q (
         record {
           merging = merging-more c row₀ _ row _ m.merging _ (selectors_declared (n - 1) next) (one-selector n place next h (e texts)) z ez;
           passing = passing-more read_selector rows count at n place m.passing h next e;
-        }
+        })
 
     -- when none is left, all selectors are merged, and the place is behind them
     pub selectors-done : n ≤ 0 → (row ≡ merged_row c row₀ (selectors_declared count at)) × (drop place rows ≡ (read_many (read_selector texts) count (drop at rows)).rest)
@@ -288,8 +290,8 @@ module _ (c : Cascade) (origin : ℕ) (p : Path) (texts rows : List ℕ) (count 
     pub merging : Merging c row₀ (rules_declared count at first) row (rules_declared n place kept)
 
   -- nothing is merged yet
-  pub rules-begin : RowRoom row₀ → RulesMerging count at first row₀
-  rules-begin r = record { merging = merging-begin c row₀ _ r }
+  pub rules-begin : RowRoom row₀ → (n : ℕ) → n ≡ count → RulesMerging n at first row₀
+  rules-begin r n e = rw e (record { merging = merging-begin c row₀ _ r })
 
   -- the first of them, and the others
   one-rule : (n place kept next later : ℕ) → 0 < n → drop next rows ≡ (read_rule texts (drop place rows)).rest → drop later styles ≡ (read_kept (drop kept styles)).rest
@@ -311,12 +313,13 @@ module _ (c : Cascade) (origin : ℕ) (p : Path) (texts rows : List ℕ) (count 
 
   module _ (n place kept : ℕ) (row : List ℕ) (m : RulesMerging n place kept row) where
     -- a rule is merged
-    pub rules-more : 0 < n → (z : List ℕ)
+    pub rules-more : 0 < n → (fewer : ℕ) → fewer ≡ n - 1 → (z : List ℕ)
         → z ≡ merged_row c row (map (from_rule origin) (selectors_say p (read_kept (drop kept styles)).value (read_rule texts (drop place rows)).value.selectors))
         → (next : ℕ) → drop next rows ≡ (read_rule texts (drop place rows)).rest → (later : ℕ) → drop later styles ≡ (read_kept (drop kept styles)).rest
-        → RulesMerging (n - 1) next later z
-    rules-more h z ez next e later f =
-        record { merging = merging-more c row₀ _ row _ m.merging _ (rules_declared (n - 1) next later) (one-rule n place kept next later h e f) z ez }
+        → RulesMerging fewer next later z
+    rules-more h fewer q z ez next e later f =
+        rw q (
+        record { merging = merging-more c row₀ _ row _ m.merging _ (rules_declared (n - 1) next later) (one-rule n place kept next later h e f) z ez })
 
     -- when none is left, all rules are merged into the row
     pub rules-done : n ≤ 0 → row ≡ merged_row c row₀ (rules_declared count at first)

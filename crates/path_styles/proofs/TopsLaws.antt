@@ -115,6 +115,13 @@ module _ (nodes attributes text : List ℕ) (row : ℕ) where
     pub record RulesRight (n place tops : ℕ) : Type 0 where
       pub right : Right (rules_selectors (read_many (read_rule texts) n (drop place rows)).value) (drop tops styles)
 
+    -- all of them are left at first
+    pub selectors-right : (n count place tops : ℕ) → n ≡ count → Right (read_many (read_selector texts) count (drop place rows)).value (drop tops styles) → SelectorsRight n place tops
+    selectors-right n count place tops e r = rw e (record { right = r })
+
+    pub rules-right : (n count place tops : ℕ) → n ≡ count → Right (rules_selectors (read_many (read_rule texts) count (drop place rows)).value) (drop tops styles) → RulesRight n place tops
+    rules-right n count place tops e r = rw e (record { right = r })
+
     -- the first selector of some
     module _ (n place tops : ℕ) (r : SelectorsRight n place tops) (h : 0 < n) where
       -- the numbers decide for the first selector and for the others
@@ -128,9 +135,9 @@ module _ (nodes attributes text : List ℕ) (row : ℕ) where
 
       -- and the numbers behind it decide for the others
       pub next-tops : (place' : ℕ) → ((texts : List ℕ) → drop place' rows ≡ (read_selector texts (drop place rows)).rest) → (tops' : ℕ) → drop tops' styles ≡ drop (tops + top_width) styles
-          → SelectorsRight (n - 1) place' tops'
+          → (fewer : ℕ) → fewer ≡ n - 1 → SelectorsRight fewer place' tops'
       unfolding RightTops
-      next-tops place' e tops' f = record { right = rw (e texts, f, ← drop-drop top_width tops styles) selector-parts.1 }
+      next-tops place' e tops' f fewer q = record { right = rw (q, e texts, f, ← drop-drop top_width tops styles) selector-parts.1 }
 
     -- the first rule of some
     module _ (n place tops : ℕ) (r : RulesRight n place tops) (h : 0 < n) where
@@ -147,11 +154,11 @@ module _ (nodes attributes text : List ℕ) (row : ℕ) where
 
       -- and the numbers behind those of its selectors decide for the other rules
       pub later-tops : (k : ℕ) → k ≡ get_or rows (place + rule_selectors) 0 → (next : ℕ) → drop next rows ≡ (read_rule texts (drop place rows)).rest
-          → (tops' : ℕ) → drop tops' styles ≡ drop (tops + top_width * k) styles → RulesRight (n - 1) next tops'
-      later-tops k ek next e tops' f =
+          → (tops' : ℕ) → drop tops' styles ≡ drop (tops + top_width * k) styles → (fewer : ℕ) → fewer ≡ n - 1 → RulesRight fewer next tops'
+      later-tops k ek next e tops' f fewer z =
           let q : tops + length First ≡ tops + top_width * k = omega (arith, rule-counts texts rows place k ek) in
           let g : drop (length First) (drop tops styles) ≡ drop tops' styles = drop-drop (length First) tops styles ∙ ap (λ (i : ℕ). drop i styles) q ∙ sym f in
-          record { right = rw (e, ← g) rule-parts.1 }
+          record { right = rw (z, e, ← g) rule-parts.1 }
 
   -- ---- numbers that are found
   -- there is one number for each selector
@@ -183,15 +190,15 @@ module _ (nodes attributes text : List ℕ) (row : ℕ) where
       pub room : to + n ≤ length l
 
     -- nothing is stored yet
-    pub store-begin : TopsRoom tokens place count → SelectorsStored count at place tokens
-    store-begin r = record { stores = refl; long = refl; room = r.room }
+    pub store-begin : TopsRoom tokens place count → (n : ℕ) → n ≡ count → SelectorsStored n at place tokens
+    store-begin r n e = rw e (record { stores = refl; long = refl; room = r.room })
 
     module _ (n from to : ℕ) (l : List ℕ) (s : SelectorsStored n from to l) where
       -- the number of the first selector that is left is stored, and the others go behind it
       pub store-more : 0 < n → (top : ℕ) → top ≡ selector_number nodes attributes text row (read_selector texts (drop from rows)).value.components
-          → (next : ℕ) → ((texts : List ℕ) → drop next rows ≡ (read_selector texts (drop from rows)).rest) → SelectorsStored (n - 1) next (to + top_width) (set l to top)
+          → (next : ℕ) → ((texts : List ℕ) → drop next rows ≡ (read_selector texts (drop from rows)).rest) → (fewer : ℕ) → fewer ≡ n - 1 → SelectorsStored fewer next (to + top_width) (set l to top)
       unfolding selectors_tops
-      store-more h top e next f =
+      store-more h top e next f fewer z =
           let others : List ℕ → List Selector = λ t. (read_many (read_selector texts) (n - 1) t).value in
           let behind = (read_selector texts (drop from rows)).rest in
           let one : sets l to (Tops (Selected n from)) ≡ sets (set l to top) (to + top_width) (Tops (Selected (n - 1) next)) =
@@ -199,11 +206,11 @@ module _ (nodes attributes text : List ℕ) (row : ℕ) where
           ∙ ap (λ (x : ℕ). sets (set l to x) (suc to) (Tops (others behind))) (sym e)
           ∙ ap (λ (t : List ℕ). sets (set l to top) (suc to) (Tops (others t))) (sym (f texts))
           ∙ ap (λ (i : ℕ). sets (set l to top) i (Tops (others (drop next rows)))) (sym (add-one to)) in
-          record {
+          rw z (record {
             stores = sym one ∙ s.stores;
             long = length-set l to top ∙ s.long;
             room = omega (arith, length-set l to top, s.room);
-          }
+          })
 
       -- when none is left, the numbers of all selectors are stored, one behind the other
       pub store-done : n ≤ 0 → l ≡ sets tokens place (Tops (Selected count at))
@@ -222,8 +229,8 @@ module _ (nodes attributes text : List ℕ) (row : ℕ) where
       pub room : to + length (Ruled n from) ≤ length l
 
     -- nothing is stored yet
-    pub rules-begin : TopsRoom tokens place (length (Ruled count at)) → RulesStored count at place tokens
-    rules-begin r = record { stores = refl; ends = refl; long = refl; room = r.room }
+    pub rules-begin : TopsRoom tokens place (length (Ruled count at)) → (n : ℕ) → n ≡ count → RulesStored n at place tokens
+    rules-begin r n e = rw e (record { stores = refl; ends = refl; long = refl; room = r.room })
 
     module _ (n from to : ℕ) (l : List ℕ) (s : RulesStored n from to l) where
       module _ (h : 0 < n) (k : ℕ) (ek : k ≡ get_or rows (from + rule_selectors) 0) where
@@ -240,14 +247,14 @@ module _ (nodes attributes text : List ℕ) (row : ℕ) where
 
         -- the numbers of a rule more
         pub rules-more : (first : ℕ) → drop first rows ≡ drop (from + rule_head) rows → (l₁ : List ℕ) → l₁ ≡ sets l to (Tops (read_many (read_selector texts) k (drop first rows)).value)
-            → (next : ℕ) → ((texts : List ℕ) → drop next rows ≡ (read_rule texts (drop from rows)).rest) → RulesStored (n - 1) next (to + top_width * k) l₁
-        rules-more first ef l₁ e₁ next f =
+            → (next : ℕ) → ((texts : List ℕ) → drop next rows ≡ (read_rule texts (drop from rows)).rest) → (fewer : ℕ) → fewer ≡ n - 1 → RulesStored fewer next (to + top_width * k) l₁
+        rules-more first ef l₁ e₁ next f fewer z =
             let S = (read_rule texts (drop from rows)).value.selectors in
             let e : l₁ ≡ sets l to (Tops S) = e₁ ∙ ap (λ (ss : List Selector). sets l to (Tops ss)) (rule-selectors texts rows from k first ek ef) in
             let m : length l₁ ≡ length l = ap length e ∙ length-sets l to (Tops S) in
             let p : to + top_width * k ≡ to + length S = omega (arith, rule-counts texts rows from k ek) in
             let o : length (Ruled n from) ≡ length S + length (Ruled (n - 1) next) = ap length (opened next (f texts)) ∙ length-append S (Ruled (n - 1) next) in
-            record {
+            rw z (record {
               stores =
                   ap (λ (x : List ℕ). sets x (to + top_width * k) (Tops (Ruled (n - 1) next))) e
                   ∙ stored-both l to S (Ruled (n - 1) next) (to + top_width * k) p
@@ -255,7 +262,7 @@ module _ (nodes attributes text : List ℕ) (row : ℕ) where
               ends = omega (arith, o, p, s.ends);
               long = m ∙ s.long;
               room = omega (arith, o, p, s.room, m);
-            }
+            })
 
       -- when none is left, the numbers of all selectors of the rules are stored, and the place is behind them
       pub rules-done : n ≤ 0 → (l ≡ sets tokens place (Tops (Ruled count at))) × (to ≡ place + length (Ruled count at))

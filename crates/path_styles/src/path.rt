@@ -3,8 +3,8 @@ ghost use Rattle.std.specs.Prelude.{◌≡◌, ◌++◌, map, ℕ, ◌+◌, leng
 ghost use Rattle.syntax.specs.Style.{agent_origin, user_origin};
 ghost use Rattle.cascade.specs.Row.{RowRoom, inherited_row, handed_at, finished_row, row_of};
 ghost use Rattle.cascade.specs.Record.{from_rule, declared_by};
-ghost use Rattle.page.specs.PathOf.{element_at, path_of};
 ghost use Rattle.matching.specs.Rows.{Rooted};
+ghost use Rattle.styles.specs.Lent.{element_in, path_in};
 ghost use Rattle.styles.specs.Said.{rules_say, counted_attributes, sources_from};
 ghost use Rattle.styles.specs.Computed.{cascaded};
 ghost use Rattle.styles.specs.Merged.{merged_row, early_declared, late_declared};
@@ -18,6 +18,7 @@ use attributes::merging::{merge_attributes, merge_early_attributes};
 use cascade::rows::{clear_row, finish, handed_on, inherit};
 use cascade::slots::Cascade;
 use page::rows::{attribute_count, first_attribute, parent_of};
+use styles::lent::Page;
 use styles::settings::Settings;
 use syntax::rows::{AGENT_ORIGIN, AUTHOR_ORIGIN, USER_ORIGIN};
 
@@ -30,17 +31,15 @@ fn merge_sheet(
     rules: &[u32],
     tokens: &[u32],
     texts: &[u8],
-    nodes: &[u32],
-    attributes: &[u32],
-    text: &[u8],
+    page: Page<'_>,
     row: usize,
     out: &mut [u32],
 )
     requires row_room { RowRoom out.old }
-    requires rooted { Rooted nodes.now row }
+    requires rooted { Rooted page.nodes.now row }
     requires texts_in { TextsIn texts.now end sheet.rules }
-    requires right_tops { RightTops nodes.now attributes.now text.now row (sheet_selectors rules.now texts.now end sheet.rules) (drop sheet.tops tokens.now) }
-    ensures { out.new ≡ merged_row cascade out.old (map (from_rule origin) (rules_say (path_of nodes.now attributes.now text.now row) (kept_sheet rules.now tokens.now texts.now end sheet))) }
+    requires right_tops { RightTops page.nodes.now page.attributes.now page.text.now row (sheet_selectors rules.now texts.now end sheet.rules) (drop sheet.tops tokens.now) }
+    ensures { out.new ≡ merged_row cascade out.old (map (from_rule origin) (rules_say (path_in page.entry row) (kept_sheet rules.now tokens.now texts.now end sheet))) }
 {
     let from = sheet.rules.from;
     merge_rules(
@@ -54,9 +53,7 @@ fn merge_sheet(
         tokens,
         sheet.styles,
         sheet.tops,
-        nodes,
-        attributes,
-        text,
+        page,
         row,
     );
 }
@@ -68,18 +65,16 @@ fn begin_element(
     rules: &[u32],
     tokens: &[u32],
     texts: &[u8],
-    nodes: &[u32],
-    attributes: &[u32],
-    text: &[u8],
+    page: Page<'_>,
     row: usize,
     out: &mut [u32],
 )
     requires row_room { RowRoom out.old }
-    requires rooted { Rooted nodes.now row }
-    requires steady { Steady sheets nodes.now attributes.now text.now row rules.now tokens.now texts.now }
+    requires rooted { Rooted page.nodes.now row }
+    requires steady { Steady sheets page.nodes.now page.attributes.now page.text.now row rules.now tokens.now texts.now }
     ensures { out.new ≡ merged_row cascade (inherited_row cascade out.old)
-        (map (from_rule agent_origin) (rules_say (path_of nodes.now attributes.now text.now row) (kept_sheets rules.now tokens.now texts.now sheets).agent)
-        ++ map (from_rule user_origin) (rules_say (path_of nodes.now attributes.now text.now row) (kept_sheets rules.now tokens.now texts.now sheets).user)) }
+        (map (from_rule agent_origin) (rules_say (path_in page.entry row) (kept_sheets rules.now tokens.now texts.now sheets).agent)
+        ++ map (from_rule user_origin) (rules_say (path_in page.entry row) (kept_sheets rules.now tokens.now texts.now sheets).user)) }
 {
     inherit(out, cascade);
     merge_sheet(
@@ -90,9 +85,7 @@ fn begin_element(
         rules,
         tokens,
         texts,
-        nodes,
-        attributes,
-        text,
+        page,
         row,
         out,
     );
@@ -104,9 +97,7 @@ fn begin_element(
         rules,
         tokens,
         texts,
-        nodes,
-        attributes,
-        text,
+        page,
         row,
         out,
     );
@@ -117,9 +108,7 @@ fn merge_early(
     cascade: Cascade,
     settings: Settings,
     sheets: ReadySheets,
-    nodes: &[u32],
-    attributes: &[u32],
-    text: &[u8],
+    page: Page<'_>,
     row: usize,
     out: &mut [u32],
     tokens: &mut [u32],
@@ -128,8 +117,8 @@ fn merge_early(
     fill: usize,
 )
     requires row_room { RowRoom out.old }
-    requires early_room { EarlyRoom sheets (element_at nodes.now attributes.now text.now row) fill tokens.old brackets.old texts.old }
-    ensures by_index { (f : ℕ) → out.new ≡ merged_row cascade out.old (early_declared cascade (placed_attributes f (counted_attributes settings (element_at nodes.now attributes.now text.now row)))) }
+    requires early_room { EarlyRoom sheets (element_in page row) fill tokens.old brackets.old texts.old }
+    ensures by_index { (f : ℕ) → out.new ≡ merged_row cascade out.old (early_declared cascade (placed_attributes f (counted_attributes settings (element_in page.entry row)))) }
     ensures tokens_unchanged { take sheets.behind tokens.new ≡ take sheets.behind tokens.old }
     ensures texts_unchanged { take (sheets.end + fill) texts.new ≡ take (sheets.end + fill) texts.old }
 {
@@ -138,10 +127,10 @@ fn merge_early(
         let end = sheets.end;
         merge_early_attributes(
             cascade,
-            attributes,
-            text,
-            first_attribute(nodes, row),
-            attribute_count(nodes, row),
+            page.attributes,
+            page.text,
+            first_attribute(page.nodes, row),
+            attribute_count(page.nodes, row),
             out,
             &mut tokens[behind..],
             brackets,
@@ -156,9 +145,7 @@ fn merge_late(
     cascade: Cascade,
     settings: Settings,
     sheets: ReadySheets,
-    nodes: &[u32],
-    attributes: &[u32],
-    text: &[u8],
+    page: Page<'_>,
     row: usize,
     out: &mut [u32],
     rules: &mut [u32],
@@ -168,10 +155,10 @@ fn merge_late(
     fill: usize,
 ) -> usize
     requires row_room { RowRoom out.old }
-    requires element_room { ElementRoom sheets (element_at nodes.now attributes.now text.now row) fill rules.old tokens.old brackets.old texts.old }
-    ensures out_after { out.new ≡ merged_row cascade out.old (late_declared cascade (placed_attributes fill (counted_attributes settings (element_at nodes.now attributes.now text.now row)))) }
-    ensures value { result ≡ fill + length (inline_contents settings (element_at nodes.now attributes.now text.now row)) }
-    ensures texts_after { take (sheets.end + result) texts.new ≡ take (sheets.end + fill) texts.old ++ inline_contents settings (element_at nodes.now attributes.now text.now row) }
+    requires element_room { ElementRoom sheets (element_in page row) fill rules.old tokens.old brackets.old texts.old }
+    ensures out_after { out.new ≡ merged_row cascade out.old (late_declared cascade (placed_attributes fill (counted_attributes settings (element_in page.entry row)))) }
+    ensures value { result ≡ fill + length (inline_contents settings (element_in page.entry row)) }
+    ensures texts_after { take (sheets.end + result) texts.new ≡ take (sheets.end + fill) texts.old ++ inline_contents settings (element_in page.entry row) }
     ensures rules_unchanged { take sheets.rows rules.new ≡ take sheets.rows rules.old }
     ensures tokens_unchanged { take sheets.behind tokens.new ≡ take sheets.behind tokens.old }
 {
@@ -179,12 +166,12 @@ fn merge_late(
         let rows = sheets.rows;
         let behind = sheets.behind;
         let end = sheets.end;
-        return merge_attributes(
+        merge_attributes(
             cascade,
-            attributes,
-            text,
-            first_attribute(nodes, row),
-            attribute_count(nodes, row),
+            page.attributes,
+            page.text,
+            first_attribute(page.nodes, row),
+            attribute_count(page.nodes, row),
             0,
             out,
             &mut rules[rows..],
@@ -192,9 +179,10 @@ fn merge_late(
             brackets,
             &mut texts[end..],
             fill,
-        );
+        )
+    } else {
+        fill
     }
-    fill
 }
 
 // What an element begins with, and all that is declared for it; the fill behind its contents.
@@ -202,9 +190,7 @@ fn declare_element(
     cascade: Cascade,
     settings: Settings,
     sheets: ReadySheets,
-    nodes: &[u32],
-    attributes: &[u32],
-    text: &[u8],
+    page: Page<'_>,
     row: usize,
     out: &mut [u32],
     rules: &mut [u32],
@@ -214,20 +200,18 @@ fn declare_element(
     fill: usize,
 ) -> usize
     requires row_room { RowRoom out.old }
-    requires rooted { Rooted nodes.now row }
-    requires steady { Steady sheets nodes.now attributes.now text.now row rules.old tokens.old texts.old }
-    requires element_room { ElementRoom sheets (element_at nodes.now attributes.now text.now row) fill rules.old tokens.old brackets.old texts.old }
+    requires rooted { Rooted page.nodes.now row }
+    requires steady { Steady sheets page.nodes.now page.attributes.now page.text.now row rules.old tokens.old texts.old }
+    requires element_room { ElementRoom sheets (element_in page row) fill rules.old tokens.old brackets.old texts.old }
     ensures out_after { out.new ≡ merged_row cascade (inherited_row cascade out.old)
-        (declared_by cascade (sources_from (kept_sheets rules.old tokens.old texts.old sheets) (placed_attributes fill (counted_attributes settings (element_at nodes.now attributes.now text.now row))) (path_of nodes.now attributes.now text.now row))) }
-    ensures value { result ≡ fill + length (inline_contents settings (element_at nodes.now attributes.now text.now row)) }
-    ensures texts_after { take (sheets.end + result) texts.new ≡ take (sheets.end + fill) texts.old ++ inline_contents settings (element_at nodes.now attributes.now text.now row) }
+        (declared_by cascade (sources_from (kept_sheets rules.old tokens.old texts.old sheets) (placed_attributes fill (counted_attributes settings (element_in page.entry row))) (path_in page.entry row))) }
+    ensures value { result ≡ fill + length (inline_contents settings (element_in page.entry row)) }
+    ensures texts_after { take (sheets.end + result) texts.new ≡ take (sheets.end + fill) texts.old ++ inline_contents settings (element_in page.entry row) }
     ensures same_kept { SameKept sheets rules.old tokens.old texts.old rules.new tokens.new texts.new }
 {
-    begin_element(
-        cascade, sheets, rules, tokens, texts, nodes, attributes, text, row, out,
-    );
+    begin_element(cascade, sheets, rules, tokens, texts, page, row, out);
     merge_early(
-        cascade, settings, sheets, nodes, attributes, text, row, out, tokens, brackets, texts, fill,
+        cascade, settings, sheets, page, row, out, tokens, brackets, texts, fill,
     );
     merge_sheet(
         cascade,
@@ -237,15 +221,12 @@ fn declare_element(
         rules,
         tokens,
         texts,
-        nodes,
-        attributes,
-        text,
+        page,
         row,
         out,
     );
     merge_late(
-        cascade, settings, sheets, nodes, attributes, text, row, out, rules, tokens, brackets,
-        texts, fill,
+        cascade, settings, sheets, page, row, out, rules, tokens, brackets, texts, fill,
     )
 }
 
@@ -254,9 +235,7 @@ fn style_element(
     cascade: Cascade,
     settings: Settings,
     sheets: ReadySheets,
-    nodes: &[u32],
-    attributes: &[u32],
-    text: &[u8],
+    page: Page<'_>,
     row: usize,
     out: &mut [u32],
     rules: &mut [u32],
@@ -266,19 +245,18 @@ fn style_element(
     fill: usize,
 ) -> usize
     requires row_room { RowRoom out.old }
-    requires rooted { Rooted nodes.now row }
-    requires steady { Steady sheets nodes.now attributes.now text.now row rules.old tokens.old texts.old }
-    requires element_room { ElementRoom sheets (element_at nodes.now attributes.now text.now row) fill rules.old tokens.old brackets.old texts.old }
+    requires rooted { Rooted page.nodes.now row }
+    requires steady { Steady sheets page.nodes.now page.attributes.now page.text.now row rules.old tokens.old texts.old }
+    requires element_room { ElementRoom sheets (element_in page row) fill rules.old tokens.old brackets.old texts.old }
     ensures out_after { out.new ≡ finished_row cascade (handed_at out.old) (merged_row cascade (inherited_row cascade out.old)
-        (declared_by cascade (sources_from (kept_sheets rules.old tokens.old texts.old sheets) (placed_attributes fill (counted_attributes settings (element_at nodes.now attributes.now text.now row))) (path_of nodes.now attributes.now text.now row)))) }
-    ensures value { result ≡ fill + length (inline_contents settings (element_at nodes.now attributes.now text.now row)) }
-    ensures texts_after { take (sheets.end + result) texts.new ≡ take (sheets.end + fill) texts.old ++ inline_contents settings (element_at nodes.now attributes.now text.now row) }
+        (declared_by cascade (sources_from (kept_sheets rules.old tokens.old texts.old sheets) (placed_attributes fill (counted_attributes settings (element_in page.entry row))) (path_in page.entry row)))) }
+    ensures value { result ≡ fill + length (inline_contents settings (element_in page.entry row)) }
+    ensures texts_after { take (sheets.end + result) texts.new ≡ take (sheets.end + fill) texts.old ++ inline_contents settings (element_in page.entry row) }
     ensures same_kept { SameKept sheets rules.old tokens.old texts.old rules.new tokens.new texts.new }
 {
     let parent = handed_on(out);
     let end = declare_element(
-        cascade, settings, sheets, nodes, attributes, text, row, out, rules, tokens, brackets,
-        texts, fill,
+        cascade, settings, sheets, page, row, out, rules, tokens, brackets, texts, fill,
     );
     finish(out, cascade, parent);
     end
@@ -290,9 +268,7 @@ pub fn style_path(
     cascade: Cascade,
     settings: Settings,
     sheets: ReadySheets,
-    nodes: &[u32],
-    attributes: &[u32],
-    text: &[u8],
+    page: Page<'_>,
     row: usize,
     out: &mut [u32],
     rules: &mut [u32],
@@ -301,12 +277,12 @@ pub fn style_path(
     texts: &mut [u8],
 ) -> usize
     requires one_row { OneRow out.old }
-    requires rooted { Rooted nodes.now row }
-    requires steady { Steady sheets nodes.now attributes.now text.now row rules.old tokens.old texts.old }
-    requires path_room { PathRoom sheets (path_of nodes.now attributes.now text.now row) rules.old tokens.old brackets.old texts.old }
-    ensures out_after { out.new ≡ row_of (cascaded cascade (placed_from (kept_sheets rules.old tokens.old texts.old sheets) sheets.fill settings (path_of nodes.now attributes.now text.now row))) }
-    ensures value { result ≡ sheets.fill + length (path_contents settings (path_of nodes.now attributes.now text.now row)) }
-    ensures texts_after { take (sheets.end + result) texts.new ≡ take (sheets.end + sheets.fill) texts.old ++ path_contents settings (path_of nodes.now attributes.now text.now row) }
+    requires rooted { Rooted page.nodes.now row }
+    requires steady { Steady sheets page.nodes.now page.attributes.now page.text.now row rules.old tokens.old texts.old }
+    requires path_room { PathRoom sheets (path_in page row) rules.old tokens.old brackets.old texts.old }
+    ensures out_after { out.new ≡ row_of (cascaded cascade (placed_from (kept_sheets rules.old tokens.old texts.old sheets) sheets.fill settings (path_in page.entry row))) }
+    ensures value { result ≡ sheets.fill + length (path_contents settings (path_in page.entry row)) }
+    ensures texts_after { take (sheets.end + result) texts.new ≡ take (sheets.end + sheets.fill) texts.old ++ path_contents settings (path_in page.entry row) }
     ensures same_kept { SameKept sheets rules.old tokens.old texts.old rules.new tokens.new texts.new }
 {
     if row == 0 {
@@ -317,10 +293,8 @@ pub fn style_path(
         cascade,
         settings,
         sheets,
-        nodes,
-        attributes,
-        text,
-        parent_of(nodes, row),
+        page,
+        parent_of(page.nodes, row),
         out,
         rules,
         tokens,
@@ -328,7 +302,6 @@ pub fn style_path(
         texts,
     );
     style_element(
-        cascade, settings, sheets, nodes, attributes, text, row, out, rules, tokens, brackets,
-        texts, fill,
+        cascade, settings, sheets, page, row, out, rules, tokens, brackets, texts, fill,
     )
 }

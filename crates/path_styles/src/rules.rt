@@ -4,9 +4,9 @@ ghost use Rattle.syntax.specs.RuleLayout.{pseudo_number, pseudo_from, read_selec
 ghost use Rattle.syntax.specs.Stream.{read_many};
 ghost use Rattle.cascade.specs.Record.{from_rule};
 ghost use Rattle.cascade.specs.Row.{RowRoom};
-ghost use Rattle.page.specs.PathOf.{path_of};
 ghost use Rattle.matching.specs.Rows.{Rooted};
 ghost use Rattle.matching.specs.Topmost.{RightNumber};
+ghost use Rattle.styles.specs.Lent.{path_in};
 ghost use Rattle.styles.specs.Merged.{merged_row};
 ghost use Rattle.styles.specs.Said.{rule_style, selector_says, selectors_say, rules_say};
 ghost use Rattle.rule_styles.specs.Placing.{read_styled, read_kept, rules_selectors, rules_kept};
@@ -21,6 +21,7 @@ use matching::components::specificity;
 use matching::topmost::matches_by_number;
 use origins::walk::{skip_rule, skip_selector};
 use rule_styles::rows::{KEPT_COUNT, KEPT_HEAD};
+use styles::lent::Page;
 use syntax::rows::{
     DECLARATION_WIDTH, PSEUDO_BEFORE, PSEUDO_NONE, RULE_DECLARATIONS, RULE_HEAD, RULE_SELECTORS,
     SELECTOR_COMPONENTS, SELECTOR_HEAD, SELECTOR_PSEUDO, STYLE_WIDTH,
@@ -32,13 +33,11 @@ use syntax::walk::forward;
 fn pseudo_of(number: u32) -> usize
     ensures { result ≡ pseudo_number (pseudo_from number) }
 {
-    if number == PSEUDO_NONE {
-        return MAIN;
+    match number {
+        PSEUDO_NONE => MAIN,
+        PSEUDO_BEFORE => BEFORE,
+        _ => AFTER,
     }
-    if number == PSEUDO_BEFORE {
-        return BEFORE;
-    }
-    AFTER
 }
 
 // Merges `count` styles, whose rows start at `at`, as those of a selector of an origin and a specificity.
@@ -58,12 +57,10 @@ fn merge_styles(
         (map (from_rule origin) (map (rule_style pseudo spec) (read_many read_styled count (drop at styles.now)).value)) }
 {
     let mut place = at;
-    let mut left = count;
-    while left > 0 {
+    for _ in 0..count {
         let style = style_at(styles, place);
         merge_computed_style(out, cascade, pseudo, origin, spec, style);
         place = forward(styles, place, STYLE_WIDTH);
-        left -= 1;
     }
 }
 
@@ -79,18 +76,16 @@ fn merge_selector(
     styles: &[u32],
     first: usize,
     count: u32,
-    nodes: &[u32],
-    attributes: &[u32],
-    text: &[u8],
+    page: Page<'_>,
     row: usize,
 )
     requires row_room { RowRoom out.old }
-    requires rooted { Rooted nodes.now row }
-    requires right_number { RightNumber nodes.now attributes.now text.now (read_selector texts.now (drop at rows.now)).value.components row top }
+    requires rooted { Rooted page.nodes.now row }
+    requires right_number { RightNumber page.nodes.now page.attributes.now page.text.now (read_selector texts.now (drop at rows.now)).value.components row top }
     ensures { out.new
         ≡ merged_row cascade out.old
         (map (from_rule origin)
-        (selector_says (path_of nodes.now attributes.now text.now row)
+        (selector_says (path_in page.entry row)
         (read_many read_styled count (drop first styles.now)).value
         (read_selector texts.now (drop at rows.now)).value)) }
 {
@@ -102,16 +97,15 @@ fn merge_selector(
         texts,
         length as usize,
         top,
-        nodes,
-        attributes,
-        text,
+        page.nodes,
+        page.attributes,
+        page.text,
         row,
     );
     if matched {
         let pseudo = pseudo_of(number_at(rows, at, SELECTOR_PSEUDO));
         let spec = specificity(components, length);
         merge_styles(out, cascade, pseudo, origin, spec, styles, first, count);
-        return;
     }
 }
 
@@ -128,26 +122,23 @@ fn merge_selectors(
     first: usize,
     count: u32,
     tops: usize,
-    nodes: &[u32],
-    attributes: &[u32],
-    text: &[u8],
+    page: Page<'_>,
     row: usize,
 ) -> usize
     requires row_room { RowRoom out.old }
-    requires rooted { Rooted nodes.now row }
-    requires right_tops { RightTops nodes.now attributes.now text.now row (read_many (read_selector texts.now) selectors (drop at rows.now)).value (drop tops styles.now) }
+    requires rooted { Rooted page.nodes.now row }
+    requires right_tops { RightTops page.nodes.now page.attributes.now page.text.now row (read_many (read_selector texts.now) selectors (drop at rows.now)).value (drop tops styles.now) }
     ensures out_after { out.new
         ≡ merged_row cascade out.old
         (map (from_rule origin)
-        (selectors_say (path_of nodes.now attributes.now text.now row)
+        (selectors_say (path_in page.entry row)
         (read_many read_styled count (drop first styles.now)).value
         (read_many (read_selector texts.now) selectors (drop at rows.now)).value)) }
     ensures rows_value { drop result rows.now ≡ (read_many (read_selector texts.now) selectors (drop at rows.now)).rest }
 {
     let mut place = at;
     let mut top_place = tops;
-    let mut left = selectors;
-    while left > 0 {
+    for _ in 0..selectors {
         merge_selector(
             out,
             cascade,
@@ -159,14 +150,11 @@ fn merge_selectors(
             styles,
             first,
             count,
-            nodes,
-            attributes,
-            text,
+            page,
             row,
         );
         place = skip_selector(rows, place);
         top_place = forward(styles, top_place, TOP_WIDTH);
-        left -= 1;
     }
     place
 }
@@ -183,18 +171,16 @@ fn merge_rule(
     styles: &[u32],
     first: usize,
     tops: usize,
-    nodes: &[u32],
-    attributes: &[u32],
-    text: &[u8],
+    page: Page<'_>,
     row: usize,
 ) -> usize
     requires row_room { RowRoom out.old }
-    requires rooted { Rooted nodes.now row }
-    requires right_tops { RightTops nodes.now attributes.now text.now row (read_rule texts.now (drop at rows.now)).value.selectors (drop tops styles.now) }
+    requires rooted { Rooted page.nodes.now row }
+    requires right_tops { RightTops page.nodes.now page.attributes.now page.text.now row (read_rule texts.now (drop at rows.now)).value.selectors (drop tops styles.now) }
     ensures out_after { out.new
         ≡ merged_row cascade out.old
         (map (from_rule origin)
-        (selectors_say (path_of nodes.now attributes.now text.now row)
+        (selectors_say (path_in page.entry row)
         (read_kept (drop first styles.now)).value
         (read_rule texts.now (drop at rows.now)).value.selectors)) }
     ensures rows_value { drop result rows.now ≡ (read_rule texts.now (drop at rows.now)).rest }
@@ -215,9 +201,7 @@ fn merge_rule(
         forward(styles, first, KEPT_HEAD),
         count,
         tops,
-        nodes,
-        attributes,
-        text,
+        page,
         row,
     );
     let declarations = number_at(rows, at, RULE_DECLARATIONS) as usize;
@@ -244,32 +228,27 @@ pub fn merge_rules(
     styles: &[u32],
     first: usize,
     tops: usize,
-    nodes: &[u32],
-    attributes: &[u32],
-    text: &[u8],
+    page: Page<'_>,
     row: usize,
 )
     requires row_room { RowRoom out.old }
-    requires rooted { Rooted nodes.now row }
-    requires right_tops { RightTops nodes.now attributes.now text.now row (rules_selectors (read_many (read_rule texts.now) count (drop at rows.now)).value) (drop tops styles.now) }
+    requires rooted { Rooted page.nodes.now row }
+    requires right_tops { RightTops page.nodes.now page.attributes.now page.text.now row (rules_selectors (read_many (read_rule texts.now) count (drop at rows.now)).value) (drop tops styles.now) }
     ensures { out.new
         ≡ merged_row cascade out.old
         (map (from_rule origin)
-        (rules_say (path_of nodes.now attributes.now text.now row)
+        (rules_say (path_in page.entry row)
         (rules_kept texts.now count (drop at rows.now) (drop first styles.now)))) }
 {
     let mut place = at;
     let mut kept = first;
     let mut top_place = tops;
-    let mut left = count;
-    while left > 0 {
+    for _ in 0..count {
         let selectors = number_at(rows, place, RULE_SELECTORS) as usize;
         place = merge_rule(
-            out, cascade, origin, rows, place, texts, styles, kept, top_place, nodes, attributes,
-            text, row,
+            out, cascade, origin, rows, place, texts, styles, kept, top_place, page, row,
         );
         kept = skip_kept(styles, kept);
         top_place = forward(styles, top_place, TOP_WIDTH * selectors);
-        left -= 1;
     }
 }

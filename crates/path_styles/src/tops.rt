@@ -15,6 +15,7 @@ use matching::topmost::selector_number;
 use origins::reading::SheetRules;
 use origins::walk::{skip_rule, skip_selector};
 use rule_styles::styled::StyledSheets;
+use styles::lent::Page;
 use syntax::rows::{RULE_HEAD, RULE_SELECTORS, SELECTOR_COMPONENTS, SELECTOR_HEAD};
 use syntax::walk::forward;
 
@@ -49,17 +50,9 @@ pub fn top_at(tops: &[u32], at: usize) -> usize
 }
 
 // The number of the selector at `at`.
-fn find_top(
-    rows: &[u32],
-    at: usize,
-    texts: &[u8],
-    nodes: &[u32],
-    attributes: &[u32],
-    text: &[u8],
-    row: usize,
-) -> usize
-    requires { Rooted nodes.now row }
-    ensures value { result ≡ selector_number nodes.now attributes.now text.now row (read_selector texts.now (drop at rows.now)).value.components }
+fn find_top(rows: &[u32], at: usize, texts: &[u8], page: Page<'_>, row: usize) -> usize
+    requires { Rooted page.nodes.now row }
+    ensures value { result ≡ selector_number page.entry.nodes.now page.entry.attributes.now page.entry.text.now row (read_selector texts.now (drop at rows.now)).value.components }
     ensures upper_bound { result ≤ row }
 {
     let length = number_at(rows, at, SELECTOR_COMPONENTS);
@@ -69,9 +62,9 @@ fn find_top(
         components,
         texts,
         length as usize,
-        nodes,
-        attributes,
-        text,
+        page.nodes,
+        page.attributes,
+        page.text,
         row,
     )
 }
@@ -82,29 +75,25 @@ fn find_selectors_tops(
     at: usize,
     selectors: u32,
     texts: &[u8],
-    nodes: &[u32],
-    attributes: &[u32],
-    text: &[u8],
+    page: Page<'_>,
     row: usize,
     tokens: &mut [u32],
     place: usize,
 )
-    requires rooted { Rooted nodes.now row }
+    requires rooted { Rooted page.nodes.now row }
     requires row_lt_number_bound { row < number_bound }
     requires tops_room { TopsRoom tokens.old place selectors }
     ensures { tokens.new ≡ sets tokens.old place
-        (selectors_tops nodes.now attributes.now text.now row
+        (selectors_tops page.entry.nodes.now page.entry.attributes.now page.entry.text.now row
         (read_many (read_selector texts.now) selectors (drop at rows.now)).value) }
 {
     let mut from = at;
     let mut to = place;
-    let mut left = selectors;
-    while left > 0 {
-        let top = find_top(rows, from, texts, nodes, attributes, text, row);
+    for _ in 0..selectors {
+        let top = find_top(rows, from, texts, page, row);
         tokens[to] = top as u32;
         from = skip_selector(rows, from);
         to += TOP_WIDTH;
-        left -= 1;
     }
 }
 
@@ -114,33 +103,27 @@ fn find_rules_tops(
     at: usize,
     count: usize,
     texts: &[u8],
-    nodes: &[u32],
-    attributes: &[u32],
-    text: &[u8],
+    page: Page<'_>,
     row: usize,
     tokens: &mut [u32],
     place: usize,
 ) -> usize
-    requires rooted { Rooted nodes.now row }
+    requires rooted { Rooted page.nodes.now row }
     requires row_lt_number_bound { row < number_bound }
     requires tops_room { TopsRoom tokens.old place (length (rules_selectors (read_many (read_rule texts.now) count (drop at rows.now)).value)) }
     ensures tokens_after { tokens.new ≡ sets tokens.old place
-        (selectors_tops nodes.now attributes.now text.now row
+        (selectors_tops page.entry.nodes.now page.entry.attributes.now page.entry.text.now row
         (rules_selectors (read_many (read_rule texts.now) count (drop at rows.now)).value)) }
     ensures value { result ≡ place + length (rules_selectors (read_many (read_rule texts.now) count (drop at rows.now)).value) }
 {
     let mut from = at;
     let mut to = place;
-    let mut left = count;
-    while left > 0 {
+    for _ in 0..count {
         let selectors = number_at(rows, from, RULE_SELECTORS);
         let first = forward(rows, from, RULE_HEAD);
-        find_selectors_tops(
-            rows, first, selectors, texts, nodes, attributes, text, row, tokens, to,
-        );
+        find_selectors_tops(rows, first, selectors, texts, page, row, tokens, to);
         from = skip_rule(rows, from);
         to += TOP_WIDTH * selectors as usize;
-        left -= 1;
     }
     to
 }
@@ -151,19 +134,17 @@ fn find_sheet_tops(
     end: usize,
     rules: &[u32],
     texts: &[u8],
-    nodes: &[u32],
-    attributes: &[u32],
-    text: &[u8],
+    page: Page<'_>,
     row: usize,
     tokens: &mut [u32],
     place: usize,
 ) -> usize
-    requires rooted { Rooted nodes.now row }
+    requires rooted { Rooted page.nodes.now row }
     requires row_lt_number_bound { row < number_bound }
     requires texts_in { TextsIn texts.now end sheet }
     requires tops_room { TopsRoom tokens.old place (length (sheet_selectors rules.now texts.now end sheet)) }
     ensures tokens_after { tokens.new ≡ sets tokens.old place
-        (selectors_tops nodes.now attributes.now text.now row (sheet_selectors rules.now texts.now end sheet)) }
+        (selectors_tops page.entry.nodes.now page.entry.attributes.now page.entry.text.now row (sheet_selectors rules.now texts.now end sheet)) }
     ensures value { result ≡ place + length (sheet_selectors rules.now texts.now end sheet) }
 {
     let from = sheet.from;
@@ -172,9 +153,7 @@ fn find_sheet_tops(
         sheet.place,
         sheet.count,
         &texts[from..end],
-        nodes,
-        attributes,
-        text,
+        page,
         row,
         tokens,
         place,
@@ -185,28 +164,22 @@ fn find_sheet_tops(
 fn ready_sheets(sheets: StyledSheets, user: usize, author: usize, behind: usize) -> ReadySheets
     ensures { result ≡ ready_places sheets user author behind }
 {
-    let agent_rules = sheets.agent.rules;
-    let agent_sheet = ReadySheet {
-        rules: agent_rules,
-        styles: sheets.agent.styles,
-        tops: sheets.behind,
-    };
-    let user_rules = sheets.user.rules;
-    let user_sheet = ReadySheet {
-        rules: user_rules,
-        styles: sheets.user.styles,
-        tops: user,
-    };
-    let author_rules = sheets.author.rules;
-    let author_sheet = ReadySheet {
-        rules: author_rules,
-        styles: sheets.author.styles,
-        tops: author,
-    };
     ReadySheets {
-        agent: agent_sheet,
-        user: user_sheet,
-        author: author_sheet,
+        agent: ReadySheet {
+            rules: sheets.agent.rules,
+            styles: sheets.agent.styles,
+            tops: sheets.behind,
+        },
+        user: ReadySheet {
+            rules: sheets.user.rules,
+            styles: sheets.user.styles,
+            tops: user,
+        },
+        author: ReadySheet {
+            rules: sheets.author.rules,
+            styles: sheets.author.styles,
+            tops: author,
+        },
         end: sheets.end,
         rows: sheets.rows,
         behind,
@@ -219,27 +192,23 @@ pub fn find_tops(
     sheets: StyledSheets,
     rules: &[u32],
     texts: &[u8],
-    nodes: &[u32],
-    attributes: &[u32],
-    text: &[u8],
+    page: Page<'_>,
     row: usize,
     tokens: &mut [u32],
 ) -> ReadySheets
-    requires rooted { Rooted nodes.now row }
+    requires rooted { Rooted page.nodes.now row }
     requires row_lt_number_bound { row < number_bound }
     requires sheets_tops_room { SheetsTopsRoom rules.now tokens.old texts.now sheets }
     ensures value { result ≡ ready_sheets rules.now texts.now sheets }
     ensures tokens_after { tokens.new ≡ sets tokens.old sheets.behind
-        (selectors_tops nodes.now attributes.now text.now row (sheets_selectors rules.now texts.now sheets)) }
+        (selectors_tops page.entry.nodes.now page.entry.attributes.now page.entry.text.now row (sheets_selectors rules.now texts.now sheets)) }
 {
     let user = find_sheet_tops(
         sheets.agent.rules,
         sheets.end,
         rules,
         texts,
-        nodes,
-        attributes,
-        text,
+        page,
         row,
         tokens,
         sheets.behind,
@@ -249,9 +218,7 @@ pub fn find_tops(
         sheets.end,
         rules,
         texts,
-        nodes,
-        attributes,
-        text,
+        page,
         row,
         tokens,
         user,
@@ -261,9 +228,7 @@ pub fn find_tops(
         sheets.end,
         rules,
         texts,
-        nodes,
-        attributes,
-        text,
+        page,
         row,
         tokens,
         author,

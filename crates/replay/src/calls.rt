@@ -1,85 +1,127 @@
 // The calls that a vector can ask for, and where their arguments stand.
+use std::fmt;
 
-// Entry points.
-pub const READ_SHEET: u32 = 1;
+/// A call. A vector names it by its number.
+#[derive(Clone, Copy)]
+pub enum Call {
+    // Entry points.
+    ReadSheet,
+    Compile,
+    CheckPage,
+    // The style of an element, by html2text's cascade and in the book order.
+    Style,
+    StyleBook,
+    // The styles of all elements of a page. `out` holds its rows, and in place of the compiled bytes, which it only reads, its state is lent.
+    Run,
+    // What only the comparison asks.
+    CheckBytes,
+    StyleAttribute,
+    Colour,
+    Matches,
+    // A selector on each row of a page, whose answers are put into `rules`.
+    Rows,
+    // The selector of a sheet, which is read first, on a row.
+    Selector,
+    // An entry point again: the length that a height's value is. Its amount is told as millions and what is left.
+    HeightLength,
+    // What no number above names. It gives nothing.
+    Unknown,
+}
 
-pub const COMPILE: u32 = 2;
+impl From<u32> for Call {
+    fn from(number: u32) -> Self {
+        match number {
+            1 => Call::ReadSheet,
+            2 => Call::Compile,
+            3 => Call::CheckPage,
+            4 => Call::Style,
+            5 => Call::StyleBook,
+            6 => Call::Run,
+            7 => Call::CheckBytes,
+            8 => Call::StyleAttribute,
+            9 => Call::Colour,
+            10 => Call::Matches,
+            11 => Call::Rows,
+            12 => Call::Selector,
+            13 => Call::HeightLength,
+            _ => Call::Unknown,
+        }
+    }
+}
 
-pub const CHECK_PAGE: u32 = 3;
+impl fmt::Display for Call {
+    fn fmt<W: fmt::Write>(&self, f: &mut fmt::Formatter<W>) -> fmt::Result {
+        f.write_str(match self {
+            Call::ReadSheet => "sheet",
+            Call::Compile => "compiled sheet",
+            Call::CheckPage => "page",
+            Call::Style => "style",
+            Call::StyleBook => "style in the book order",
+            Call::Run => "run",
+            Call::CheckBytes => "compiled bytes",
+            Call::StyleAttribute => "style attribute",
+            Call::Colour => "colour attribute",
+            Call::Matches => "selector",
+            Call::Rows => "selector on all rows",
+            Call::Selector => "selector of a sheet",
+            Call::HeightLength => "height",
+            Call::Unknown => "no known call",
+        })
+    }
+}
 
-// The style of an element, by html2text's cascade and in the book order.
-pub const STYLE: u32 = 4;
-
-pub const STYLE_BOOK: u32 = 5;
-
-// The styles of all elements of a page. `out` holds its rows, and in place of the compiled bytes, which it only reads, its state is lent.
-pub const RUN: u32 = 6;
-
-// What only the comparison asks.
-pub const CHECK_BYTES: u32 = 7;
-
-pub const STYLE_ATTRIBUTE: u32 = 8;
-
-pub const COLOUR: u32 = 9;
-
-pub const MATCHES: u32 = 10;
-
-// A selector on each row of a page, whose answers are put into `rules`.
-pub const ROWS: u32 = 11;
-
-// The selector of a sheet, which is read first, on a row.
-pub const SELECTOR: u32 = 12;
-
-// An entry point again: the length that a height's value is. Its amount is told as millions and what is left.
-pub const HEIGHT_LENGTH: u32 = 13;
-
-// A call gives so many numbers; where it has fewer, the others are 0.
+/// A call gives so many numbers; where it has fewer, the others are 0.
 pub const RESULTS: usize = 6;
 
+pub type Results = [usize; RESULTS];
+
+/// So many arguments are kept, which no call exceeds.
+pub const ARGUMENTS: usize = 15;
+
 // Arguments of every call: with what the lent buffers are filled, and how long they are.
-pub const FILLING: u32 = 0;
+pub const FILLING: usize = 0;
 
-pub const RULES_LENT: u32 = 1;
+pub const RULES_LENT: usize = 1;
 
-pub const TOKENS_LENT: u32 = 2;
+pub const TOKENS_LENT: usize = 2;
 
-pub const BRACKETS_LENT: u32 = 3;
+pub const BRACKETS_LENT: usize = 3;
 
-pub const TEXTS_LENT: u32 = 4;
+pub const TEXTS_LENT: usize = 4;
 
-pub const BYTES_LENT: u32 = 5;
+pub const BYTES_LENT: usize = 5;
 
-pub const OUT_LENT: u32 = 6;
+pub const OUT_LENT: usize = 6;
 
 // Behind them the lengths of what is lent to read, in its order, and then other numbers. A sheet, an attribute or compiled bytes have one length, three
 // sheets have three. A page has the numbers of its nodes and of its attributes and the bytes of its text.
-pub const FIRST: u32 = 7;
+pub const FIRST: usize = 7;
 
-pub const SECOND: u32 = 8;
+pub const SECOND: usize = 8;
 
-pub const THIRD: u32 = 9;
+pub const THIRD: usize = 9;
 
 // Behind a page, for a selector: the numbers of its components (of a selector of a sheet, where they start in its rules), the bytes of its texts (of the
 // sheet), and the count of its components.
-pub const COMPONENTS: u32 = 10;
+pub const COMPONENTS: usize = 10;
 
-pub const NAMES: u32 = 11;
+pub const NAMES: usize = 11;
 
-pub const COUNT: u32 = 12;
+pub const COUNT: usize = 12;
 
 // The same for a style: the bytes of its three sheets.
-pub const AGENT: u32 = 10;
+pub const AGENT: usize = 10;
 
-pub const USER: u32 = 11;
+pub const USER: usize = 11;
 
-pub const AUTHOR: u32 = 12;
+pub const AUTHOR: usize = 12;
 
 // Behind either the row, and for a style whether document styles are on.
-pub const ROW: u32 = 13;
+pub const ROW: usize = 13;
 
-pub const DOCUMENT_STYLES: u32 = 14;
+pub const DOCUMENT_STYLES: usize = 14;
 
 // Behind a page, for a run: the compiled bytes, and whether document styles are on.
-pub const SHEET: u32 = 10;
+pub const SHEET: usize = 10;
 
-pub const RUN_DOCUMENT_STYLES: u32 = 11;
+pub const RUN_DOCUMENT_STYLES: usize = 11;

@@ -1,257 +1,102 @@
 // What stands in a buffer: a content is a count of parts, and the parts one behind the other. A part is how much of the buffer it takes and a pattern,
-// which begins anew behind its end; of bytes that is a text, of numbers a list. With an empty pattern it stays what it is. A content is written the same
-// way before a call, where it is lent, and after it, where it is expected: writing tells whether all that is written stood there already.
-use crate::stream::{behind_numbers, number_at, text_at};
-use combinators::bytes::{peek, wide};
-use combinators::texts::part_of;
-use std::num::wrapping_add_usize;
-
-// Beyond a content anything may stand; or one value throughout, of which the vector has the number one higher.
-const ANYTHING: u32 = 0;
+// which begins anew behind its end: a count of elements, and the elements. With an empty pattern it stays what it is. A content is written the same
+// way before a call, where it is lent, and after it, where it is expected; then follows what stands beyond it.
+use crate::stream::Stream;
 
 const BYTE_VALUES: u32 = 256;
 
-// How far a buffer is written, and whether that changed nothing.
-#[derive(Clone, Copy)]
-pub struct Written {
-    pub fill: usize,
-    pub same: bool,
+/// What a buffer has: bytes or numbers.
+pub trait Element: Copy + PartialEq + Drop {
+    /// The element that a number stands for.
+    fn from_number(number: u32) -> Self;
+
+    /// The next element of a pattern.
+    fn read(stream: &mut Stream<'_>) -> Self;
 }
 
-// The same, with the place behind the content in the vector.
-#[derive(Clone, Copy)]
-pub struct Put {
-    pub next: usize,
-    pub fill: usize,
-    pub same: bool,
+impl Element for u8 {
+    fn from_number(number: u32) -> Self {
+        (number % BYTE_VALUES) as u8
+    }
+
+    fn read(stream: &mut Stream<'_>) -> Self {
+        stream.byte()
+    }
 }
 
-// The place behind what was expected, and whether it came.
-#[derive(Clone, Copy)]
-pub struct Verdict {
-    pub next: usize,
-    pub same: bool,
+impl Element for u32 {
+    fn from_number(number: u32) -> Self {
+        number
+    }
+
+    fn read(stream: &mut Stream<'_>) -> Self {
+        stream.number()
+    }
 }
 
-// `same`, unless two values differ.
-fn still(same: bool, a: u32, b: u32) -> bool {
-    if a == b {
+/// Writes the content that comes next into a buffer, as far as the buffer goes.
+pub fn lend<E: Element>(stream: &mut Stream<'_>, buffer: &mut [E]) {
+    for_each(stream, |i: usize, element: E| {
+        if let Some(slot) = buffer.get_mut(i) {
+            *slot = element;
+        }
+    });
+}
+
+/// Whether a buffer has the content that comes next, and beyond it what then comes: anything, or one value throughout.
+pub fn is_expected<E: Element>(stream: &mut Stream<'_>, buffer: &[E]) -> bool {
+    let mut same = true;
+    let taken = for_each(stream, |i: usize, element: E| {
+        same = same && buffer.get(i).is_some_and(|there| *there == element);
+    });
+    let Some(number) = stream.expected() else {
         return same;
-    }
-    false
+    };
+    let value = E::from_number(number);
+    let beyond = buffer.get(taken..).unwrap_or_default();
+    same && beyond.iter().all(|element| *element == value)
 }
 
-pub fn both(a: bool, b: bool) -> bool {
-    if a {
-        return b;
+// Calls `f` with each element of the content that comes next, and where in the buffer it stands; how much of the buffer the content takes.
+fn for_each<E: Element, F: FnMut(usize, E) + Drop>(stream: &mut Stream<'_>, mut f: F) -> usize
+    requires { (state : F) (i : _) (element : _) → F.pre state i element }
+{
+    let mut fill: usize = 0;
+    for _ in 0..stream.number() {
+        let total = stream.number() as usize;
+        for_each_of_part(stream, fill, total, &mut f);
+        fill = fill.saturating_add(total);
     }
-    false
+    fill
 }
 
-// The place behind `k` in a pattern of `n`, where the last is followed by the first.
-fn turned(k: usize, n: usize) -> usize {
-    let next = wrapping_add_usize(k, 1);
-    if next < n {
-        return next;
-    }
-    0
-}
-
-// Where the number `k` of a list lies: at `start`, or at `next`, behind the number before it.
-fn list_place(k: usize, start: usize, next: usize) -> usize {
-    if k == 0 {
-        return start;
-    }
-    next
-}
-
-// A part that stays what it is.
-fn passed_over(from: usize, total: u32, same: bool) -> Written {
-    Written {
-        fill: wrapping_add_usize(from, total as usize),
-        same,
-    }
-}
-
-// ---- bytes
-
-// Writes `total` bytes of a pattern.
-fn put_text(pattern: &[u8], total: u32, buffer: &mut [u8], from: usize, kept: bool) -> Written {
-    if pattern.len() == 0 {
-        return passed_over(from, total, kept);
-    }
-    let mut fill = from;
-    let mut same = kept;
-    let mut k = 0;
-    let mut left = total;
-    while left > 0 {
-        if fill >= buffer.len() {
-            return Written { fill, same: false };
-        }
-        let b = peek(pattern, k);
-        same = still(same, wide(buffer[fill]), wide(b));
-        buffer[fill] = b;
-        fill += 1;
-        k = turned(k, pattern.len());
-        left -= 1;
-    }
-    Written { fill, same }
-}
-
-// Writes the content at `at`.
-pub fn put_bytes(s: &[u8], at: usize, buffer: &mut [u8]) -> Put {
-    let parts = number_at(s, at);
-    let mut next = parts.next;
-    let mut fill = 0;
-    let mut same = true;
-    let mut left = parts.value;
-    while left > 0 {
-        let total = number_at(s, next);
-        let text = text_at(s, total.next);
-        let pattern = part_of(s, text.start, text.size);
-        let written = put_text(pattern, total.value, buffer, fill, same);
-        fill = written.fill;
-        same = written.same;
-        next = text.next;
-        left -= 1;
-    }
-    Put { next, fill, same }
-}
-
-// Writes `b` from `from` to the end; whether it stood there already.
-fn fill_bytes(buffer: &mut [u8], from: usize, b: u8) -> bool {
-    let mut i = from;
-    let mut same = true;
-    while i < buffer.len() {
-        same = still(same, wide(buffer[i]), wide(b));
-        buffer[i] = b;
-        i += 1;
-    }
-    same
-}
-
-pub fn byte_of(n: u32) -> u8 {
-    (n % BYTE_VALUES) as u8
-}
-
-// Holds a buffer against the content at `at` and what is to stand beyond it.
-pub fn settle_bytes(s: &[u8], at: usize, buffer: &mut [u8]) -> Verdict {
-    let put = put_bytes(s, at, buffer);
-    let beyond = number_at(s, put.next);
-    let next = beyond.next;
-    if beyond.value == ANYTHING {
-        return Verdict {
-            next,
-            same: put.same,
-        };
-    }
-    let rest = fill_bytes(buffer, put.fill, byte_of(beyond.value - 1));
-    Verdict {
-        next,
-        same: both(put.same, rest),
-    }
-}
-
-// ---- numbers
-
-// Writes `total` numbers of the list of `count` numbers at `start`.
-fn put_list(
-    s: &[u8],
+// The same for the `total` elements of a part, the first of which stands at `start`.
+fn for_each_of_part<E: Element, F: FnMut(usize, E) + Drop>(
+    stream: &mut Stream<'_>,
     start: usize,
-    count: usize,
-    total: u32,
-    buffer: &mut [u32],
-    from: usize,
-    kept: bool,
-) -> Written {
+    total: usize,
+    mut f: F,
+)
+    requires { (state : F) (i : _) (element : _) → F.pre state i element }
+{
+    let count = stream.number() as usize;
+    let pattern = *stream;
+    skip::<E>(stream, count);
     if count == 0 {
-        return passed_over(from, total, kept);
+        return;
     }
-    let mut fill = from;
-    let mut same = kept;
-    let mut place = start;
-    let mut k = 0;
-    let mut left = total;
-    while left > 0 {
-        if fill >= buffer.len() {
-            return Written { fill, same: false };
+    let mut turn = pattern;
+    for i in 0..total {
+        if i % count == 0 {
+            turn = pattern;
         }
-        let number = number_at(s, place);
-        same = still(same, buffer[fill], number.value);
-        buffer[fill] = number.value;
-        fill += 1;
-        k = turned(k, count);
-        place = list_place(k, start, number.next);
-        left -= 1;
-    }
-    Written { fill, same }
-}
-
-// Writes the content at `at`.
-pub fn put_numbers(s: &[u8], at: usize, buffer: &mut [u32]) -> Put {
-    let parts = number_at(s, at);
-    let mut next = parts.next;
-    let mut fill = 0;
-    let mut same = true;
-    let mut left = parts.value;
-    while left > 0 {
-        let total = number_at(s, next);
-        let count = number_at(s, total.next);
-        let start = count.next;
-        let written = put_list(
-            s,
-            start,
-            count.value as usize,
-            total.value,
-            buffer,
-            fill,
-            same,
-        );
-        fill = written.fill;
-        same = written.same;
-        next = behind_numbers(s, start, count.value);
-        left -= 1;
-    }
-    Put { next, fill, same }
-}
-
-// Writes `n` from `from` to the end; whether it stood there already.
-fn fill_numbers(buffer: &mut [u32], from: usize, n: u32) -> bool {
-    let mut i = from;
-    let mut same = true;
-    while i < buffer.len() {
-        same = still(same, buffer[i], n);
-        buffer[i] = n;
-        i += 1;
-    }
-    same
-}
-
-// Holds a buffer against the content at `at` and what is to stand beyond it.
-pub fn settle_numbers(s: &[u8], at: usize, buffer: &mut [u32]) -> Verdict {
-    let put = put_numbers(s, at, buffer);
-    let beyond = number_at(s, put.next);
-    let next = beyond.next;
-    if beyond.value == ANYTHING {
-        return Verdict {
-            next,
-            same: put.same,
-        };
-    }
-    let rest = fill_numbers(buffer, put.fill, beyond.value - 1);
-    Verdict {
-        next,
-        same: both(put.same, rest),
+        f(start.saturating_add(i), E::read(&mut turn));
     }
 }
 
-// The `n` numbers from `start` on, or as many as there are.
-pub fn piece(numbers: &[u32], start: usize, n: usize) -> &[u32] {
-    if numbers.len() < start {
-        return &numbers[..0];
+// Reads over the elements of a pattern.
+fn skip<E: Element>(stream: &mut Stream<'_>, count: usize) {
+    for _ in 0..count {
+        E::read(stream);
     }
-    if numbers.len() - start < n {
-        return &numbers[start..];
-    }
-    &numbers[start..start + n]
 }

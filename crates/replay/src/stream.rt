@@ -1,7 +1,5 @@
 // The bytes of vectors: numbers, which are groups of seven bits, highest first, the top bit set on all but the last; and texts, a length and so many
 // bytes. What is past the end reads as nothing, so that every reader answers.
-use combinators::bytes::wide;
-use std::num::wrapping_add_usize;
 
 // A group has seven bits, and the top bit says that another follows.
 const GROUP: u32 = 128;
@@ -11,61 +9,51 @@ const TOP: u8 = 128;
 // What is kept of a number before a group is added: so much that the sum has 32 bits.
 const KEPT: u32 = 0x0200_0000;
 
+/// The bytes that are left to read.
 #[derive(Clone, Copy)]
-pub struct Number {
-    pub value: u32,
-    pub next: usize,
+pub struct Stream<'a> {
+    rest: &'a [u8],
 }
 
-#[derive(Clone, Copy)]
-pub struct Text {
-    pub start: usize,
-    pub size: usize,
-    pub next: usize,
-}
+impl<'a> Stream<'a> {
+    pub fn new(bytes: &'a [u8]) -> Self {
+        Stream { rest: bytes }
+    }
 
-pub fn number_at(s: &[u8], at: usize) -> Number {
-    let mut value: u32 = 0;
-    let mut i = at;
-    while i < s.len() {
-        let b = s[i];
-        value = (value % KEPT) * GROUP + wide(b % TOP);
-        i += 1;
-        if b < TOP {
-            return Number { value, next: i };
+    pub fn len(&self) -> usize {
+        self.rest.len()
+    }
+
+    pub fn number(&mut self) -> u32 {
+        let mut value = 0;
+        while let Some((byte, rest)) = self.rest.split_first() {
+            self.rest = rest;
+            value = value % KEPT * GROUP + u32::from(*byte % TOP);
+            if *byte < TOP {
+                break;
+            }
         }
+        value
     }
-    Number { value, next: i }
-}
 
-pub fn text_at(s: &[u8], at: usize) -> Text {
-    let length = number_at(s, at);
-    let size = length.value as usize;
-    Text {
-        start: length.next,
-        size,
-        next: wrapping_add_usize(length.next, size),
+    /// A number that may be anything, which is written as 0, or else is written as the number one higher.
+    pub fn expected(&mut self) -> Option<u32> {
+        self.number().checked_sub(1)
     }
-}
 
-// The place behind `count` numbers.
-pub fn behind_numbers(s: &[u8], at: usize, count: u32) -> usize {
-    let mut place = at;
-    let mut left = count;
-    while left > 0 {
-        let number = number_at(s, place);
-        place = number.next;
-        left -= 1;
+    pub fn byte(&mut self) -> u8 {
+        let Some((byte, rest)) = self.rest.split_first() else {
+            return 0;
+        };
+        self.rest = rest;
+        *byte
     }
-    place
-}
 
-// The number that has `k` before it.
-pub fn number_argument(s: &[u8], at: usize, k: u32) -> u32 {
-    let number = number_at(s, behind_numbers(s, at, k));
-    number.value
-}
-
-pub fn argument(s: &[u8], at: usize, k: u32) -> usize {
-    number_argument(s, at, k) as usize
+    /// A text, which is empty if it is not UTF-8.
+    pub fn words(&mut self) -> &'a str {
+        let size = self.number() as usize;
+        let (text, rest) = self.rest.split_at(size.min(self.rest.len()));
+        self.rest = rest;
+        str::from_utf8(text).unwrap_or_default()
+    }
 }

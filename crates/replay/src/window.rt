@@ -1,61 +1,56 @@
 // A window over standard input, so that any number of vectors can be read.
-ghost use Rattle.std.specs.Prelude.{◌≤◌, length};
+ghost use Rattle.std.specs.Prelude.{◌≤◌};
+ghost use Rattle.replay.specs.declared.window.TheConstants.{WINDOW};
 
-use std::io::Stdin;
+use std::io::Read;
 use streams::read_full;
 
 // A window's bytes. A vector that starts in its first half ends in it: none has as many bytes as a half.
-pub const WINDOW: usize = 65536;
+const WINDOW: usize = 65536;
 
 const HALF: usize = 32768;
 
-// How far the window is read, and how many bytes it holds.
-#[derive(Clone, Copy)]
-pub struct Place {
-    pub at: usize,
-    pub held: usize,
+/// The bytes of the window, how far they are read, and how many there are.
+#[derive(Drop)]
+pub struct Window {
+    bytes: [u8; WINDOW],
+    at: usize,
+    held: usize,
+    ghost read: { at ≤ held },
+    ghost filled: { held ≤ WINDOW },
 }
 
-fn least(a: usize, b: usize) -> usize
-    ensures upper_bound { result ≤ a }
-    ensures upper_bound_2 { result ≤ b }
-{
-    if a < b {
-        return a;
+impl Window {
+    pub fn new() -> Self {
+        Window {
+            bytes: [0; WINDOW],
+            at: 0,
+            held: 0,
+        }
     }
-    b
-}
 
-// Moves the bytes from `at` to `held` to the front; how many there are.
-fn move_to_front(window: &mut [u8], at: usize, held: usize) -> usize
-    ensures { result ≤ length window.new }
-{
-    let end = least(held, window.len());
-    let mut from = at;
-    let mut i = 0;
-    while from < end {
-        window[i] = window[from];
-        from += 1;
-        i += 1;
+    /// The bytes that are not yet read.
+    pub fn rest(&self) -> &[u8] {
+        &self.bytes[self.at..self.held]
     }
-    i
-}
 
-// Moves what is left from `at` on to the front, and fills the window up; how many bytes it holds then.
-pub fn refill(input: Stdin, window: &mut [u8], at: usize, held: usize) -> usize {
-    let left = move_to_front(window, at, held);
-    let more = read_full(input, &mut window[left..]);
-    left + more
-}
-
-// Moves the window on, if it is read to its second half.
-pub fn move_on(input: Stdin, window: &mut [u8], at: usize, held: usize) -> Place {
-    if at < HALF {
-        return Place { at, held };
+    /// Goes on to the last `left` bytes of the window.
+    pub fn leave(&mut self, left: usize) {
+        self.at = self.held - left.min(self.held);
     }
-    let filled = refill(input, window, at, held);
-    Place {
-        at: 0,
-        held: filled,
+
+    /// Moves the window on, if it is read to its second half: what is left goes to the front, and the window is filled up.
+    pub fn move_on<R: Read>(&mut self, input: &mut R) {
+        if self.at >= HALF {
+            self.fill(input);
+        }
+    }
+
+    pub fn fill<R: Read>(&mut self, input: &mut R) {
+        let left = self.held - self.at;
+        self.bytes.copy_within(self.at..self.held, 0);
+        let more = read_full(input, &mut self.bytes[left..]);
+        self.at = 0;
+        self.held = left + more;
     }
 }

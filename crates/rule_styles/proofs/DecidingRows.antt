@@ -1,12 +1,13 @@
 -- What the code for the styles that decide leaves: one style sifted, many read from their rows, and the rows of those that decide.
 use mathlib.Core.Path.{◌≡◌, refl, sym, ap, subst, ◌∙◌}
-use mathlib.Core.Bool.{Bool, true, false, ◌||◌}
+use mathlib.Core.Bool.{Bool, true, false}
+use Rattle.std.proofs.Common.{Option, Some, None, is_some}
 use mathlib.Core.List.{List, [], ◌∷◌, ◌++◌, foldl}
 use Prim.Native.Nat.{ℕ, zero, suc, ◌+◌, ◌-◌, ◌*◌, ◌≤◌, ◌<◌}
 use native.Mathlib.Omega.{arith}
 use lib.ListN.{length, set, drop, length-append}
 use lib.Seq.{sets, length-sets, drop-set-lt, drop-drop}
-use Rattle.combinators.specs.Choice.{pick, or}
+use Rattle.combinators.specs.Choice.{or}
 use Rattle.combinators.proofs.Rules.{pick_true, pick-false, is-yes, is-no}
 use Rattle.combinators.proofs.Wiped.{sets-append}
 use Rattle.syntax.specs.Layout.{style_width, numbers_at, value_numbers, row_of_numbers}
@@ -23,22 +24,25 @@ use Rattle.rule_styles.specs.Placing.{styled_row, read_styled}
 use Rattle.rule_styles.specs.Sifting.{found_in, sifted_in, DecidingRoom}
 use Rattle.rule_styles.specs.declared.deciding.Sifted as code
 
--- the code's `|` is `or`
-or_same : (a b : Bool) → (a || b) ≡ or a b
+-- the code's `||`, which asks the second where the first is false, is `or`
+pub or-first : (a b : Bool) → a ≡ true → a ≡ or a b
 unfolding or
-or_same true b = refl
-or_same false b = refl
+or-first a b e = rw e
 
--- whether a style was found is the flag that says so
-found-test : (t : Bool) (x : StyleNumbers) → on_found (found_in t x) (λ _. true) false ≡ t
-unfolding found_in on_found pick
-found-test true x = refl
-found-test false x = refl
+pub or-second : (a b c : Bool) → a ≡ false → c ≡ b → c ≡ or a b
+unfolding or
+or-second a b c e f = rw e f
+
+-- whether a style was found is whether there is one
+found-test : (x : Option StyleNumbers) → on_found (found_in x) (λ _. true) false ≡ is_some x
+unfolding found_in on_found
+found-test (Some x) = refl
+found-test None = refl
 
 -- a style that is there
-found-yes : (x : StyleNumbers) → found (in_numbers x) ≡ found_in true x
+found-yes : (x : StyleNumbers) → found (in_numbers x) ≡ found_in (Some x)
 unfolding found_in
-found-yes x = pick_true _ _ _ _ refl refl
+found-yes x = refl
 
 -- sifted styles that agree in all parts
 sifted-same : (n m i j : Found (Styled Value)) (b c : Bool) → n ≡ m → i ≡ j → b ≡ c
@@ -53,18 +57,17 @@ module _ (s : code.Sifted) (k : ℕ) (x : StyleNumbers) where
   sifted-away n = pick-false _ _ _ _ (is-no x.slot k n) refl
 
   -- an important style for the slot becomes its important one, which lies behind the normal one where there was one before
-  pub sifted-important : x.slot ≡ k → x.important ≡ true
-      → sifted_in (record { has_normal = s.has_normal; normal = s.normal; has_important = true; important = x; behind = s.behind || s.has_normal })
-      ≡ sift k (sifted_in s) (in_numbers x)
+  pub sifted-important : x.slot ≡ k → x.important ≡ true → (b : Bool) → b ≡ or s.behind (is_some s.normal)
+      → sifted_in (record { normal = s.normal; important = Some x; behind = b }) ≡ sift k (sifted_in s) (in_numbers x)
   unfolding sift sifted_in
-  sifted-important h e =
+  sifted-important h e b o =
       pick_true _ _ _ _ (unfold in_numbers in is-yes x.slot k h)
       (pick_true _ _ _ _ (unfold in_numbers in e)
-      (sifted-same _ _ _ _ _ _ refl (sym (found-yes x)) (or_same s.behind s.has_normal ∙ ap (or s.behind) (sym (found-test s.has_normal s.normal)))))
+      (sifted-same _ _ _ _ _ _ refl (sym (found-yes x)) (o ∙ ap (or s.behind) (sym (found-test s.normal)))))
 
   -- a normal style for the slot becomes its normal one, and leaves the order of the two as it was
   pub sifted-normal : x.slot ≡ k → x.important ≡ false
-      → sifted_in (record { has_normal = true; normal = x; has_important = s.has_important; important = s.important; behind = s.behind })
+      → sifted_in (record { normal = Some x; important = s.important; behind = s.behind })
       ≡ sift k (sifted_in s) (in_numbers x)
   unfolding sift sifted_in
   sifted-normal h e =
@@ -73,9 +76,9 @@ module _ (s : code.Sifted) (k : ℕ) (x : StyleNumbers) where
 
 -- ---- many, read from their rows
 -- before any style is read, neither a normal nor an important one is known
-pub sifted-nothing : (a b : StyleNumbers) → sifted_in (record { has_normal = false; normal = a; has_important = false; important = b; behind = false }) ≡ nothing_sifted
-unfolding sifted_in nothing_sifted found_in pick
-sifted-nothing a b = refl
+sifted-nothing : sifted_in (record { normal = None; important = None; behind = false }) ≡ nothing_sifted
+unfolding sifted_in nothing_sifted found_in
+sifted-nothing = refl
 
 module _ (rows : List ℕ) (k : ℕ) where
   -- what is known with the styles that are left
@@ -88,6 +91,10 @@ module _ (rows : List ℕ) (k : ℕ) where
   sift-none s zero place h = refl
   sift-none s (suc left) place h = absurd (omega arith)
 
+  -- before the first style all are left
+  pub sift-begin : (n count place : ℕ) → n ≡ count → sifted_from (sifted_in (record { normal = None; important = None; behind = false })) n place ≡ sifted_from nothing_sifted count place
+  sift-begin n count place e = rw (e, sifted-nothing)
+
   -- the first of those that are left
   sift-first : (s : Sifted Value) (left place : ℕ) → sifted_from s (suc left) place ≡ sifted_from (sift k s (in_numbers (numbers_at (drop place rows)))) left (place + style_width)
   unfolding read_many read_styled
@@ -95,14 +102,13 @@ module _ (rows : List ℕ) (k : ℕ) where
       ap (λ (t : List ℕ). foldl (sift k) (sift k s (in_numbers (numbers_at (drop place rows)))) (read_many read_styled left t).value) (drop-drop style_width place rows)
 
   -- the style at the place, sifted into what is known, with one style less left, leaves the same result
-  pub sift-more : (s n : code.Sifted) (left place behind : ℕ) (x : StyleNumbers) (all : Sifted Value) → 0 < left
+  pub sift-more : (s n : code.Sifted) (left fewer place behind : ℕ) (x : StyleNumbers) (all : Sifted Value) → left ≡ suc fewer
       → x ≡ numbers_at (drop place rows) → sifted_in n ≡ sift k (sifted_in s) (in_numbers x) → drop behind rows ≡ drop (place + style_width) rows
-      → sifted_from (sifted_in s) left place ≡ all → sifted_from (sifted_in n) (left - 1) behind ≡ all
-  sift-more s n left place behind x all h e f g a =
-      let z : left ≡ suc (left - 1) = omega arith in
-      ap (λ (t : List ℕ). foldl (sift k) (sifted_in n) (read_many read_styled (left - 1) t).value) g
-      ∙ ap (λ (q : Sifted Value). sifted_from q (left - 1) (place + style_width)) (f ∙ ap (λ (y : StyleNumbers). sift k (sifted_in s) (in_numbers y)) e)
-      ∙ sym (sift-first (sifted_in s) (left - 1) place)
+      → sifted_from (sifted_in s) left place ≡ all → sifted_from (sifted_in n) fewer behind ≡ all
+  sift-more s n left fewer place behind x all z e f g a =
+      ap (λ (t : List ℕ). foldl (sift k) (sifted_in n) (read_many read_styled fewer t).value) g
+      ∙ ap (λ (q : Sifted Value). sifted_from q fewer (place + style_width)) (f ∙ ap (λ (y : StyleNumbers). sift k (sifted_in s) (in_numbers y)) e)
+      ∙ sym (sift-first (sifted_in s) fewer place)
       ∙ ap (λ (m : ℕ). sifted_from (sifted_in s) m place) (sym z)
       ∙ a
 
@@ -123,14 +129,14 @@ abbrev pub Written : List ℕ → List ℕ → ℕ → ℕ → ℕ → List (Sty
 Written rows left at n most xs = (left ≡ sets rows at (texts_many styled_row xs)) × ((n ≡ length xs) × (n ≤ most))
 
 -- a style that is there
-pub found-written : (rows left : List ℕ) (at : ℕ) (t : Bool) (x : StyleNumbers) → t ≡ true → left ≡ sets rows at (row_of_numbers x) → Written rows left at 1 1 (listed (found_in t x))
-unfolding texts_many listed on_found found_in pick styled_row in_numbers row_of_numbers value_numbers
-found-written rows left at t x e f = rw e (f, (refl, omega arith))
+pub found-written : (rows left : List ℕ) (at : ℕ) (o : Option StyleNumbers) (x : StyleNumbers) → o ≡ Some x → left ≡ sets rows at (row_of_numbers x) → Written rows left at 1 1 (listed (found_in o))
+unfolding texts_many listed on_found found_in styled_row in_numbers row_of_numbers value_numbers
+found-written rows left at o x e f = rw e (f, (refl, omega arith))
 
 -- a style that is not there writes nothing
-pub missing-written : (rows : List ℕ) (at : ℕ) (t : Bool) (x : StyleNumbers) → t ≡ false → Written rows rows at 0 1 (listed (found_in t x))
-unfolding texts_many listed on_found found_in pick
-missing-written rows at t x e = rw e (refl, (refl, omega arith))
+pub missing-written : (rows : List ℕ) (at : ℕ) (o : Option StyleNumbers) → o ≡ None → Written rows rows at 0 1 (listed (found_in o))
+unfolding texts_many listed on_found found_in
+missing-written rows at o e = rw e (refl, (refl, omega arith))
 
 -- at most one style written, and at most one behind it, are at most two written one behind the other
 pub both-written : (rows one left : List ℕ) (at n m : ℕ) (xs ys : List (Styled Value)) → Written rows one at n 1 xs → Written one left (at + n * style_width) m 1 ys → Written rows left at (n + m) 2 (xs ++ ys)
@@ -147,19 +153,19 @@ both-written rows one left at n m xs ys p q =
 -- the order of the two kinds
 module _ (rows left : List ℕ) (at n : ℕ) (s : code.Sifted) where
   -- where it lies behind, the important style is written behind the normal one
-  pub sifted-behind : s.behind ≡ true → Written rows left at n 2 (listed (found_in s.has_normal s.normal) ++ listed (found_in s.has_important s.important))
+  pub sifted-behind : s.behind ≡ true → Written rows left at n 2 (listed (found_in s.normal) ++ listed (found_in s.important))
       → Written rows left at n 2 (sifted_styles (sifted_in s))
   unfolding sifted_styles sifted_in
   sifted-behind e w =
-      let z = pick_true (listed (found_in s.has_normal s.normal) ++ listed (found_in s.has_important s.important)) _ (listed (found_in s.has_important s.important) ++ listed (found_in s.has_normal s.normal)) s.behind e refl in
+      let z = pick_true (listed (found_in s.normal) ++ listed (found_in s.important)) _ (listed (found_in s.important) ++ listed (found_in s.normal)) s.behind e refl in
       subst (Written rows left at n 2) z w
 
   -- where it does not lie behind, the important style is written before the normal one
-  pub sifted-before : s.behind ≡ false → Written rows left at n 2 (listed (found_in s.has_important s.important) ++ listed (found_in s.has_normal s.normal))
+  pub sifted-before : s.behind ≡ false → Written rows left at n 2 (listed (found_in s.important) ++ listed (found_in s.normal))
       → Written rows left at n 2 (sifted_styles (sifted_in s))
   unfolding sifted_styles sifted_in
   sifted-before e w =
-      let z = pick-false (listed (found_in s.has_important s.important) ++ listed (found_in s.has_normal s.normal)) (listed (found_in s.has_normal s.normal) ++ listed (found_in s.has_important s.important)) _ s.behind e refl in
+      let z = pick-false (listed (found_in s.important) ++ listed (found_in s.normal)) (listed (found_in s.normal) ++ listed (found_in s.important)) _ s.behind e refl in
       subst (Written rows left at n 2) z w
 
 -- ---- the rows of all that decide

@@ -6,9 +6,9 @@ use mathlib.Core.Logic.{⊎_elim}
 use Prim.Native.Nat.{ℕ, ◌≤◌, ◌<◌}
 use lib.Dec.{ltb}
 use lib.ListN.{length}
-use borrow.Author.Tests.{lt-ltb}
+use borrow.Author.Tests.{lt-ltb, le-ltb}
 use Rattle.combinators.specs.Choice.{pick}
-use Rattle.combinators.proofs.Rules.{pick-false, and-gives, lt-or-ge}
+use Rattle.combinators.proofs.Rules.{pick-false, and_left, and-gives, lt-or-ge}
 use Rattle.syntax.specs.Selector.{Selector}
 use Rattle.syntax.specs.RuleLayout.{pseudo_number}
 use Rattle.syntax.specs.declared.styles.Value.{Value}
@@ -18,7 +18,6 @@ use Rattle.cascade.specs.Slot.{Slot, update_by}
 use Rattle.cascade.specs.Record.{slot_count, record_count, Record, ComputedStyle, Formed, update_record, update_style, Declared, is_named, merge_by, Styled, RuleStyle, from_rule}
 use Rattle.cascade.specs.Row.{row_of}
 use Rattle.cascade.proofs.RowLaws.{Which, is_main, is_before, is_after, which, update-main, update-before, update-after}
-use Rattle.cascade.proofs.Merging.{no_record}
 use Rattle.cascade.proofs.Cascading.{merges-formed}
 use Rattle.cascade.proofs.RowBack.{merges-layout}
 use Rattle.page.specs.Path.{Path}
@@ -33,6 +32,11 @@ use Rattle.rule_styles.proofs.DecidingRecord.{merged_into, record-decided}
 -- what the styles of a rule declare
 abbrev pub declared_in : {A : Type 0} → ℕ → ℕ → Specificity → List (Styled A) → List (Declared A)
 declared_in o r p xs = map (from_rule o) (map (rule_style r p) xs)
+
+-- a record that there is not is not named
+no_record : (r k : ℕ) → record_count ≤ r → is_named r k ≡ false
+unfolding is_named
+no_record r k h = and_left _ _ (le-ltb r record_count h)
 
 module _ {A : Type 0} (c : Cascade) (o r : ℕ) (p : Specificity) where
   -- one style merged into a computed style

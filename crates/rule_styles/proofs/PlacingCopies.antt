@@ -1,11 +1,11 @@
--- Copies within the store of texts: what is stored behind a part leaves it alone, the loop of `copy_up`, and the returns of `copy_part`.
+-- Copies within the store of texts: what is stored behind a part leaves it alone, what is copied behind itself, and the returns of `copy_part`.
 use mathlib.Core.Path.{◌≡◌, refl, sym, ap, ◌∙◌}
-use mathlib.Core.List.{List, [], ◌∷◌}
+use mathlib.Core.List.{List, [], ◌∷◌, ◌++◌}
 use Prim.Native.Nat.{ℕ, zero, suc, ◌+◌, ◌-◌, ◌≤◌, ◌<◌}
-use native.Mathlib.Nat.{add-zero}
 use native.Mathlib.Omega.{arith}
-use lib.ListN.{length, get_or, set, take, drop, length-set, length-take, length-drop}
-use lib.Seq.{sets, drop-cons, drop-set-add, take-set-le, take-nil, drop-nil, drop-drop}
+use lib.ListN.{length, set, take, drop, length-take, length-drop}
+use lib.Seq.{sets, sets-eq, drop-set-add, take-set-le, take-nil, drop-nil, drop-drop}
+use Rattle.std.specs.List.{copy_within}
 use Rattle.combinators.specs.Part.{part}
 use Rattle.combinators.proofs.Lists.{nil-of}
 use Rattle.rule_styles.specs.Placing.{sheet_text}
@@ -29,45 +29,14 @@ pub sheet-text-kept : (vs l : List ℕ) (from end to : ℕ) → from ≤ end →
 unfolding sheet_text part
 sheet-text-kept vs l from end to h k = part-sets vs l to from (end - from) (omega arith)
 
--- ---- the loop of `copy_up`: what is left to copy at i, in the store as it is, leaves what the whole leaves
-pub record Copying (store₀ : List ℕ) (from n to : ℕ) (store : List ℕ) (i : ℕ) : Type 0 where
-  pub left : sets store (to + i) (part store (from + i) (n - i)) ≡ sets store₀ to (part store₀ from n)
-  pub long : length store ≡ length store₀
-
--- no byte is copied yet
-pub copying-begin : (store : List ℕ) (from n to : ℕ) → Copying store from n to store 0
-copying-begin store from n to = let d : n - 0 ≡ n = omega arith in record { left = rw (add-zero from, add-zero to, d); long = refl }
-
--- the first byte of a part, and the others
-part-first : (l : List ℕ) (s k : ℕ) → s < length l → get_or l s 0 ∷ part l (suc s) k ≡ part l s (suc k)
+-- the bytes that are copied behind themselves are stored there
+pub copied-up : (store : List ℕ) (from n to : ℕ) → Upward store from n to → copy_within store from (from + n) to ≡ sets store to (part store from n)
 unfolding part
-part-first l s k h = rw (drop-cons l s 0 h)
-
--- a byte, and the others behind it: what is read later lies below what was written
-copied-step : (l : List ℕ) (s d k : ℕ) → s + suc k ≤ d → s < length l
-    → sets (set l d (get_or l s 0)) (suc d) (part (set l d (get_or l s 0)) (suc s) k) ≡ sets l d (part l s (suc k))
-copied-step l s d k h i =
-    ap (λ (r : List ℕ). sets (set l d (get_or l s 0)) (suc d) r) (part-set l d (get_or l s 0) (suc s) k (omega arith)) ∙ ap (sets l d) (part-first l s k i)
-
-module _ (store₀ : List ℕ) (from n to : ℕ) (store : List ℕ) (i : ℕ) (c : Copying store₀ from n to store i) where
-  -- with one byte copied, the bytes behind it are left to copy
-  pub copying-more : Upward store₀ from n to → i < n → Copying store₀ from n to (set store (to + i) (get_or store (from + i) 0)) (i + 1)
-  copying-more r h =
-      let a : to + (i + 1) ≡ suc (to + i) = omega arith in
-      let b : from + (i + 1) ≡ suc (from + i) = omega arith in
-      let d : n - i ≡ suc (n - (i + 1)) = omega arith in
-      record {
-        left = rw (a, b) (copied-step store (from + i) (to + i) (n - (i + 1)) (omega (arith, r.apart)) (omega (arith, r.apart, r.inside, c.long))
-            ∙ ap (λ (k : ℕ). sets store (to + i) (part store (from + i) k)) (sym d) ∙ c.left);
-        long = length-set store (to + i) (get_or store (from + i) 0) ∙ c.long;
-      }
-
-  -- with all n copied, the part lies at its new place too
-  pub copying-done : n ≤ i → store ≡ sets store₀ to (part store₀ from n)
-  unfolding part
-  copying-done h =
-      let d : n - i ≡ 0 = omega arith in
-      ap (λ (k : ℕ). sets store (to + i) (take k (drop (from + i) store))) (sym d) ∙ c.left
+copied-up store from n to r =
+    let xs = take n (drop from store) in
+    let d : from + n - from ≡ n = omega arith in
+    let l : length xs ≡ n = omega (arith, length-take n (drop from store), length-drop from store, r.apart, r.inside) in
+    rw d (sym (sets-eq xs store to (omega (arith, r.inside)) ∙ ap (λ (k : ℕ). take to store ++ xs ++ drop (to + k) store) l))
 
 -- ---- a part of a part
 -- it is a part of the whole
@@ -94,19 +63,27 @@ module _ (texts : List ℕ) (from end start n fill : ℕ) (found : List ℕ) (e 
   same = ap length e
 
   -- a part without bytes copies nothing, and the texts stay
-  pub part-empty : length found ≡ 0 → (texts ≡ sets texts (end + fill) copied) × (0 ≡ length copied)
+  pub part-empty : length found ≤ 0 → (texts ≡ sets texts (end + fill) copied) × (length found ≡ length copied)
   part-empty z =
       let q : copied ≡ [] = nil-of copied (omega (arith, same, z)) in
-      (ap (sets texts (end + fill)) (sym q), omega (arith, same, z))
+      (ap (sets texts (end + fill)) (sym q), same)
 
   -- it has one, so that it lies within the text
-  pub part-inside : ¬ (length found ≡ 0) → from ≤ end → from + start + length found ≤ end
+  pub part-inside : 0 < length found → from ≤ end → from + start + length found ≤ end
   unfolding part
   part-inside z h = omega (arith, z, h, ap length e, part-long (drop from texts) (end - from) start n)
 
   -- and there is room for it
-  pub part_room : ¬ (length found ≡ 0) → ContentsRoom texts from end fill copied → Upward texts (from + start) (length found) (end + fill)
+  pub part_room : 0 < length found → ContentsRoom texts from end fill copied → Upward texts (from + start) (length found) (end + fill)
   part_room z r = record { apart = omega (arith, part-inside z r.ordered); inside = omega (arith, same, r.room) }
+
+  -- in the form in which it is asked for
+  pub part-fits : 0 < length found → ContentsRoom texts from end fill copied → end + fill + (from + start + length found - (from + start)) ≤ length texts
+  part-fits z r = omega (arith, (part_room z r).inside)
+
+  -- it ends within the store
+  pub part-before : 0 < length found → ContentsRoom texts from end fill copied → from + start + length found ≤ length texts
+  part-before z r = omega (arith, (part_room z r).apart, (part_room z r).inside)
 
   -- then it is copied from where it lies
   part_lies : part texts (from + start) (length copied) ≡ copied
@@ -114,7 +91,7 @@ module _ (texts : List ℕ) (from end start n fill : ℕ) (found : List ℕ) (e 
   part_lies = ap (take (length copied)) (sym (drop-drop start from texts)) ∙ part-within (drop from texts) (end - from) start n
 
   -- so that it is there
-  pub part-copied : (z : List ℕ) → z ≡ sets texts (end + fill) (part texts (from + start) (length found))
+  pub part-copied : 0 < length found → ContentsRoom texts from end fill copied → (z : List ℕ) → z ≡ copy_within texts (from + start) (from + start + length found) (end + fill)
       → (z ≡ sets texts (end + fill) copied) × (length found ≡ length copied)
-  part-copied z p =
-      (p ∙ ap (λ (k : ℕ). sets texts (end + fill) (part texts (from + start) k)) same ∙ ap (sets texts (end + fill)) part_lies, same)
+  part-copied h r z p =
+      (p ∙ copied-up texts (from + start) (length found) (end + fill) (part_room h r) ∙ ap (λ (k : ℕ). sets texts (end + fill) (part texts (from + start) k)) same ∙ ap (sets texts (end + fill)) part_lies, same)

@@ -172,9 +172,9 @@ module _ (rules : List ℕ) (at count : ℕ) (tokens₀ : List ℕ) (place : ℕ
 
   module _ (o : RulesKeptRoom sheet count (drop at rules) tokens₀ place) (r : ContentsRoom texts₀ from end fill (contents_from at count)) where
     -- before the first rule nothing is kept, and all rules are left
-    pub styling-begin : Styling tokens₀ texts₀ at place fill count
-    styling-begin =
-        record {
+    pub styling-begin : (n : ℕ) → n ≡ count → Styling tokens₀ texts₀ at place fill n
+    styling-begin n e =
+        rw e (record {
           kept-left = refl;
           place-left = refl;
           texts-left = refl;
@@ -184,7 +184,7 @@ module _ (rules : List ℕ) (at count : ℕ) (tokens₀ : List ℕ) (place : ℕ
           room = o;
           row-length = refl;
           text-length = refl;
-        }
+        })
 
     module _ (tokens texts : List ℕ) (rows p f : ℕ) where
       -- the rules that are left
@@ -227,14 +227,11 @@ module _ (rules : List ℕ) (at count : ℕ) (tokens₀ : List ℕ) (place : ℕ
       styling-room (suc k) c h = next-room k c
 
       -- a turn: the next rule is kept, with its contents, and the rules behind it are left
-      pub styling-more : (n : ℕ) → Styling tokens texts rows p f n → 0 < n → (w z : List ℕ) (x : Placed)
+      pub styling-more : (n m : ℕ) → Styling tokens texts rows p f n → n ≡ suc m → (w z : List ℕ) (x : Placed)
           → w ≡ sets tokens p (kept (deciding (styles_placed (sheet_text texts from end) f t))) → z ≡ sets texts (end + f) (contents_at (sheet_text texts from end) t)
           → x ≡ record { place = p + length (kept (deciding (styles_placed (sheet_text texts from end) f t))); fill = f + length (contents_at (sheet_text texts from end) t) }
-          → (next : ℕ) → ((store : List ℕ) → drop next rules ≡ (read_rule store t).rest) → Styling w z next x.place x.fill (n - 1)
-      styling-more zero c h w z x ew ez ex next d = absurd (omega arith)
-      styling-more (suc k) c h w z x ew ez ex next d =
-          let q : suc k - 1 ≡ k = omega arith in
-          rw (q, ex, c.same) (next-kept k c w z (rw c.same at ew) (rw c.same at ez) next (d sheet))
+          → (next : ℕ) → ((store : List ℕ) → drop next rules ≡ (read_rule store t).rest) → Styling w z next x.place x.fill m
+      styling-more n m c h w z x ew ez ex next d = rw (ex, c.same) (next-kept m (rw h at c) w z (rw c.same at ew) (rw c.same at ez) next (d sheet))
 
       -- when no rule is left, the styles of all are kept, their contents are stored, and all three places are behind them
       pub styling-done : (n : ℕ) → Styling tokens texts rows p f n → n ≤ 0

@@ -1,7 +1,7 @@
 -- Returns of `place_style`, and the loop of `place_styles`.
 use mathlib.Core.Path.{◌≡◌, refl, sym, ap, ◌∙◌}
 use mathlib.Core.List.{List, [], ◌∷◌, ◌++◌}
-use Prim.Native.Nat.{ℕ, zero, suc, ◌+◌, ◌-◌, ◌*◌, ◌^◌, ◌≤◌, ◌<◌}
+use Prim.Native.Nat.{ℕ, zero, suc, ◌+◌, ◌*◌, ◌^◌, ◌≤◌, ◌<◌}
 use native.Mathlib.Nat.{add-zero}
 use native.Mathlib.Omega.{arith}
 use lib.ListN.{length, set, drop, length-append}
@@ -141,8 +141,8 @@ module _ (tokens₀ : List ℕ) (at count : ℕ) (texts₀ : List ℕ) (from end
 
   module _ (s : StyleRowsRoom tokens₀ at count) (r : ContentsRoom texts₀ from end fill (contents_from tokens₀ at count)) where
     -- before the first style none is placed, and all are left
-    pub placing-begin : Placing tokens₀ texts₀ fill at count
-    placing-begin = record { rows_left = refl; texts-left = refl; fill-left = refl; same = refl; row_room = s.room; row-length = refl; text-length = refl }
+    pub placing-begin : (n : ℕ) → n ≡ count → Placing tokens₀ texts₀ fill at n
+    placing-begin n e = rw e (record { rows_left = refl; texts-left = refl; fill-left = refl; same = refl; row_room = s.room; row-length = refl; text-length = refl })
 
     module _ (tokens texts : List ℕ) (f place : ℕ) where
       -- the numbers of the next style that is to be placed
@@ -191,13 +191,10 @@ module _ (tokens₀ : List ℕ) (at count : ℕ) (texts₀ : List ℕ) (from end
       placing-room (suc k) c h = next-room k c
 
       -- a turn: the next style is placed, with its content, and the styles behind it are left
-      pub placing-more : (n : ℕ) → Placing tokens texts f place n → 0 < n → (t z : List ℕ) (g : ℕ)
+      pub placing-more : (n m : ℕ) → Placing tokens texts f place n → n ≡ suc m → (t z : List ℕ) (g : ℕ)
           → t ≡ sets tokens place (row_of_numbers (placed_numbers (sheet_text texts from end) f x)) → z ≡ sets texts (end + f) (content_of (sheet_text texts from end) x)
-          → g ≡ f + length (content_of (sheet_text texts from end) x) → Placing t z g (place + style_width) (n - 1)
-      placing-more zero c h t z g et ez eg = absurd (omega arith)
-      placing-more (suc k) c h t z g et ez eg =
-          let q : suc k - 1 ≡ k = omega arith in
-          rw q (next-placed k c t z g (rw c.same at et) (rw c.same at ez) (rw c.same at eg))
+          → g ≡ f + length (content_of (sheet_text texts from end) x) → Placing t z g (place + style_width) m
+      placing-more n m c h t z g et ez eg = next-placed m (rw h at c) t z g (rw c.same at et) (rw c.same at ez) (rw c.same at eg)
 
       -- when no style is left, the rows of all are placed, their contents are stored, and the fill is behind them
       pub placing-done : (n : ℕ) → Placing tokens texts f place n → n ≤ 0

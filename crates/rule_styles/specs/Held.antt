@@ -1,5 +1,5 @@
 -- Three sheets that were read and lie in the stores of a call: their rules, and what the call keeps of them.
-use Rattle.std.specs.Prelude.{ℕ, ◌+◌, ◌*◌, ◌^◌, ◌≤◌, ◌<◌, ◌≡◌, List, ◌++◌, length}
+use Rattle.std.specs.Prelude.{ℕ, ◌+◌, ◌*◌, ◌^◌, ◌≤◌, ◌<◌, ◌≡◌, Ok, List, ◌++◌, length}
 use Rattle.std.proofs.lemmas.List.Edits.{sets}
 use Rattle.combinators.specs.LeastLengths.{text_least, bracket_least, number_least}
 use Rattle.combinators.specs.Store.{cleared}
@@ -8,7 +8,6 @@ use Rattle.syntax.specs.Selector.{RuleSet}
 use Rattle.origins.specs.Checks.{Lent}
 use Rattle.origins.specs.Reading.{sheets_of, sheets_rows, sheets_texts, sheets_answer, rules_from}
 use Rattle.origins.specs.declared.reading.SheetsRules.{SheetsRules}
-use Rattle.origins.specs.declared.reading.SheetsRead.TheVariants as all
 use Rattle.page.specs.Path.{Path}
 use Rattle.styles.specs.Room.{values_along, attributes_along}
 use Rattle.styles.specs.Said.{Rules}
@@ -30,7 +29,7 @@ pub record SheetsHeld (s : SheetsRules) (rows tokens texts : List ℕ) : Type 0 
   pub brackets₀ : List ℕ
   pub texts₀ : List ℕ
   pub lent : Lent agent user author rows₀ tokens₀ brackets₀ texts₀
-  pub read : all.Rules s ≡ sheets_answer (sheets_of agent user author)
+  pub read : Ok s ≡ sheets_answer (sheets_of agent user author)
   pub rows_are : rows ≡ sets (cleared 0 rows₀) 0 (sheets_rows (sheets_of agent user author))
   pub tokens-are : tokens ≡ cleared 0 tokens₀
   pub texts-are : texts ≡ sets (cleared 0 texts₀) 0 (sheets_texts (sheets_of agent user author))

@@ -1,6 +1,5 @@
 -- What the code's values say of sifted styles, and the room that its writers ask for.
-use Rattle.std.specs.Prelude.{ℕ, ◌+◌, ◌*◌, ◌≤◌, Bool, List, length}
-use Rattle.combinators.specs.Choice.{pick}
+use Rattle.std.specs.Prelude.{ℕ, ◌+◌, ◌*◌, ◌≤◌, Option, Some, None, List, length}
 use Rattle.syntax.specs.Layout.{style_width}
 use Rattle.syntax.specs.declared.styles.StyleNumbers.{StyleNumbers}
 use Rattle.syntax.specs.declared.styles.Value.{Value}
@@ -11,16 +10,12 @@ use Rattle.rule_styles.specs.Deciding.{Sifted}
 use Rattle.rule_styles.specs.declared.deciding.Sifted as code
 
 -- ---- a style that there is or is not, and the sifted styles that the code's value of them says
-unfoldable pub found_in : Bool → StyleNumbers → Found (Styled Value)
-found_in there x = pick there (found (in_numbers x)) missing
+unfoldable pub found_in : Option StyleNumbers → Found (Styled Value)
+found_in (Some x) = found (in_numbers x)
+found_in None = missing
 
 unfoldable pub sifted_in : code.Sifted → Sifted Value
-sifted_in s =
-    record {
-      normal = found_in s.has_normal s.normal;
-      important = found_in s.has_important s.important;
-      behind = s.behind;
-    }
+sifted_in s = record { normal = found_in s.normal; important = found_in s.important; behind = s.behind }
 
 -- ---- room for the styles that decide in one slot
 pub record TwoStylesRoom (rows : List ℕ) (at : ℕ) : Type 0 where

@@ -39,18 +39,6 @@ pub struct StyledEnd {
     pub fill: usize,
 }
 
-// Copies the `n` bytes from `from` on to `to`, which lies behind them.
-fn copy_up(texts: &mut [u8], from: usize, n: usize, to: usize)
-    requires { Upward texts.old from n to }
-    ensures { texts.new ≡ sets texts.old to (part texts.old from n) }
-{
-    let mut i = 0;
-    while i < n {
-        texts[to + i] = texts[from + i];
-        i += 1;
-    }
-}
-
 // Copies the `n` bytes from `start` on of the text from `from` to `end`, or as many as there are, to `fill` behind `end`; how many there are.
 fn copy_part(
     texts: &mut [u8],
@@ -65,10 +53,10 @@ fn copy_part(
     ensures value { result ≡ length (part (sheet_text texts.old from end) start n) }
 {
     let size = part_of(&texts[from..end], start, n).len();
-    if size == 0 {
-        return 0;
+    if size > 0 {
+        let first = from + start;
+        texts.copy_within(first..first + size, end + fill);
     }
-    copy_up(texts, from + start, size, end + fill);
     size
 }
 
@@ -89,30 +77,21 @@ fn place_style(
     ensures value { result ≡ fill + length (content_of (sheet_text texts.old from end) (numbers_at (drop at tokens.old))) }
 {
     let style = style_at(tokens, at);
-    let slot = style.slot;
-    if slot == CONTENT_SLOT {
+    if style.slot == CONTENT_SLOT {
         let text = style.value;
         let start = text.number as usize;
-        let n = text.second as usize;
-        let size = copy_part(texts, from, end, start, n, fill);
-        let number = fill as u32;
-        let second = size as u32;
+        let size = copy_part(texts, from, end, start, text.second as usize, fill);
         let value = Value {
-            number,
-            second,
-            start: text.start,
+            number: fill as u32,
+            second: size as u32,
+            ..text
         };
-        let important = style.important;
-        let placed = StyleNumbers {
-            slot,
-            important,
-            value,
-        };
-        write_style(tokens, at, placed);
-        return fill + size;
+        write_style(tokens, at, StyleNumbers { value, ..style });
+        fill + size
+    } else {
+        write_style(tokens, at, style);
+        fill
     }
-    write_style(tokens, at, style);
-    fill
 }
 
 // Places the `count` styles whose rows start at `at`, with their contents end to end from `fill` behind `end` on; the fill behind them.
@@ -134,11 +113,9 @@ fn place_styles(
 {
     let mut f = fill;
     let mut place = at;
-    let mut left = count;
-    while left > 0 {
+    for _ in 0..count {
         f = place_style(tokens, place, texts, from, end, f);
         place += STYLE_WIDTH;
-        left -= 1;
     }
     f
 }
@@ -212,13 +189,11 @@ pub fn style_rules(
     let mut rows = at;
     let mut p = place;
     let mut f = fill;
-    let mut left = count;
-    while left > 0 {
+    for _ in 0..count {
         let placed = style_rule(rules, rows, tokens, p, texts, from, end, f);
         p = placed.place;
         f = placed.fill;
         rows = skip_rule(rules, rows);
-        left -= 1;
     }
     StyledEnd {
         rows,

@@ -12,7 +12,7 @@ pub const KEPT_HEAD: usize = 1;
 
 pub const KEPT_COUNT: usize = 0;
 
-// Writes the row of a style from `at` on.
+// Writes the row of a style from `at` on; that of the declarations is for their own rows.
 pub fn write_style(rows: &mut [u32], at: usize, style: StyleNumbers)
     requires { StyleRowRoom rows.old at }
     ensures { rows.new ≡ sets rows.old at (row_of_numbers style) }

@@ -26,7 +26,8 @@ pub struct StyledSheets {
     pub fill: usize,
 }
 
-// Makes the styles of three sheets that were read: those that decide are kept in `tokens`, their contents behind the texts of the sheets.
+// Makes the styles of three sheets that were read: those that decide are kept in `tokens`, their contents behind the texts of the sheets. Each sheet's places follow
+// from those of the one before, so the three are written out.
 pub fn style_sheets(
     rules: &[u32],
     sheets: SheetsRules,

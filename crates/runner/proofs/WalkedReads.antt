@@ -15,7 +15,8 @@ use Rattle.compiled.specs.Component.{component_at}
 use Rattle.compiled.specs.Style.{style_numbers_at, style_at}
 use Rattle.compiled.specs.Sheet.{CompiledSelector, styles_at, selector_at, head_at}
 use Rattle.compiled.specs.Answer.{place_answer}
-use Rattle.compiled.specs.declared.places.PlaceAnswer.TheVariants as place
+use Rattle.std.proofs.Common.{Result, Ok}
+use Rattle.compiled.specs.declared.places.Fault.{Fault}
 use Rattle.compiled.proofs.Answers.{place-mapped, place_read}
 use Rattle.compiled.proofs.Following.{then-read, mapped-read}
 use Rattle.compiled.proofs.Walking.{steps, counted-length, selector-steps}
@@ -56,7 +57,7 @@ styles-place t i =
     (λ n k. counted-place (style_in t) (style_numbers_at t) k n ∙ sym (counted-place in_numbers (style_numbers_at t) k n))
 
 -- where styles are read, their numbers are
-styles-walked : (t : List ℕ) (i m : ℕ) → place_answer (styles_at t i) ≡ place.At m → (xs : List (Styled Value)) × (walked_styles_at t i ≡ read m xs)
+styles-walked : (t : List ℕ) (i m : ℕ) → place_answer (styles_at t i) ≡ Ok m → (xs : List (Styled Value)) × (walked_styles_at t i ≡ read m xs)
 styles-walked t i m e = place_read (walked_styles_at t i) (place_answer (styles_at t i)) (styles-place t i) m e
 
 -- styles in numbers are as many as the styles

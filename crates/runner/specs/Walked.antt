@@ -12,7 +12,8 @@ use Rattle.compiled.specs.Decoded.{Decoded, read, on_decoded, and_then, mapped, 
 use Rattle.compiled.specs.Number.{number_at}
 use Rattle.compiled.specs.Component.{component_at}
 use Rattle.compiled.specs.Style.{style_numbers_at}
-use Rattle.compiled.specs.Sheet.{CompiledSelector, Head, head_at}
+use Rattle.compiled.specs.Sheet.{CompiledSelector, head_at}
+use Rattle.compiled.specs.declared.sheets.Head.{Head}
 use Rattle.segments.specs.Down.{matching_by}
 
 pub record WalkedSelector (A : Type 0) : Type 0 where

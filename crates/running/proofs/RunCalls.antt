@@ -10,7 +10,7 @@ use lib.ListN.{length, take, replicate}
 use lib.Seq.{length-take-le}
 use Rattle.combinators.specs.Choice.{and}
 use Rattle.combinators.specs.LeastLengths.{stores_suffice}
-use Rattle.combinators.specs.Refusal.{no_refusal, refused, refused_at, too_long, short_store, bad_bytes}
+use Rattle.combinators.specs.Refusal.{no_refusal, refused, refused_at, too_long, short_store, bad_row, bad_text, bad_bytes}
 use Rattle.combinators.specs.declared.refusals.Refusal.{Refusal}
 use Rattle.combinators.specs.Store.{cleared}
 use Rattle.combinators.proofs.Cleared.{cleared-is}
@@ -18,10 +18,12 @@ use Rattle.combinators.proofs.LeastLaws.{least}
 use Rattle.combinators.proofs.Rules.{pick_true, pick-false, pick-holds, and-true, is-yes, is-no}
 use Rattle.sheets.specs.SheetAnswer.{padded}
 use Rattle.cascade.specs.Row.{style_row_width}
-use Rattle.page.specs.Accepted.{rows_refusal, page_refusal}
+use Rattle.page.specs.Accepted.{first_bad_row, first_bad_text, refused_row, rows_refusal, page_refusal}
 use Rattle.page.specs.Rows.{node_count, attribute_width}
 use Rattle.page.proofs.AcceptedPages.{accepted}
-use Rattle.compiled.specs.Answer.{bytes_refusal}
+use Rattle.std.proofs.Common.{Option, Some, None, Result, Ok, Err}
+use Rattle.compiled.specs.Answer.{refusal_of, bytes_refusal}
+use Rattle.compiled.specs.declared.places.Fault.{Fault}
 use Rattle.compiled.specs.Decoded.{Decoded, read, fault, on_decoded}
 use Rattle.compiled.specs.Sheet.{compiled_limit, CompiledSelector, decode}
 use Rattle.styles.specs.declared.settings.Settings.{Settings}
@@ -100,12 +102,19 @@ loud : (n place : ℕ) → Quiet (record { number = suc n; text = 0; place = pla
 unfolding Quiet
 loud n place e = absurd (omega (arith, e))
 
+-- a refusal of a row has none either, and where there is no row, what comes behind decides
+row-quiet : (n : ℕ) (o : Option ℕ) (r : Refusal) → 0 < n → Quiet r → Quiet (refused_row n o r)
+unfolding refused_row Quiet
+row-quiet n (Some row) r h q = λ (e : n ≡ 0). absurd (omega arith)
+row-quiet n None r h q = q
+
 -- a page that is refused with number 0 is not refused
 page-quiet : (nodes attributes text : List ℕ) → Quiet (page_refusal nodes attributes text)
 unfolding page_refusal rows_refusal Quiet
 page-quiet nodes attributes text =
     pick-holds Quiet _ _ _
-    (λ _. pick-holds Quiet _ _ _ (λ _. loud _ _) (λ _. pick-holds Quiet _ _ _ (λ _. loud _ _) (λ _. pick-holds Quiet _ _ _ (λ _. loud _ _) (λ _ e. refl))))
+    (λ _. pick-holds Quiet _ _ _ (λ _. loud _ _)
+    (λ _. row-quiet bad_row (first_bad_row nodes attributes) _ (omega arith) (row-quiet bad_text (first_bad_text nodes attributes text) _ (omega arith) (λ e. refl))))
     (λ _. loud _ _)
 
 -- bytes that are refused with number 0 are not refused
@@ -116,6 +125,18 @@ bytes-quiet code = go (decode code)
     go : (d : Decoded (List CompiledSelector)) → Quiet (on_decoded d (λ _ _. no_refusal) (λ p. refused_at bad_bytes p))
     go (read n ss) = unfold on_decoded Quiet in (λ _. refl)
     go (fault p) = unfold on_decoded in loud _ p
+
+-- ---- what `check_sheet` answers
+module _ (code : List ℕ) (r : Result Unit Fault) (e : refusal_of r ≡ bytes_refusal code) where
+  -- a fault is refused at its place
+  pub told-fault : (f : Fault) → r ≡ Err f → refused_at bad_bytes f.place ≡ bytes_refusal code
+  unfolding refusal_of
+  told-fault f p = ap refusal_of (sym p) ∙ e
+
+  -- a sheet is not refused
+  pub told-sheet : (u : Unit) → r ≡ Ok u → no_refusal ≡ bytes_refusal code
+  unfolding refusal_of
+  told-sheet u p = ap refusal_of (sym p) ∙ e
 
 module _ (rows₀ texts₀ state₀ rules₀ tokens₀ brackets₀ code : List ℕ) (settings : Settings) (g : Page) where
   abbrev refuses : RunAnswer → RunLeft

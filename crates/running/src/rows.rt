@@ -17,10 +17,9 @@ fn place_parent(nodes: &[u32], row: usize, rows: &mut [u32])
     ensures { rows.new ≡ with_parent nodes.now row rows.old }
 {
     let parent = parent_of(nodes, row);
-    if parent >= row {
-        return;
+    if parent < row {
+        copy_within(rows, parent * STYLE_ROW_WIDTH, row * STYLE_ROW_WIDTH);
     }
-    copy_within(rows, parent * STYLE_ROW_WIDTH, row * STYLE_ROW_WIDTH);
 }
 
 // The step of a row; the fill behind its texts. What the work stores hold afterwards, and `texts` behind that fill, is left free.
@@ -89,13 +88,11 @@ pub fn run_rows(
 {
     let count = node_count(nodes);
     let mut fill = 0;
-    let mut row = 0;
-    while row < count {
+    for row in 0..count {
         fill = run_row(
             settings, compiled, nodes, attributes, text, row, rows, state, rules, tokens, brackets,
             texts, fill,
         );
-        row += 1;
     }
     fill
 }

@@ -34,8 +34,10 @@ fn refused_run(refusal: Refusal) -> RunAnswer
 fn run_answer(texts: usize) -> RunAnswer
     ensures { result ≡ record { refusal = no_refusal; texts = texts } }
 {
-    let refusal = no_refusal();
-    RunAnswer { refusal, texts }
+    RunAnswer {
+        refusal: no_refusal(),
+        texts,
+    }
 }
 
 // Zeros throughout the work stores.
@@ -105,17 +107,16 @@ fn run_checked(
         ≡ run_by rows.old texts.old state.old rules.old tokens.old brackets.old compiled.now settings (record { nodes = nodes.now; attributes = attributes.now; text = text.now }) (page_refusal nodes.now attributes.now text.now) (bytes_refusal compiled.now) }
 {
     let page = page::check::refusal_of(check_page(nodes, attributes, text));
-    if page.number == NO_REFUSAL {
-        let bytes = compiled::sheets::refusal_of(check_sheet(compiled));
-        if bytes.number == NO_REFUSAL {
-            return run_page(
-                settings, compiled, nodes, attributes, text, rows, texts, state, rules, tokens,
-                brackets,
-            );
-        }
-        return refused_run(bytes);
+    if page.number != NO_REFUSAL {
+        return refused_run(page);
     }
-    refused_run(page)
+    match check_sheet(compiled) {
+        Ok(()) => run_page(
+            settings, compiled, nodes, attributes, text, rows, texts, state, rules, tokens,
+            brackets,
+        ),
+        Err(fault) => refused_run(Refusal::from(fault)),
+    }
 }
 
 // Runs a compiled sheet down a page: the style row of each node to `rows`, the contents of `style` attributes to `texts`; the others are work stores.

@@ -28,10 +28,7 @@ fn texts_suffice(
     ensures { result ≡ stores_suffice (text + 2 * (attributes / attribute_width)) rules tokens brackets texts }
 {
     let beside = 2 * (attributes / ATTRIBUTE_WIDTH);
-    if brackets < text {
-        return false;
-    }
-    if brackets - text < beside {
+    if brackets < text || brackets - text < beside {
         return false;
     }
     stores_suffice(text + beside, rules, tokens, brackets, texts)
@@ -53,10 +50,7 @@ pub fn run_suffices(
     requires { compiled ≤ compiled_limit }
     ensures { result ≡ and (leb (nodes * style_row_width) rows) (and (leb (depths * (compiled + 1)) state) (stores_suffice (text + 2 * (attributes / attribute_width)) rules tokens brackets texts)) }
 {
-    if long_enough(rows, STYLE_ROW_WIDTH, nodes, 0) {
-        if state < DEPTHS * (compiled + 1) {
-            return false;
-        }
+    if long_enough(rows, STYLE_ROW_WIDTH, nodes, 0) && DEPTHS * (compiled + 1) <= state {
         return texts_suffice(attributes, text, rules, tokens, brackets, texts);
     }
     false

@@ -15,7 +15,8 @@ use Rattle.compiled.specs.Number.{number_at, ranged_at}
 use Rattle.compiled.specs.Text.{span_at}
 use Rattle.compiled.specs.Component.{component_at}
 use Rattle.compiled.specs.Style.{greatest_colour, greatest_white_space, content_at, number_up_to, value_at, valued_at, slot_at, started_at, style_numbers_at, style_at}
-use Rattle.compiled.specs.Sheet.{CompiledSelector, Head, head_at, styles_at, selector_at}
+use Rattle.compiled.specs.Sheet.{CompiledSelector, head_at, styles_at, selector_at}
+use Rattle.compiled.specs.declared.sheets.Head.{Head}
 use Rattle.compiled.proofs.Bounds.{Reaches, reaches-read, reaches_end, reaches-less, reaches_then, reaches-mapped, reaches-counted, number-reaches, ranged-reaches, span-reaches, head-reaches, style-reaches, styles-reach}
 use Rattle.compiled.proofs.Walking.{steps, counted-first, counted_none, counted-length, components-long, selector-steps}
 use Rattle.segments.specs.Segments.{piece}

@@ -15,7 +15,8 @@ use Rattle.matching.specs.Matches.{matches}
 use Rattle.compiled.specs.Decoded.{Decoded, read, fault, on_decoded, and_then, mapped, counted}
 use Rattle.compiled.specs.Style.{style_at}
 use Rattle.compiled.specs.Number.{number_at, ranged_at}
-use Rattle.compiled.specs.Sheet.{CompiledSelector, Head, count_at, pseudo_at, head_at, styles_at, selector_of, parts_at, selector_at, selectors_at, decode}
+use Rattle.compiled.specs.Sheet.{CompiledSelector, count_at, pseudo_at, head_at, styles_at, selector_of, parts_at, selector_at, selectors_at, decode}
+use Rattle.compiled.specs.declared.sheets.Head.{Head}
 use Rattle.compiled.proofs.Walking.{steps, source, counted_none, counted-length, selector-steps, selectors-first, selectors-none, sheet-steps}
 use Rattle.segments.specs.Placed.{Placed, has_style, placed_at, placed_from, matching_places}
 use Rattle.segments.specs.Document.{styled_from, style_count_at, first_styled}

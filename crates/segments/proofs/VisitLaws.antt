@@ -13,7 +13,8 @@ use Rattle.cascade.proofs.RowLaws.{flag-back}
 use Rattle.page.specs.Path.{Element, Path}
 use Rattle.matching.specs.Matches.{on_parent}
 use Rattle.compiled.specs.Decoded.{read, on_decoded}
-use Rattle.compiled.specs.Sheet.{Head, head_at}
+use Rattle.compiled.specs.Sheet.{head_at}
+use Rattle.compiled.specs.declared.sheets.Head.{Head}
 use Rattle.segments.specs.Segments.{Piece, test, direct, anywhere, steps, segment, alone, fresh, State, awaiting}
 use Rattle.segments.specs.Sweep.{pair_at}
 use Rattle.segments.specs.Before.{Segment, beginning, segment_before, fresh_bytes}

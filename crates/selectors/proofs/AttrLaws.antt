@@ -9,6 +9,7 @@ use types.Run.{OneOf, miss}
 use denote.Enum.Declared.{tag_of}
 use lib.ListN.{length, get_or, take, drop, length-drop}
 use lib.Seq.{sets, get_or-drop, length-sets}
+use Rattle.std.specs.Prelude.{Some, None, Ok, Option}
 use Rattle.combinators.specs.Ascii as ascii
 use Rattle.combinators.specs.Choice.{pick, is}
 use Rattle.combinators.specs.Parsed as parsing
@@ -21,12 +22,11 @@ use Rattle.lexer.specs.Name.{ident_of, name_answer, name_text}
 use Rattle.lexer.specs.Quoted.{string_end, string_text}
 use Rattle.lexer.specs.Token.{Token, string, bad_string, string_from, string_of, coded, text_of, token_answer, token_text}
 use Rattle.lexer.specs.TokenRow.{string_kind, columns_of}
-use Rattle.lexer.specs.declared.names.Name.{Name}
-use Rattle.lexer.specs.declared.names.Name.TheVariants.{Text, NoName}
+use Rattle.lexer.specs.declared.Written.{Written}
 use Rattle.lexer.specs.declared.tokens.Token as declared
 use Rattle.lexer.specs.declared.tokens.Token.TheVariants as code
-use Rattle.lexer.specs.declared.tokens.TokenAnswer.{TokenAnswer}
-use Rattle.lexer.specs.declared.tokens.TokenAnswer.TheVariants.{Took, NoToken}
+use Rattle.lexer.specs.declared.tokens.TokenRead.{TokenRead}
+use Rattle.std.proofs.lemmas.Option.{same_Some, none-some}
 use Rattle.lexer.specs.contracts.tokens.Token.{the_type}
 use Rattle.lexer.proofs.Bounds.{short, Fits, bound-short}
 use Rattle.lexer.proofs.IdentBounds.{NameKeeps, ident-keeps, ident-fits, answer_le}
@@ -43,20 +43,18 @@ use Rattle.selectors.specs.Selector.{closed, quoted_of, value_of, attr_of}
 use Rattle.selectors.specs.Reading.{written}
 use Rattle.selectors.specs.ComponentAnswer.{component_answer, closed_by, closed_answer, closed_store, attr_value_of, equal_answer, equal_store}
 use Rattle.selectors.specs.Stores.{Clean}
-use Rattle.selectors.specs.declared.components.ComponentAnswer.{ComponentAnswer}
-use Rattle.selectors.specs.declared.components.ComponentAnswer.TheVariants.{Component, NoComponent}
 use Rattle.combinators.proofs.ZeroLaws.{zeros-back, zeros-after}
-use Rattle.selectors.proofs.ComponentLaws.{Left, left-none, or-fails, or-reads}
+use Rattle.selectors.proofs.ComponentLaws.{ComponentAnswer, row, Left, left-none, or-fails, or-reads}
 
 -- ---- the returns of `closed`
 module _ (s st : List ℕ) (n m fill : ℕ) (t : Bool) (et : t ≡ is (get_or s n 0) ascii.right_square_bracket) where
   -- the return where the bracket closes the value: it is taken, and the store stays
-  pub bracket-closes : t ≡ true → (Text (n + 1) m ≡ closed_answer s n m) × (st ≡ closed_store s n m fill st)
+  pub bracket-closes : t ≡ true → (Some (record { taken = (n + 1); length = m }) ≡ closed_answer s n m) × (st ≡ closed_store s n m fill st)
   unfolding closed_answer closed_store
   bracket-closes e = (pick_true _ _ _ _ (told _ _ _ et e) refl, pick_true _ _ _ _ (told _ _ _ et e) refl)
 
   -- without the closing bracket nothing is read, and the text is wiped
-  pub bracket-missing : t ≡ false → (z : List ℕ) → z ≡ wiped fill m st → (NoName ≡ closed_answer s n m) × (z ≡ closed_store s n m fill st)
+  pub bracket-missing : t ≡ false → (z : List ℕ) → z ≡ wiped fill m st → (None ≡ closed_answer s n m) × (z ≡ closed_store s n m fill st)
   unfolding closed_answer closed_store
   bracket-missing e z w = (pick-false _ _ _ _ (told _ _ _ et e) refl, pick-false _ _ _ _ (told _ _ _ et e) w)
 
@@ -106,26 +104,28 @@ record Token-read (p : Parsed Token) (n : ℕ) (k : declared.Token) : Type 0 whe
   code_is : k ≡ coded token
 
 -- an answer with a token says that one was read
-token-read : (p : Parsed Token) (n : ℕ) (k : declared.Token) → Took n k ≡ token_answer p → Token-read p n k
+token-read : (p : Parsed Token) (n : ℕ) (k : declared.Token) → Some (record { taken = n; token = k }) ≡ token_answer p → Token-read p n k
 unfolding token_answer
-token-read (ok i κ) n k e = let q : n ≡ i = cc in record { token = κ; reading = rw q; code_is = cc }
-token-read err n k e = absurd (let z : ◌≡◌ {A = ℕ} 0 1 = cc in omega arith)
+token-read (ok i κ) n k e =
+    let q : record { taken = n; token = k } ≡ record { taken = i; token = coded κ } = same_Some _ _ e in
+    record { token = κ; reading = ap (λ w. ok w.taken κ) (sym q); code_is = ap (λ w. w.token) q }
+token-read err n k e = absurd (none-some _ (sym e))
 
 -- an answer without one says that none was
-no-token : (p : Parsed Token) → NoToken ≡ token_answer p → p ≡ err
+no-token : (p : Parsed Token) → None ≡ token_answer p → p ≡ err
 unfolding token_answer
-no-token (ok i κ) e = absurd (let z : ◌≡◌ {A = ℕ} 0 1 = cc in omega arith)
+no-token (ok i κ) e = absurd (none-some _ e)
 no-token err e = refl
 
 -- ---- answers of names
 module _ (p : Parsed (List ℕ)) (st z : List ℕ) (fill : ℕ) where
   -- a text that was read lies in the store
-  name-left : (n : ℕ) (b : List ℕ) → p ≡ ok n b → (m : ℕ) → m ≡ length b → z ≡ sets st fill b → idents.Named p st fill (Text n m) z
+  name-left : (n : ℕ) (b : List ℕ) → p ≡ ok n b → (m : ℕ) → m ≡ length b → z ≡ sets st fill b → idents.Named p st fill (Some (record { taken = n; length = m })) z
   unfolding name_answer name_text
   name-left n b e m em ez = rw (e, em) (refl, ez)
 
   -- where none was read the store is as it was
-  none_left : p ≡ err → z ≡ st → idents.Named p st fill NoName z
+  none_left : p ≡ err → z ≡ st → idents.Named p st fill None z
   unfolding name_answer name_text
   none_left e ez = rw e (refl, ez)
 
@@ -138,15 +138,15 @@ others = 0 ∷ 1 ∷ 2 ∷ 4 ∷ 5 ∷ 6 ∷ 7 ∷ 8 ∷ 9 ∷ 10 ∷ 11 ∷ 12 
 string-other : {A : Type 0} (m : ℕ) → OneOf others (tag_of the_type (code.String m)) → A
 string-other m h = absurd (miss others _ tt h)
 
-module _ (s st z : List ℕ) (fill : ℕ) (x : TokenAnswer) (w : (x ≡ token_answer (string_of s)) × (z ≡ sets st fill (token_text (string_of s)))) where
+module _ (s st z : List ℕ) (fill : ℕ) (x : Option TokenRead) (w : (x ≡ token_answer (string_of s)) × (z ≡ sets st fill (token_text (string_of s)))) where
   -- where no token begins there is no string
-  pub string-none : x ≡ NoToken → idents.Named (quoted_of s) st fill NoName z
+  pub string-none : x ≡ None → idents.Named (quoted_of s) st fill None z
   unfolding token_text
   string-none h =
       let e = no-token (string_of s) (sym h ∙ w.0) in
       none_left (quoted_of s) st z fill (quoted-none s e) (w.1 ∙ ap (λ (p : Parsed Token). sets st fill (token_text p)) e)
 
-  module _ (n : ℕ) (k : declared.Token) (h : x ≡ Took n k) where
+  module _ (n : ℕ) (k : declared.Token) (h : x ≡ Some (record { taken = n; token = k })) where
     -- the token that was read
     got : Token-read (string_of s) n k
     got = token-read (string_of s) n k (sym h ∙ w.0)
@@ -171,7 +171,7 @@ module _ (s st z : List ℕ) (fill : ℕ) (x : TokenAnswer) (w : (x ≡ token_an
     code-bad b = refl
 
     -- a string is the value
-    pub string-read : (m : ℕ) → k ≡ code.String m → idents.Named (quoted_of s) st fill (Text n m) z
+    pub string-read : (m : ℕ) → k ≡ code.String m → idents.Named (quoted_of s) st fill (Some (record { taken = n; length = m })) z
     string-read m e =
         ⊎_elim
         (λ q. let l : ◌≡◌ {A = declared.Token} (code.String m) (code.String (length (text_of got.token))) = sym e ∙ got.code_is ∙ ap coded q ∙ code-string _ in
@@ -181,7 +181,7 @@ module _ (s st z : List ℕ) (fill : ℕ) (x : TokenAnswer) (w : (x ≡ token_an
         like.0
 
     -- any other token is no value, and its text is wiped
-    pub string-wiped : OneOf others (tag_of the_type k) → Zeros st fill → (y : List ℕ) → y ≡ wiped fill n z → idents.Named (quoted_of s) st fill NoName y
+    pub string-wiped : OneOf others (tag_of the_type k) → Zeros st fill → (y : List ℕ) → y ≡ wiped fill n z → idents.Named (quoted_of s) st fill None y
     string-wiped e c y ey =
         ⊎_elim
         (λ q. let l : k ≡ code.String (length (text_of got.token)) = got.code_is ∙ ap coded q ∙ code-string _ in string-other (length (text_of got.token)) (rw l at e))
@@ -219,24 +219,24 @@ quoted-keeps s = go (string_of s) refl
     go (ok n k) e = by n k e (rw e at (string-like s)) (rw e at (string-bounded s))
     go err e = rw (quoted-none s e) tt
 
-module _ (s st z : List ℕ) (fill : ℕ) (c : Zeros st fill) (p : Parsed (List ℕ)) (x : Name) (w : idents.Named p st fill x z) where
+module _ (s st z : List ℕ) (fill : ℕ) (c : Zeros st fill) (p : Parsed (List ℕ)) (x : Option Written) (w : idents.Named p st fill x z) where
   -- where nothing was read there is no value
-  pub value_none : x ≡ NoName → idents.Named (closed_by s p) st fill NoName z
+  pub value_none : x ≡ None → idents.Named (closed_by s p) st fill None z
   unfolding name_text
   value_none h =
       let e = unnamed-from p (sym h ∙ w.0) in
       none_left (closed_by s p) st z fill (closed-err s p e) (w.1 ∙ ap (λ (q : Parsed (List ℕ)). sets st fill (name_text q)) e)
 
-  module _ (n m : ℕ) (h : x ≡ Text n m) (r : Name) (y : List ℕ) (v : (r ≡ closed_answer s n m) × (y ≡ closed_store s n m fill z)) where
+  module _ (n m : ℕ) (h : x ≡ Some (record { taken = n; length = m })) (r : Option Written) (y : List ℕ) (v : (r ≡ closed_answer s n m) × (y ≡ closed_store s n m fill z)) where
     -- a text, by the byte behind it
     value-by : (b : List ℕ) → p ≡ ok n b → m ≡ length b → z ≡ sets st fill b → (t : Bool) → is (get_or s n 0) ascii.right_square_bracket ≡ t → idents.Named (closed_by s p) st fill r y
     unfolding closed_answer closed_store
     value-by b e l ez true et =
-        let er : r ≡ Text (n + 1) m = v.0 ∙ sym (pick_true _ _ _ _ et refl) in
+        let er : r ≡ Some (record { taken = (n + 1); length = m }) = v.0 ∙ sym (pick_true _ _ _ _ et refl) in
         let ey : y ≡ z = v.1 ∙ sym (pick_true _ _ _ _ et refl) in
         rw er (name-left (closed_by s p) st y fill (n + 1) b (closed-yes s p n b e et) m l (ey ∙ ez))
     value-by b e l ez false et =
-        let er : r ≡ NoName = v.0 ∙ sym (pick-false _ _ _ _ et refl) in
+        let er : r ≡ None = v.0 ∙ sym (pick-false _ _ _ _ et refl) in
         let ey : y ≡ wiped fill m z = v.1 ∙ sym (pick-false _ _ _ _ et refl) in
         rw er (none_left (closed_by s p) st y fill (closed-no s p n b e et) (ey ∙ ap (wiped fill m) ez ∙ zeros-back st fill c b m (omega arith)))
 
@@ -248,9 +248,9 @@ module _ (s st z : List ℕ) (fill : ℕ) (c : Zeros st fill) (p : Parsed (List 
         value-by q.name q.reads q.long (w.1 ∙ ap (λ (o : Parsed (List ℕ)). sets st fill (name_text o)) q.reads) _ refl
 
 -- ---- the returns of `parse_attr_value`
-module _ (s st z : List ℕ) (fill : ℕ) (x : Name) (w : idents.Named (closed_by s (quoted_of s)) st fill x z) where
+module _ (s st z : List ℕ) (fill : ℕ) (x : Option Written) (w : idents.Named (closed_by s (quoted_of s)) st fill x z) where
   -- a quoted string with its bracket is the value
-  pub value-quoted : (n m : ℕ) → x ≡ Text n m → idents.Named (attr_value_of s) st fill (Text n m) z
+  pub value-quoted : (n m : ℕ) → x ≡ Some (record { taken = n; length = m }) → idents.Named (attr_value_of s) st fill (Some (record { taken = n; length = m })) z
   unfolding name_text
   value-quoted n m h =
       let q = named-from _ n m (sym h ∙ w.0) in
@@ -260,7 +260,7 @@ module _ (s st z : List ℕ) (fill : ℕ) (x : Name) (w : idents.Named (closed_b
       value-first : (b : List ℕ) → closed_by s (quoted_of s) ≡ ok n b → attr_value_of s ≡ ok n b
       value-first b e = unfold attr_value_of parsing.or_else in rw e
 
-  module _ (h : x ≡ NoName) where
+  module _ (h : x ≡ None) where
     -- no quoted string with its bracket reads
     none : closed_by s (quoted_of s) ≡ err
     none = unnamed-from _ (sym h ∙ w.0)
@@ -276,7 +276,7 @@ module _ (s st z : List ℕ) (fill : ℕ) (x : Name) (w : idents.Named (closed_b
     value-second = rw none
 
     -- the return where a name with its bracket is tried
-    pub value-named : (r : Name) (y : List ℕ) → idents.Named (closed_by s (ident_of s)) z fill r y → idents.Named (attr_value_of s) st fill r y
+    pub value-named : (r : Option Written) (y : List ℕ) → idents.Named (closed_by s (ident_of s)) z fill r y → idents.Named (attr_value_of s) st fill r y
     value-named r y v = rw (← value-second, ← value_same) v
 
 -- ---- what a value keeps to
@@ -304,11 +304,11 @@ attr-value-keeps s = or-keeps s _ _ (closed-keeps s _ (quoted-keeps s)) (closed-
 -- ---- the returns of `parse_attr_equal`
 -- a value that was read is left behind the name
 equal-read : (p : Parsed (List ℕ)) (n : ℕ) (v : List ℕ) → p ≡ ok n v → (m : ℕ) → m ≡ length v → (st y : List ℕ) (at name fill : ℕ) → y ≡ sets st (fill + name) v
-    → (Component (at + 1 + n) attribute_equal_kind name m ≡ equal_answer p at name) × (y ≡ equal_store p name fill st)
+    → (Ok (Some (row (at + 1 + n) attribute_equal_kind name m)) ≡ equal_answer p at name) × (y ≡ equal_store p name fill st)
 unfolding equal_answer equal_store on_parsed
 equal-read p n v e m em st y at name fill ey = rw (e, em) (refl, ey)
 
-module _ (s st : List ℕ) (at name fill : ℕ) (z : List ℕ) (x : Name)
+module _ (s st : List ℕ) (at name fill : ℕ) (z : List ℕ) (x : Option Written)
     (w : idents.Named (attr_value_of (take (length s - (at + 1)) (drop (at + 1) s))) st (fill + name) x z) where
   -- the answer and the store that it leaves
   abbrev EqualLeft : ComponentAnswer → List ℕ → Type 0
@@ -319,21 +319,21 @@ module _ (s st : List ℕ) (at name fill : ℕ) (z : List ℕ) (x : Name)
   value_lent = rw (rest s (at + 1)) at w
 
   -- the return where a value was read: it is left behind the name
-  pub equal-value : (n m : ℕ) → x ≡ Text n m → EqualLeft (Component (at + 1 + n) attribute_equal_kind name m) z
+  pub equal-value : (n m : ℕ) → x ≡ Some (record { taken = n; length = m }) → EqualLeft (Ok (Some (row (at + 1 + n) attribute_equal_kind name m))) z
   unfolding name_text
   equal-value n m h =
       let q = named-from _ n m (sym h ∙ value_lent.0) in
       equal-read _ n q.name q.reads m q.long st z at name fill (value_lent.1 ∙ ap (λ (p : Parsed (List ℕ)). sets st (fill + name) (name_text p)) q.reads)
 
   -- the return where none was: the name is wiped
-  pub equal-none : x ≡ NoName → (y : List ℕ) → y ≡ wiped fill name z → EqualLeft NoComponent y
+  pub equal-none : x ≡ None → (y : List ℕ) → y ≡ wiped fill name z → EqualLeft (Ok None) y
   unfolding equal_answer equal_store on_parsed name_text
   equal-none h y ey =
       let q = unnamed-from _ (sym h ∙ value_lent.0) in
       rw q (refl, ey ∙ ap (wiped fill name) (value_lent.1 ∙ ap (λ (p : Parsed (List ℕ)). sets st (fill + name) (name_text p)) q))
 
 -- a value lies within the text
-pub equal-le : (s : List ℕ) (at : ℕ) → at < length s → (x : Name) → x ≡ name_answer (attr_value_of (take (length s - (at + 1)) (drop (at + 1) s))) → (n m : ℕ) → x ≡ Text n m
+pub equal-le : (s : List ℕ) (at : ℕ) → at < length s → (x : Option Written) → x ≡ name_answer (attr_value_of (take (length s - (at + 1)) (drop (at + 1) s))) → (n m : ℕ) → x ≡ Some (record { taken = n; length = m })
     → at + 1 + n ≤ length s
 equal-le s at lt x e n m h =
     omega (arith, answer_le _ _ (attr-value-keeps (take (length s - (at + 1)) (drop (at + 1) s))) x e n m h, ap length (rest s (at + 1)), length-drop (at + 1) s)
@@ -374,7 +374,7 @@ attr-there s t et e = let l = byte-there s 0 ascii.left_square_bracket (omega ar
 
 -- an attribute without a value
 attribute-left : (o : Outcome syntax.Component) (n : ℕ) (b : List ℕ) → reads n (attribute b) ≡ o → (m : ℕ) → m ≡ length b → (st z : List ℕ) (fill : ℕ) → z ≡ sets st fill b
-    → Left o st fill (Component n attribute_kind m 0) z
+    → Left o st fill (Ok (Some (row n attribute_kind m 0))) z
 unfolding component_answer written on_outcome component_kind component_first component_second component_text
 attribute-left o n b e m em st z fill ez = rw (← e, em) (refl, ez)
 
@@ -387,11 +387,11 @@ equal-left err at b m em st z fill c ez r y w = (w.0, w.1 ∙ rw ez (zeros-back 
 
 module _ (s st : List ℕ) (fill : ℕ) (t : Bool) (et : t ≡ is (get_or s 0 0) ascii.left_square_bracket) where
   -- without an opening bracket there is no attribute
-  pub attr-missing : t ≡ false → Left (attr_of s) st fill NoComponent st
+  pub attr-missing : t ≡ false → Left (attr_of s) st fill (Ok None) st
   unfolding attr_of
   attr-missing e = left-none _ (pick-false _ _ _ _ (told _ _ _ et e) refl) st fill
 
-  module _ (e : t ≡ true) (z : List ℕ) (x : Name) (w : idents.Named (ident_of (take (length s - 1) (drop 1 s))) st fill x z) where
+  module _ (e : t ≡ true) (z : List ℕ) (x : Option Written) (w : idents.Named (ident_of (take (length s - 1) (drop 1 s))) st fill x z) where
     -- the name that was read is that of the rest of the text
     lent : idents.Named (ident_of (drop 1 s)) st fill x z
     lent = rw (rest s 1) at w
@@ -402,14 +402,14 @@ module _ (s st : List ℕ) (fill : ℕ) (t : Bool) (et : t ≡ is (get_or s 0 0)
     attr-nothing h = rw (told _ _ _ et e, h)
 
     -- the return where there is no name
-    pub attr-unnamed : x ≡ NoName → Left (attr_of s) st fill NoComponent z
+    pub attr-unnamed : x ≡ None → Left (attr_of s) st fill (Ok None) z
     unfolding name_text
     attr-unnamed h =
         let q = unnamed-from _ (sym h ∙ lent.0) in
         let ez : z ≡ st = lent.1 ∙ ap (λ (p : Parsed (List ℕ)). sets st fill (name_text p)) q in
         rw ez (left-none _ (attr-nothing q) st fill)
 
-    module _ (n m : ℕ) (h : x ≡ Text n m) where
+    module _ (n m : ℕ) (h : x ≡ Some (record { taken = n; length = m })) where
       -- the name that was read
       name : NameRead (ident_of (drop 1 s)) n m
       name = named-from _ n m (sym h ∙ lent.0)
@@ -443,7 +443,7 @@ module _ (s st : List ℕ) (fill : ℕ) (t : Bool) (et : t ≡ is (get_or s 0 0)
         attr-closed-le f = let l = byte-there s (1 + n) ascii.right_square_bracket (omega arith) (told _ _ _ eu f) in omega arith
 
         -- the return where it ends there
-        pub attr-closed : u ≡ true → Left (attr_of s) st fill (Component (1 + n + 1) attribute_kind m 0) z
+        pub attr-closed : u ≡ true → Left (attr_of s) st fill (Ok (Some (row (1 + n + 1) attribute_kind m 0))) z
         attr-closed f =
             attribute-left _ (1 + n + 1) name.name (sym (or-reads _ _ _ _ (sym (closed-there f))) ∙ attr-by) m name.long st z fill stored-name
 
@@ -454,7 +454,7 @@ module _ (s st : List ℕ) (fill : ℕ) (t : Bool) (et : t ≡ is (get_or s 0 0)
           closed-fails = sym (pick-false _ _ _ _ (told _ _ _ eu f) refl)
 
           -- the return where neither a bracket nor `=` follows the name
-          pub attr-open : v ≡ false → Zeros st fill → (y : List ℕ) → y ≡ wiped fill m z → Left (attr_of s) st fill NoComponent y
+          pub attr-open : v ≡ false → Zeros st fill → (y : List ℕ) → y ≡ wiped fill m z → Left (attr_of s) st fill (Ok None) y
           attr-open g c y ey =
               let q : y ≡ st = ey ∙ ap (wiped fill m) stored-name ∙ zeros-back st fill c name.name m (omega (arith, name.long)) in
               rw q (left-none _ (pick-false _ _ _ _ (told _ _ _ ev g) refl ∙ sym (or-fails _ _ closed-fails) ∙ attr-by) st fill)

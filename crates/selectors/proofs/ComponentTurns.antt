@@ -6,6 +6,8 @@ use Prim.Native.Nat.{ℕ, zero, suc, ◌+◌, ◌-◌, ◌*◌, ◌^◌, ◌≤�
 use native.Mathlib.Omega.{arith}
 use lib.ListN.{length, take, drop, length-drop, length-append}
 use lib.Seq.{sets, drop-drop}
+use Rattle.std.specs.Prelude.{Some, None, Ok, Err}
+use Rattle.std.specs.Int.{from_bool}
 use Rattle.combinators.specs.Choice.{pick, is}
 use Rattle.combinators.specs.Store.{wiped}
 use Rattle.combinators.proofs.Lists.{rest}
@@ -22,18 +24,17 @@ use Rattle.selectors.specs.Components.{text_length, first_component, next_of, ke
 use Rattle.selectors.specs.ComponentAnswer.{component_answer}
 use Rattle.selectors.specs.Stores.{Clean}
 use Rattle.selectors.specs.Reading.{written, TextRoom, RowRoom}
-use Rattle.selectors.specs.declared.components.ComponentAnswer.{ComponentAnswer}
-use Rattle.selectors.specs.declared.components.ComponentAnswer.TheVariants as answer
-use Rattle.selectors.specs.declared.readings.Reading.{Reading}
-use Rattle.selectors.specs.declared.readings.Reading.TheVariants.{Reads, Fails, Panics}
 use Rattle.selectors.proofs.AllLaws.{where-read, where-panics, panics-no}
 use Rattle.selectors.proofs.Blanks.{kept-count, kept_row, kept-text}
 use Rattle.selectors.proofs.BodyLaws.{first_behind, started}
 use Rattle.selectors.proofs.ComponentKeeps.{Small, next-keeps, row-numbers}
 use Rattle.selectors.proofs.ComponentLaws as components
+use Rattle.selectors.proofs.ComponentLaws.{row}
+use Rattle.selectors.specs.declared.components.Component as declared
+use Rattle.selectors.specs.declared.readings.Panic.{Panic}
 use Rattle.selectors.proofs.ComponentEnds.{none_left}
 use Rattle.selectors.proofs.Gathering.{Gathered, gathered_none, gathered-more, gathered-as, none_yet, store-zeros, rules-long, store_long, all_read, all-panics}
-use Rattle.selectors.proofs.ReadingLaws.{Left, left-fails}
+use Rattle.selectors.proofs.ReadingLaws.{Reading, panic_at, sized, Left, left-fails}
 
 -- ---- the numbers of a component
 -- the length of its texts is told by them
@@ -58,25 +59,25 @@ pub record Read (o : Outcome Component) (n k a b : ℕ) : Type 0 where
   pub second : b ≡ component_second component
 
 -- an answer with numbers says that a component was read, and these are its numbers
-pub read_by : (o : Outcome Component) (n k a b : ℕ) → answer.Component n k a b ≡ component_answer o → Read o n k a b
+pub read_by : (o : Outcome Component) (got : declared.Component) → Ok (Some got) ≡ component_answer o → Read o got.taken got.kind got.first got.second
 unfolding component_answer on_outcome
-read_by (reads m c) n k a b e = let q : n ≡ m = cc in record { component = c; reads-it = rw q; kind = cc; first = cc; second = cc }
-read_by fails n k a b e = absurd (let z : ◌≡◌ {A = ℕ} 0 1 = cc in omega arith)
-read_by (panics p) n k a b e = absurd (let z : ◌≡◌ {A = ℕ} 0 1 = cc in omega arith)
+read_by (reads m c) got e = let q : got.taken ≡ m = cc in record { component = c; reads-it = rw q; kind = cc; first = cc; second = cc }
+read_by fails got e = absurd (let z : ◌≡◌ {A = ℕ} 0 1 = cc in omega arith)
+read_by (panics p) got e = absurd (let z : ◌≡◌ {A = ℕ} 0 1 = cc in omega arith)
 
 -- an answer without a component says that none reads
-pub fails_by : (o : Outcome Component) → answer.NoComponent ≡ component_answer o → o ≡ fails
+pub fails_by : (o : Outcome Component) → Ok None ≡ component_answer o → o ≡ fails
 unfolding component_answer on_outcome
 fails_by (reads m c) e = absurd (let z : ◌≡◌ {A = ℕ} 0 1 = cc in omega arith)
 fails_by fails e = refl
 fails_by (panics p) e = absurd (let z : ◌≡◌ {A = ℕ} 0 1 = cc in omega arith)
 
 -- an answer with a panic says where the crate panics
-pub panics-by : (o : Outcome Component) (p : ℕ) → answer.Panic p ≡ component_answer o → o ≡ panics p
+pub panics-by : (o : Outcome Component) (p : Panic) → Err p ≡ component_answer o → o ≡ panics p.place
 unfolding component_answer on_outcome
 panics-by (reads m c) p e = absurd (let z : ◌≡◌ {A = ℕ} 0 1 = cc in omega arith)
 panics-by fails p e = absurd (let z : ◌≡◌ {A = ℕ} 0 1 = cc in omega arith)
-panics-by (panics q) p e = let h : p ≡ q = cc in rw h
+panics-by (panics q) p e = let h : p.place ≡ q = cc in rw h
 
 -- the length of its texts, by the numbers of its row
 length-told : (c : Component) (k a b : ℕ) → k ≡ component_kind c → a ≡ component_first c → b ≡ component_second c → text_length k a b ≡ length (component_text c)
@@ -197,6 +198,19 @@ begin s rules place store fill =
       sharp = λ _. omega arith;
     }
 
+-- whether a row is kept, as a number
+from_picks : (start d : Bool) → from_bool (pick start (pick d false true) true) ≡ pick start (pick d 0 1) 1
+unfolding pick
+from_picks true true = refl
+from_picks true false = refl
+from_picks false d = refl
+
+-- a row that is put down where it is kept, by either
+put-as : (b : Bool) (row : List ℕ) → pick b row [] ≡ pick (is (from_bool b) 0) [] row
+unfolding pick is
+put-as true row = refl
+put-as false row = refl
+
 -- what a return leaves
 abbrev pub Ends : List ℕ → List ℕ → ℕ → List ℕ → ℕ → Reading → List ℕ → List ℕ → Type 0
 Ends s rules place store fill r y z = Left length (component_rows fill) component_texts (started_of s) rules place store fill r y z
@@ -225,7 +239,7 @@ module _ {s rules₀ : List ℕ} {place : ℕ} {store₀ : List ℕ} {fill : ℕ
   pub rows_long : length rules ≡ length rules₀
   rows_long = rules-long i.gathered
 
-  module _ {a : ComponentAnswer} {store₁ : List ℕ} (e : components.Left (next_of (is taken 0) lent) store (fill + text) a store₁) where
+  module _ {a : components.ComponentAnswer} {store₁ : List ℕ} (e : components.Left (next_of (is taken 0) lent) store (fill + text) a store₁) where
     abbrev found : Outcome Component
     found = next_of (is taken 0) (drop taken s)
 
@@ -242,7 +256,7 @@ module _ {s rules₀ : List ℕ} {place : ℕ} {store₀ : List ℕ} {fill : ℕ
     texts-long l = l ∙ store_long i.gathered
 
     -- no component reads here
-    module _ (told : a ≡ answer.NoComponent) where
+    module _ (told : a ≡ Ok None) where
       -- no component reads from here on
       none : found ≡ fails
       none = fails_by found (sym told ∙ answered.0)
@@ -253,21 +267,21 @@ module _ {s rules₀ : List ℕ} {place : ℕ} {store₀ : List ℕ} {fill : ℕ
       same = unwritten (rw none)
 
       -- not even a first one
-      pub first-fails : taken ≡ 0 → Ends s rules₀ place store₀ fill Fails rules store₁
+      pub first-fails : taken ≡ 0 → Ends s rules₀ place store₀ fill (Ok None) rules store₁
       first-fails z =
           let y = none_yet i.gathered (omega (arith, i.counted)) in
           left-fails _ _ _ _ _ _ _ _ (first-none s i.turns taken i.enough (is-yes taken 0 z) none) y.0 (same ∙ y.1)
 
       -- where no further component reads, what was read so far is the whole
-      pub stops : (taken ≡ 0 → ⊥) → Ends s rules₀ place store₀ fill (Reads taken count numbers text) rules store₁
+      pub stops : (taken ≡ 0 → ⊥) → Ends s rules₀ place store₀ fill (Ok (Some (sized taken count numbers text))) rules store₁
       unfolding component_rows component_texts
       stops n = rw same (all_read i.gathered 0 taken (later-none s i.turns taken i.enough i.turns (is-no taken 0 n) none) (omega arith))
 
     -- the crate panics in the component: what was read before is wiped
-    module _ {p : ℕ} (told : a ≡ answer.Panic p) where
+    module _ {p : ℕ} (told : a ≡ Err (panic_at p)) where
       -- the next component panics, at the answer's byte
       panic : found ≡ panics p
-      panic = panics-by found p (sym told ∙ answered.0)
+      panic = panics-by found (panic_at p) (sym told ∙ answered.0)
 
       -- the panic lies within the text
       pub panic-within : taken + p ≤ length s
@@ -279,17 +293,17 @@ module _ {s rules₀ : List ℕ} {place : ℕ} {store₀ : List ℕ} {fill : ℕ
       panic-same = unwritten (rw panic)
 
       -- the return where the crate panics: rows and texts are wiped, and the byte is counted from the start of the selector
-      pub panics-left : {y z : List ℕ} → y ≡ wiped place numbers rules → z ≡ wiped fill text store₁ → Ends s rules₀ place store₀ fill (Panics (taken + p)) y z
+      pub panics-left : {y z : List ℕ} → y ≡ wiped place numbers rules → z ≡ wiped fill text store₁ → Ends s rules₀ place store₀ fill (Err (panic_at (taken + p))) y z
       unfolding component_rows component_texts
       panics-left ey ez =
           all-panics i.gathered r.zeros q.zeros ey (ez ∙ ap (wiped fill text) panic-same) p (taken + p)
           (panics-at s i.turns taken i.enough (is taken 0) refl p panic i.turns i.enough) refl
 
     -- a component reads, of n bytes and the kind k
-    module _ {n k f g : ℕ} (told : a ≡ answer.Component n k f g) where
+    module _ {n k f g : ℕ} (told : a ≡ Ok (Some (row n k f g))) where
       -- the answer's numbers are those of the component that reads
       one : Read found n k f g
-      one = read_by found n k f g (sym told ∙ answered.0)
+      one = read_by found (row n k f g) (sym told ∙ answered.0)
 
       abbrev c : Component
       c = one.component
@@ -321,7 +335,15 @@ module _ {s rules₀ : List ℕ} {place : ℕ} {store₀ : List ℕ} {fill : ℕ
           record { first_fits = omega (arith, b.0, one.first); second_fits = omega (arith, b.1, one.second); fill-fits = omega (arith, q.bits, i.long, i.within) }
 
       -- its row is kept, but for a blank at the start of the selector
-      module _ {kept : ℕ} (ek : kept ≡ pick (is taken 0) (pick (is k descendant_kind) 0 1) 1) where
+      module _ {b : Bool} (eb : b ≡ pick (is taken 0) (pick (is k descendant_kind) false true) true) {kept : ℕ} (en : kept ≡ from_bool b) where
+        -- as a number: none or one
+        ek : kept ≡ pick (is taken 0) (pick (is k descendant_kind) 0 1) 1
+        ek = en ∙ ap from_bool eb ∙ from_picks (is taken 0) (is k descendant_kind)
+
+        -- the row that is put down, by that number
+        put : (row : List ℕ) → pick b row [] ≡ pick (is kept 0) [] row
+        put row = rw en (put-as b row)
+
         -- as many rows are kept as the definition keeps of the component
         kept-is : kept ≡ length (kept_of (is taken 0) c)
         kept-is = ek ∙ ap (λ (j : ℕ). pick (is taken 0) (pick (is j descendant_kind) 0 1) 1) one.kind ∙ kept-count c 0 (is taken 0)
@@ -342,7 +364,7 @@ module _ {s rules₀ : List ℕ} {place : ℕ} {store₀ : List ℕ} {fill : ℕ
         count_fits = omega (arith, i.counted, kept-few, taken_more)
 
         -- with the component's row and text stored where it is kept, the reader goes on behind it
-        pub goes : {y : List ℕ} {t : ℕ} → y ≡ sets rules (place + numbers) (pick (is kept 0) [] (k ∷ (fill + text) ∷ f ∷ g ∷ [])) → t ≡ text_length k f g
+        pub goes : {y : List ℕ} {t : ℕ} → y ≡ sets rules (place + numbers) (pick b (k ∷ (fill + text) ∷ f ∷ g ∷ []) []) → t ≡ text_length k f g
             → Reading-on s rules₀ place store₀ fill y store₁ (taken + n) (count + kept) (numbers + component_width * kept) (text + t)
         unfolding written on_outcome component_rows
         goes {y} {t} ey et =
@@ -353,7 +375,7 @@ module _ {s rules₀ : List ℕ} {place : ℕ} {store₀ : List ℕ} {fill : ℕ
               enough = o.suffice;
               gathered =
                   gathered-as (gathered-more i.gathered n (kept_of (is taken 0) c) (rest_of s o.others (taken + n)) y store₁ o.rest-is
-                  (ey ∙ ap (sets rules (place + numbers)) (row_told c k f g kept (fill + text) (is taken 0) one.kind one.first one.second kept-is))
+                  (ey ∙ ap (sets rules (place + numbers)) (put _ ∙ row_told c k f g kept (fill + text) (is taken 0) one.kind one.first one.second kept-is))
                   (answered.1 ∙ texts-told found n c store (fill + text) (is taken 0) one.reads-it))
                   refl (omega (arith, kept-is)) (omega (arith, kept-is, length-components (fill + text) (kept_of (is taken 0) c)))
                   (omega (arith, et, text-is, ap length x));

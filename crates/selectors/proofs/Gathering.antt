@@ -5,14 +5,13 @@ use Prim.Native.Nat.{ℕ, ◌+◌, ◌≤◌}
 use native.Mathlib.Omega.{arith}
 use lib.ListN.{length, length-append}
 use lib.Seq.{sets, length-sets}
+use Rattle.std.specs.Prelude.{Some, Ok, Err}
 use Rattle.combinators.specs.Store.{wiped, Zeros}
 use Rattle.combinators.proofs.Wiped.{sets-append}
 use Rattle.syntax.specs.Stream.{rows_many, texts_many}
 use Rattle.syntax.proofs.Streams.{texts-append, rows_append}
 use Rattle.selectors.specs.Outcome.{Outcome, reads, fails, panics, on_outcome, behind}
-use Rattle.selectors.specs.declared.readings.Reading.TheVariants.{Reads, Panics}
-use Rattle.selectors.specs.declared.readings.ManyReading.TheVariants as many
-use Rattle.selectors.proofs.ReadingLaws.{Left, LeftMany, left-reads, left-many, left-panics, left-many-panics}
+use Rattle.selectors.proofs.ReadingLaws.{panic_at, sized, Left, LeftMany, left-reads, left-many, left-panics, left-many-panics}
 use Rattle.combinators.proofs.ZeroLaws.{zeros-behind, zeros-back}
 
 -- a list of length 0 is empty
@@ -137,12 +136,12 @@ module _ {A : Type 0} {w : ℕ → A → List ℕ} {x : A → List ℕ} {whole :
 
   -- the return where nothing more is read: what was gathered is left
   pub all_read : (n m : ℕ) → rest ≡ reads n [] → m ≡ k + n
-      → Left length (rows_many w x fill) (texts_many x) whole rules₀ place store₀ fill (Reads m count numbers text) rules store
+      → Left length (rows_many w x fill) (texts_many x) whole rules₀ place store₀ fill (Ok (Some (sized m count numbers text))) rules store
   all_read n m e h = left-reads length (rows_many w x fill) (texts_many x) whole rules₀ place store₀ fill (end_is n e ∙ rw h) g.count-is g.numbers-are g.text-is g.rules-are g.store_is
 
   -- where nothing more is read, a reader that never fails leaves what was gathered
   pub many_read : (n m : ℕ) → rest ≡ reads n [] → m ≡ k + n
-      → LeftMany length (rows_many w x fill) (texts_many x) whole rules₀ place store₀ fill (many.Reads m count numbers text) rules store
+      → LeftMany length (rows_many w x fill) (texts_many x) whole rules₀ place store₀ fill (Ok (sized m count numbers text)) rules store
   many_read n m e h = left-many length (rows_many w x fill) (texts_many x) whole rules₀ place store₀ fill (end_is n e ∙ rw h) g.count-is g.numbers-are g.text-is g.rules-are g.store_is
 
   -- what was written is taken back
@@ -163,9 +162,9 @@ module _ {A : Type 0} {w : ℕ → A → List ℕ} {x : A → List ℕ} {whole :
       panic-is = g.whole_is ∙ rw (e, h)
 
       -- the return where the crate panics: both stores are as they were
-      pub all-panics : Left length (rows_many w x fill) (texts_many x) whole rules₀ place store₀ fill (Panics m) y z
+      pub all-panics : Left length (rows_many w x fill) (texts_many x) whole rules₀ place store₀ fill (Err (panic_at m)) y z
       all-panics = left-panics length (rows_many w x fill) (texts_many x) whole rules₀ place store₀ fill panic-is rules-back store-back
 
       -- the same return of a reader that never fails
-      pub many-panics : LeftMany length (rows_many w x fill) (texts_many x) whole rules₀ place store₀ fill (many.Panics m) y z
+      pub many-panics : LeftMany length (rows_many w x fill) (texts_many x) whole rules₀ place store₀ fill (Err (panic_at m)) y z
       many-panics = left-many-panics length (rows_many w x fill) (texts_many x) whole rules₀ place store₀ fill panic-is rules-back store-back

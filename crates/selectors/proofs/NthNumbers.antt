@@ -13,7 +13,7 @@ use Rattle.combinators.specs.Choice.{pick, is}
 use Rattle.combinators.specs.Repeat.{many, took}
 use Rattle.combinators.proofs.Lists.{rest}
 use Rattle.combinators.proofs.Repeats.{many-ge}
-use Rattle.combinators.proofs.Rules.{pick_true, pick-false, is-yes, is-no, and_both}
+use Rattle.combinators.proofs.Rules.{pick_true, pick-false, is-no, and_both}
 use Rattle.lexer.specs.Name.{hex_digit}
 use Rattle.lexer.specs.Number as number
 use Rattle.lexer.specs.Number.{is_digit, one_digit, digits}
@@ -22,8 +22,7 @@ use Rattle.syntax.specs.Signed.{signed_number}
 use Rattle.values.specs.Words.{Found, found, missing, on_found}
 use Rattle.values.specs.Colour.{all_of, numeral, digits_in}
 use Rattle.values.specs.ColourAnswer.{is_digit_in, number_answer}
-use Rattle.values.specs.declared.colours.NumberAnswer.{NumberAnswer}
-use Rattle.values.specs.declared.colours.NumberAnswer.TheVariants.{Number, NoNumber}
+use Rattle.std.specs.Prelude.{Option, Some, None, ◌==◌}
 use Rattle.values.proofs.ColourLaws.{decimal_digit, digits_same, number-found, number-missing, read-le}
 use Rattle.selectors.specs.Outcome.{Outcome, panics}
 use Rattle.selectors.specs.Selector.{is_minus, is_sign, sign_taken, signed, greatest, digits_worth, converted}
@@ -37,22 +36,17 @@ unfolding number.sign sign_taken is_sign is_minus
 sign_same s = refl
 
 module _ (minus : Bool) where
-  -- 0 stands for 0, with either sign
-  pub signed-zero : (v : ℕ) → v ≡ 0 → 0 ≡ signed_number (signed minus v)
-  unfolding signed_number signed
-  signed-zero v e = rw e
-
   -- a number below 0 is written as an odd one
-  pub signed-minus : (v : ℕ) → ¬ (v ≡ 0) → minus ≡ true → v * 2 - 1 ≡ signed_number (signed minus v)
+  pub signed-minus : (v : ℕ) → minus ≡ true → v * 2 - 1 ≡ signed_number (signed minus v)
   unfolding signed_number signed pick
-  signed-minus zero d e = absurd (d refl)
-  signed-minus (suc n) d e = rw e (omega arith)
+  signed-minus zero e = refl
+  signed-minus (suc n) e = rw e (omega arith)
 
   -- a number above 0 is written as an even one
-  pub signed-plus : (v : ℕ) → ¬ (v ≡ 0) → minus ≡ false → v * 2 ≡ signed_number (signed minus v)
+  pub signed-plus : (v : ℕ) → minus ≡ false → v * 2 ≡ signed_number (signed minus v)
   unfolding signed_number signed pick
-  signed-plus zero d e = absurd (d refl)
-  signed-plus (suc n) d e = rw e (omega arith)
+  signed-plus zero e = refl
+  signed-plus (suc n) e = rw e (omega arith)
 
 -- a number of `i32` keeps to the bound
 pub signed_le : (minus : Bool) (v : ℕ) → v ≤ greatest → signed_number (signed minus v) ≤ greatest_signed
@@ -63,29 +57,29 @@ signed_le false (suc n) h = omega arith
 
 -- ---- the returns of `converted`
 -- where there is no digit the number is 1, with its sign
-pub converted-one : (d : List ℕ) (minus : Bool) (w : ℕ) → length d ≡ 0 → w ≡ signed_number (signed minus 1) → Number w ≡ converted_answer d minus
-unfolding converted_answer
-converted-one d minus w e ew = pick_true _ _ _ _ (is-yes _ _ e) (ap Number ew)
+pub converted-one : (d : List ℕ) (minus : Bool) (w : ℕ) → (length d == 0) ≡ true → w ≡ signed_number (signed minus 1) → Some w ≡ converted_answer d minus
+unfolding converted_answer is
+converted-one d minus w e ew = pick_true _ _ _ _ e (ap Some ew)
 
-module _ (d : List ℕ) (x : NumberAnswer) (ex : x ≡ number_answer (digits_in (is_digit_in 10) 10 hex_digit greatest d)) where
+module _ (d : List ℕ) (x : Option ℕ) (ex : x ≡ number_answer (digits_in (is_digit_in 10) 10 hex_digit greatest d)) where
   -- the digits of the base are decimal
   decimal : x ≡ number_answer (digits_in is_digit 10 hex_digit greatest d)
   decimal = ex ∙ ap number_answer (digits_same (is_digit_in 10) is_digit decimal_digit 10 hex_digit greatest d)
 
   -- a number that is read fits
-  pub converted-fits : (v : ℕ) → x ≡ Number v → v ≤ greatest
+  pub converted-fits : (v : ℕ) → x ≡ Some v → v ≤ greatest
   converted-fits v h = read-le is_digit 10 hex_digit greatest d v (number-found x _ decimal v h)
 
-  module _ (n : ¬ (length d ≡ 0)) (minus : Bool) where
+  module _ (n : (length d == 0) ≡ false) (minus : Bool) where
     -- the number is too great
-    pub converted-over : x ≡ NoNumber → NoNumber ≡ converted_answer d minus
-    unfolding converted_answer on_found
-    converted-over h = pick-false _ _ _ _ (is-no _ _ n) (rw (number-missing x _ decimal h))
+    pub converted-over : x ≡ None → None ≡ converted_answer d minus
+    unfolding converted_answer on_found is
+    converted-over h = pick-false _ _ _ _ n (rw (number-missing x _ decimal h))
 
     -- digits that fit `i32` are converted, with their sign
-    pub converted-number : (v : ℕ) → x ≡ Number v → (w : ℕ) → w ≡ signed_number (signed minus v) → Number w ≡ converted_answer d minus
-    unfolding converted_answer on_found
-    converted-number v h w ew = pick-false _ _ _ _ (is-no _ _ n) (rw (number-found x _ decimal v h, ew))
+    pub converted-number : (v : ℕ) → x ≡ Some v → (w : ℕ) → w ≡ signed_number (signed minus v) → Some w ≡ converted_answer d minus
+    unfolding converted_answer on_found is
+    converted-number v h w ew = pick-false _ _ _ _ n (rw (number-found x _ decimal v h, ew))
 
 -- ---- the digits that a text begins with are digits
 -- by whether the first byte is a digit: the bytes of a run of digits are digits
@@ -112,19 +106,19 @@ digits-all s = let q : many one_digit 0 0 s - 0 ≡ many one_digit 0 0 s = omega
 -- ---- the number that digits write
 -- as found, and as answered
 found-by : (b minus : Bool) (v : ℕ)
-    → on_found (pick b (found v) missing) (λ v. Number (signed_number (signed minus v))) NoNumber ≡ pick b (Number (signed_number (signed minus v))) NoNumber
+    → on_found (pick b (found v) missing) (λ v. Some (signed_number (signed minus v))) None ≡ pick b (Some (signed_number (signed minus v))) None
 unfolding on_found pick
 found-by true minus v = refl
 found-by false minus v = refl
 
 -- where all bytes of d are digits
 all-converted : (d : List ℕ) (minus : Bool) → ¬ (length d ≡ 0) → all_of is_digit d ≡ true
-    → converted_answer d minus ≡ pick (leb (numeral 10 hex_digit 0 d) greatest) (Number (signed_number (signed minus (numeral 10 hex_digit 0 d)))) NoNumber
+    → converted_answer d minus ≡ pick (leb (numeral 10 hex_digit 0 d) greatest) (Some (signed_number (signed minus (numeral 10 hex_digit 0 d)))) None
 unfolding converted_answer digits_in
 all-converted d minus n e =
     let z = is-no (length d) 0 n in
     let read : digits_in is_digit 10 hex_digit greatest d ≡ pick (leb (numeral 10 hex_digit 0 d) greatest) (found (numeral 10 hex_digit 0 d)) missing = sym (pick-false _ _ _ _ z (pick_true _ _ _ _ e refl)) in
-    sym (pick-false _ _ _ _ z (sym (ap (λ (f : Found ℕ). on_found f (λ v. Number (signed_number (signed minus v))) NoNumber) read ∙ found-by _ minus _)))
+    sym (pick-false _ _ _ _ z (sym (ap (λ (f : Found ℕ). on_found f (λ v. Some (signed_number (signed minus v))) None) read ∙ found-by _ minus _)))
 
 -- n digits from i on
 module _ (t : List ℕ) (i : ℕ) (minus : Bool) where
@@ -145,7 +139,7 @@ module _ (t : List ℕ) (i : ℕ) (minus : Bool) where
   count-converted (suc n) h e =
       let l = length-take-le (suc n) (drop i t) h in
       all-converted (take (suc n) (drop i t)) minus (λ z. absurd (omega arith)) e
-      ∙ ap (λ (v : ℕ). pick (leb v greatest) (Number (signed_number (signed minus v))) NoNumber) (some-worth n)
+      ∙ ap (λ (v : ℕ). pick (leb v greatest) (Some (signed_number (signed minus v))) None) (some-worth n)
 
   -- all digits that stand there are converted as the definition does
   integer-lent : converted_answer (take (digits (drop i t)) (drop i t)) minus ≡ integer_by t i (digits (drop i t)) minus
@@ -161,7 +155,7 @@ module _ (s : List ℕ) (sign : ℕ) (es : sign ≡ sign_taken s) (n : ℕ) (en 
   pub taken-le : sign + n ≤ length s
   taken-le = omega (arith, count, digits_le (drop sign s), length-drop sign s, sign_le s, sign_same s)
 
-  module _ (minus : Bool) (em : minus ≡ is (get_or s 0 0) ascii.hyphen_minus) (x : NumberAnswer) (ex : x ≡ converted_answer (take (sign + n - sign) (drop sign s)) minus) where
+  module _ (minus : Bool) (em : minus ≡ is (get_or s 0 0) ascii.hyphen_minus) (x : Option ℕ) (ex : x ≡ converted_answer (take (sign + n - sign) (drop sign s)) minus) where
     -- the number is that of the definition
     value : x ≡ integer_by s sign n (is_minus s 0)
     unfolding is_minus
@@ -181,25 +175,25 @@ module _ (t : List ℕ) (i n : ℕ) (minus : Bool) where
   abbrev pub worth : ℕ
   worth = digits_worth t i n
 
-  module _ (x : NumberAnswer) (ex : x ≡ integer_by t i n minus) where
+  module _ (x : Option ℕ) (ex : x ≡ integer_by t i n minus) where
     -- by whether the digits fit
-    fits_by : (w : ℕ) → x ≡ Number w → (b : Bool) → leb worth greatest ≡ b → (leb worth greatest ≡ true) × (w ≡ signed_number (signed minus worth))
+    fits_by : (w : ℕ) → x ≡ Some w → (b : Bool) → leb worth greatest ≡ b → (leb worth greatest ≡ true) × (w ≡ signed_number (signed minus worth))
     unfolding integer_by pick
-    fits_by w h true l = (l, let e : ◌≡◌ {A = NumberAnswer} (Number w) (Number (signed_number (signed minus worth))) = sym h ∙ ex ∙ rw l in cc)
-    fits_by w h false l = absurd (let e : ◌≡◌ {A = NumberAnswer} (Number w) NoNumber = sym h ∙ ex ∙ rw l in let z : ◌≡◌ {A = ℕ} 0 1 = cc in omega arith)
+    fits_by w h true l = (l, let e : ◌≡◌ {A = Option ℕ} (Some w) (Some (signed_number (signed minus worth))) = sym h ∙ ex ∙ rw l in cc)
+    fits_by w h false l = absurd (let e : ◌≡◌ {A = Option ℕ} (Some w) None = sym h ∙ ex ∙ rw l in let z : ◌≡◌ {A = ℕ} 0 1 = cc in omega arith)
 
     -- an answer with a number says that it fits, and is the one with its sign
-    pub number_fits : (w : ℕ) → x ≡ Number w → (leb worth greatest ≡ true) × (w ≡ signed_number (signed minus worth))
+    pub number_fits : (w : ℕ) → x ≡ Some w → (leb worth greatest ≡ true) × (w ≡ signed_number (signed minus worth))
     number_fits w h = fits_by w h _ refl
 
     -- an answer without one says that it does not fit, whatever test is asked
-    over_by : x ≡ NoNumber → (b : Bool) → leb worth greatest ≡ b → leb worth greatest ≡ false
+    over_by : x ≡ None → (b : Bool) → leb worth greatest ≡ b → leb worth greatest ≡ false
     unfolding integer_by pick
-    over_by h true l = absurd (let e : ◌≡◌ {A = NumberAnswer} NoNumber (Number (signed_number (signed minus worth))) = sym h ∙ ex ∙ rw l in let z : ◌≡◌ {A = ℕ} 0 1 = cc in omega arith)
+    over_by h true l = absurd (let e : ◌≡◌ {A = Option ℕ} None (Some (signed_number (signed minus worth))) = sym h ∙ ex ∙ rw l in let z : ◌≡◌ {A = ℕ} 0 1 = cc in omega arith)
     over_by h false l = l
 
     -- an answer without one says that it does not fit
-    pub number-over : x ≡ NoNumber → leb worth greatest ≡ false
+    pub number-over : x ≡ None → leb worth greatest ≡ false
     number-over h = over_by h _ refl
 
   module _ {A : Type 0} (f : ℤ → Outcome A) where

@@ -7,6 +7,8 @@ use native.Mathlib.Nat.{zero-add}
 use native.Mathlib.Omega.{arith}
 use lib.ListN.{length, get_or, take, drop, length-drop}
 use lib.Seq.{sets}
+use Rattle.std.specs.Prelude.{Option, Some, None, Result, Ok, Err}
+use Rattle.std.specs.Bool.{then_some}
 use Rattle.combinators.specs.Ascii as ascii
 use Rattle.combinators.specs.Choice.{pick, is}
 use Rattle.combinators.specs.Parsed.{Parsed, ok, err, on_parsed}
@@ -18,8 +20,7 @@ use Rattle.combinators.proofs.Rules.{pick_true, pick-false, pick-holds, told}
 use Rattle.characters.specs.Literal.{text}
 use Rattle.characters.specs.Utf8.{utf8}
 use Rattle.lexer.specs.Name.{ident_of, name_text}
-use Rattle.lexer.specs.declared.names.Name.{Name}
-use Rattle.lexer.specs.declared.names.Name.TheVariants.{Text, NoName}
+use Rattle.lexer.specs.declared.Written.{Written}
 use Rattle.lexer.proofs.Bounds.{bound-two}
 use Rattle.lexer.proofs.IdentBounds.{ident-fits}
 use Rattle.lexer.proofs.Idents as idents
@@ -36,14 +37,14 @@ use Rattle.selectors.specs.NthAnswer.{nth_answer}
 use Rattle.selectors.specs.Reading.{written}
 use Rattle.selectors.specs.ComponentAnswer.{component_answer, nth_child_name}
 use Rattle.selectors.specs.Stores.{Clean}
-use Rattle.selectors.specs.declared.components.ComponentAnswer.TheVariants as answer
-use Rattle.selectors.specs.declared.nth.NthAnswer.{NthAnswer}
-use Rattle.selectors.specs.declared.nth.NthAnswer.TheVariants.{Nth, NoNth, Panic}
 use Rattle.selectors.proofs.AllLaws.{where-read, where-panics}
 use Rattle.selectors.proofs.NthKeeps.{args-keeps}
-use Rattle.selectors.proofs.NthLaws.{nth_read, not-read, panic-read}
+use Rattle.selectors.proofs.NthLaws.{numbers, nth_read, not-read, panic-read}
 use Rattle.combinators.proofs.ZeroLaws.{zeros-back}
-use Rattle.selectors.proofs.ComponentLaws.{answer-none}
+use Rattle.selectors.proofs.ComponentLaws.{row, answer-none}
+use Rattle.selectors.proofs.ReadingLaws.{panic_at}
+use Rattle.selectors.specs.declared.nth.Nth.{Nth}
+use Rattle.selectors.specs.declared.readings.Panic.{Panic}
 
 -- nothing read has no text
 pub none-textless : written component_text fails ≡ []
@@ -63,29 +64,29 @@ read_back st z b fill m ez em h = rw (ez, em) (held-part (sets st fill b) fill b
 -- by the name that was read
 module _ (s : List ℕ) where
   -- without a name there is no `nth-child`
-  name-none : ident_of s ≡ err → 0 ≡ nth_child_name s
+  name-none : ident_of s ≡ err → None ≡ nth_child_name s
   unfolding nth_child_name on_parsed
   name-none e = rw e
 
   -- the name `nth-child` takes its bytes
-  name-known : (n : ℕ) (b : List ℕ) → ident_of s ≡ ok n b → same_text b (text "nth-child") ≡ true → n ≡ nth_child_name s
+  name-known : (n : ℕ) (b : List ℕ) → ident_of s ≡ ok n b → same_text b (text "nth-child") ≡ true → Some n ≡ nth_child_name s
   unfolding nth_child_name on_parsed pick
   name-known n b e t = rw (e, t)
 
   -- any other name takes none
-  name-other : (n : ℕ) (b : List ℕ) → ident_of s ≡ ok n b → same_text b (text "nth-child") ≡ false → 0 ≡ nth_child_name s
+  name-other : (n : ℕ) (b : List ℕ) → ident_of s ≡ ok n b → same_text b (text "nth-child") ≡ false → None ≡ nth_child_name s
   unfolding nth_child_name on_parsed pick
   name-other n b e t = rw (e, t)
 
-module _ (s st z : List ℕ) (fill : ℕ) (x : Name) (w : idents.Named (ident_of s) st fill x z) where
+module _ (s st z : List ℕ) (fill : ℕ) (x : Option Written) (w : idents.Named (ident_of s) st fill x z) where
   -- the return where there is no name
-  pub child-unnamed : x ≡ NoName → (0 ≡ nth_child_name s) × (z ≡ st)
+  pub child-unnamed : x ≡ None → (None ≡ nth_child_name s) × (z ≡ st)
   unfolding name_text
   child-unnamed h =
       let e = unnamed-from _ (sym h ∙ w.0) in
       (name-none s e, w.1 ∙ ap (λ (p : Parsed (List ℕ)). sets st fill (name_text p)) e)
 
-  module _ (c : Clean (length s) fill st) (n m : ℕ) (h : x ≡ Text n m) where
+  module _ (c : Clean (length s) fill st) (n m : ℕ) (h : x ≡ Some (record { taken = n; length = m })) where
     -- the name that was read
     name : NameRead (ident_of s) n m
     name = named-from _ n m (sym h ∙ w.0)
@@ -115,12 +116,20 @@ module _ (s st z : List ℕ) (fill : ℕ) (x : Name) (w : idents.Named (ident_of
       wiped-back = ey ∙ ap (wiped fill m) stored ∙ zeros-back st fill c.zeros name.name m (omega (arith, name.long))
 
       -- the return where it is `nth-child`; the store is as it was
-      pub child-known : k ≡ true → (n ≡ nth_child_name s) × (y ≡ st)
+      pub child-known : k ≡ true → (Some n ≡ nth_child_name s) × (y ≡ st)
       child-known e = (name-known s n name.name name.reads (told _ _ _ test e), wiped-back)
 
       -- the return where it is another; the store is as it was
-      pub child-other : k ≡ false → (0 ≡ nth_child_name s) × (y ≡ st)
+      pub child-other : k ≡ false → (None ≡ nth_child_name s) × (y ≡ st)
       child-other e = (name-other s n name.name name.reads (told _ _ _ test e), wiped-back)
+
+      -- the return behind a name, by that test
+      pub child-named : (then_some k n ≡ nth_child_name s) × (y ≡ st)
+      child-named = go k refl
+        where
+          go : (b : Bool) → k ≡ b → (then_some k n ≡ nth_child_name s) × (y ≡ st)
+          go true e = rw e (child-known e)
+          go false e = rw e (child-other e)
 
 -- ---- the returns of `parse_pseudo_class`
 -- where the first byte is ':', the text has a byte
@@ -133,28 +142,31 @@ record Known (s : List ℕ) (k : ℕ) : Type 0 where
   reading : ident_of s ≡ ok k name
   same_name : same_text name (text "nth-child") ≡ true
 
-module _ (s : List ℕ) (k : ℕ) (ek : k ≡ nth_child_name s) where
+module _ (s : List ℕ) (o : Option ℕ) (ek : o ≡ nth_child_name s) where
   -- by the name that was read
-  known_by : (n : ℕ) (b : List ℕ) → ident_of s ≡ ok n b → (t : Bool) → same_text b (text "nth-child") ≡ t → ¬ (k ≡ 0) → Known s k
-  known_by n b e true q d = let l : k ≡ n = ek ∙ sym (name-known s n b e q) in record { name = b; reading = rw l e; same_name = q }
-  known_by n b e false q d = absurd (d (ek ∙ sym (name-other s n b e q)))
+  known_by : (k n : ℕ) (b : List ℕ) → ident_of s ≡ ok n b → (t : Bool) → same_text b (text "nth-child") ≡ t → o ≡ Some k → Known s k
+  known_by k n b e true q d =
+      let p : Some k ≡ Some n = sym d ∙ ek ∙ sym (name-known s n b e q) in
+      let l : k ≡ n = cc in
+      record { name = b; reading = rw l e; same_name = q }
+  known_by k n b e false q d = absurd (let p : ◌≡◌ {A = Option ℕ} (Some k) None = sym d ∙ ek ∙ sym (name-other s n b e q) in cc)
 
   -- bytes taken say that `nth-child` was read
-  known : ¬ (k ≡ 0) → Known s k
-  known d = go (ident_of s) refl
+  known : (k : ℕ) → o ≡ Some k → Known s k
+  known k d = go (ident_of s) refl
     where
       go : (p : Parsed (List ℕ)) → ident_of s ≡ p → Known s k
-      go (ok n b) e = known_by n b e _ refl d
-      go err e = absurd (d (ek ∙ sym (name-none s e)))
+      go (ok n b) e = known_by k n b e _ refl d
+      go err e = absurd (let p : ◌≡◌ {A = Option ℕ} (Some k) None = sym d ∙ ek ∙ sym (name-none s e) in cc)
 
   -- it was not, so nothing f makes of it is read
-  other-by : (f : ℕ → List ℕ → Outcome syntax.Component) (n : ℕ) (b : List ℕ) → ident_of s ≡ ok n b → k ≡ 0 → (t : Bool) → same_text b (text "nth-child") ≡ t
+  other-by : (f : ℕ → List ℕ → Outcome syntax.Component) (n : ℕ) (b : List ℕ) → ident_of s ≡ ok n b → o ≡ None → (t : Bool) → same_text b (text "nth-child") ≡ t
       → pick (same_text b (text "nth-child")) (f n b) fails ≡ fails
-  other-by f n b e z true q = absurd (let g = ident-fits s n b e in let l : k ≡ n = ek ∙ sym (name-known s n b e q) in omega (arith, g.some))
+  other-by f n b e z true q = absurd (let p : ◌≡◌ {A = Option ℕ} None (Some n) = sym z ∙ ek ∙ sym (name-known s n b e q) in cc)
   other-by f n b e z false q = sym (pick-false _ _ _ _ q refl)
 
   -- no bytes taken say that nothing can be read behind the name
-  other : (f : ℕ → List ℕ → Outcome syntax.Component) → k ≡ 0 → on_parsed (ident_of s) (λ n b. pick (same_text b (text "nth-child")) (f n b) fails) fails ≡ fails
+  other : (f : ℕ → List ℕ → Outcome syntax.Component) → o ≡ None → on_parsed (ident_of s) (λ n b. pick (same_text b (text "nth-child")) (f n b) fails) fails ≡ fails
   other f z = go (ident_of s) refl
     where
       go : (p : Parsed (List ℕ)) → ident_of s ≡ p → on_parsed p (λ n b. pick (same_text b (text "nth-child")) (f n b) fails) fails ≡ fails
@@ -184,36 +196,36 @@ module _ (u : List ℕ) (k : ℕ) where
 
 -- nth with its two numbers is answered with both as numbers of 32 bits
 answer-nth : (o : Outcome syntax.Component) (n : ℕ) (x : selector.Nth) → o ≡ reads n (syntax.nth x.a x.b) → (a b : ℕ) → a ≡ signed_number x.a → b ≡ signed_number x.b
-    → answer.Component n nth_kind a b ≡ component_answer o
+    → Ok (Some (row n nth_kind a b)) ≡ component_answer o
 unfolding component_answer on_outcome component_kind component_first component_second
 answer-nth o n x e a b ea eb = rw (e, ea, eb)
 
 -- a panic is answered with its place
-answer-panic : (o : Outcome syntax.Component) (p : ℕ) → o ≡ panics p → answer.Panic p ≡ component_answer o
+answer-panic : (o : Outcome syntax.Component) (p : ℕ) → o ≡ panics p → Err (panic_at p) ≡ component_answer o
 unfolding component_answer on_outcome
 answer-panic o p e = rw e
 
 module _ (s st : List ℕ) (t : Bool) (et : t ≡ is (get_or s 0 0) ascii.colon) where
   -- without a colon there is no pseudo-class
-  pub pseudo-missing : t ≡ false → (answer.NoComponent ≡ component_answer (pseudo_class_of s)) × (st ≡ st)
+  pub pseudo-missing : t ≡ false → (Ok None ≡ component_answer (pseudo_class_of s)) × (st ≡ st)
   unfolding pseudo_class_of
   pseudo-missing e = (answer-none _ (pick-false _ _ _ _ (told _ _ _ et e) refl), refl)
 
-  module _ (e : t ≡ true) (z : List ℕ) (k : ℕ) (w : (k ≡ nth_child_name (take (length s - 1) (drop 1 s))) × (z ≡ st)) where
+  module _ (e : t ≡ true) (z : List ℕ) (o : Option ℕ) (w : (o ≡ nth_child_name (take (length s - 1) (drop 1 s))) × (z ≡ st)) where
     -- of the rest of the text
-    lent : k ≡ nth_child_name (drop 1 s)
+    lent : o ≡ nth_child_name (drop 1 s)
     lent = w.0 ∙ ap nth_child_name (rest s 1)
 
     -- another name than `nth-child` is none
-    pub pseudo-other : k ≡ 0 → (answer.NoComponent ≡ component_answer (pseudo_class_of s)) × (z ≡ st)
+    pub pseudo-other : o ≡ None → (Ok None ≡ component_answer (pseudo_class_of s)) × (z ≡ st)
     unfolding pseudo_class_of
     pseudo-other h =
-        (answer-none _ (pick_true _ _ _ _ (told _ _ _ et e) (sym (other (drop 1 s) k lent (λ n b. behind (1 + n) (nth_child_args (drop (1 + n) s)) (λ c. c)) h))), w.1)
+        (answer-none _ (pick_true _ _ _ _ (told _ _ _ et e) (sym (other (drop 1 s) o lent (λ n b. behind (1 + n) (nth_child_args (drop (1 + n) s)) (λ c. c)) h))), w.1)
 
-    module _ (d : ¬ (k ≡ 0)) where
+    module _ (k : ℕ) (d : o ≡ Some k) where
       -- the name that was read
       q : Known (drop 1 s) k
-      q = known (drop 1 s) k lent d
+      q = known (drop 1 s) o lent k d
 
       -- it lies within the text
       pub child-le : 1 ≤ length s → 1 + k ≤ length s
@@ -225,36 +237,36 @@ module _ (s st : List ℕ) (t : Bool) (et : t ≡ is (get_or s 0 0) ascii.colon)
       pseudo-is = rw (told _ _ _ et e, q.reading, q.same_name)
 
       -- by the answer for the arguments, which stand behind the name
-      module _ (r : NthAnswer) (er : r ≡ nth_answer (nth_args_of (take (length s - (1 + k)) (drop (1 + k) s)))) where
+      module _ (r : Result (Option Nth) Panic) (er : r ≡ nth_answer (nth_args_of (take (length s - (1 + k)) (drop (1 + k) s)))) where
         -- of the rest of the text
         read : r ≡ nth_answer (nth_args_of (drop (1 + k) s))
         read = er ∙ ap (λ (u : List ℕ). nth_answer (nth_args_of u)) (rest s (1 + k))
 
         -- the return where the arguments do not read
-        pub pseudo-none : r ≡ NoNth → (answer.NoComponent ≡ component_answer (pseudo_class_of s)) × (z ≡ st)
+        pub pseudo-none : r ≡ Ok None → (Ok None ≡ component_answer (pseudo_class_of s)) × (z ≡ st)
         pseudo-none h = (answer-none _ (sym (args-fail _ (1 + k) (not-read _ (sym h ∙ read))) ∙ pseudo-is), w.1)
 
-        module _ (n a b : ℕ) (h : r ≡ Nth n a b) where
+        module _ (n a b : ℕ) (h : r ≡ Ok (Some (numbers n a b))) where
           -- they lie within the text
           pub pseudo-le : 1 ≤ length s → 1 + k + n ≤ length s
           pseudo-le l =
-              let g = nth_read _ n a b (sym h ∙ read) in
+              let g = nth_read _ (numbers n a b) (sym h ∙ read) in
               omega (arith, child-le l, (where-read (length (drop (1 + k) s)) _ _ n g.value g.reading (args-keeps (drop (1 + k) s))).0, length-drop (1 + k) s)
 
           -- the return where they do
-          pub pseudo-nth : (answer.Component (1 + k + n) nth_kind a b ≡ component_answer (pseudo_class_of s)) × (z ≡ st)
+          pub pseudo-nth : (Ok (Some (row (1 + k + n) nth_kind a b)) ≡ component_answer (pseudo_class_of s)) × (z ≡ st)
           pseudo-nth =
-              let g = nth_read _ n a b (sym h ∙ read) in
+              let g = nth_read _ (numbers n a b) (sym h ∙ read) in
               (answer-nth _ _ g.value (sym pseudo-is ∙ args_read _ (1 + k) n g.value g.reading) a b g.first-is g.second_is, w.1)
 
-        module _ (p : ℕ) (h : r ≡ Panic p) where
+        module _ (p : ℕ) (h : r ≡ Err (panic_at p)) where
           -- it lies within the text
           pub pseudo-panic-le : 1 ≤ length s → 1 + k + p ≤ length s
-          pseudo-panic-le l = omega (arith, child-le l, where-panics (length (drop (1 + k) s)) _ _ p (panic-read _ p (sym h ∙ read)) (args-keeps (drop (1 + k) s)), length-drop (1 + k) s)
+          pseudo-panic-le l = omega (arith, child-le l, where-panics (length (drop (1 + k) s)) _ _ p (panic-read _ (panic_at p) (sym h ∙ read)) (args-keeps (drop (1 + k) s)), length-drop (1 + k) s)
 
           -- the return where the crate panics
-          pub pseudo-panic : (answer.Panic (1 + k + p) ≡ component_answer (pseudo_class_of s)) × (z ≡ st)
-          pseudo-panic = (answer-panic _ _ (sym pseudo-is ∙ args-panic _ (1 + k) p (panic-read _ p (sym h ∙ read))), w.1)
+          pub pseudo-panic : (Err (panic_at (1 + k + p)) ≡ component_answer (pseudo_class_of s)) × (z ≡ st)
+          pseudo-panic = (answer-panic _ _ (sym pseudo-is ∙ args-panic _ (1 + k) p (panic-read _ (panic_at p) (sym h ∙ read))), w.1)
 
 -- the text of a pseudo-class is empty
 args-textless : (u : List ℕ) (k : ℕ) (o : Outcome selector.Nth) → nth_args_of u ≡ o → written component_text (args u k) ≡ []

@@ -6,6 +6,7 @@ use Prim.Native.Nat.{ℕ, suc, ◌+◌, ◌-◌, ◌*◌, ◌^◌, ◌≤◌, �
 use native.Mathlib.Omega.{arith}
 use lib.ListN.{length, get_or, take, drop, length-drop, length-append, length-reverse}
 use lib.Seq.{sets, length-sets, get_or-drop}
+use Rattle.std.specs.Prelude.{Some, None, Ok, Err}
 use Rattle.combinators.specs.Choice.{pick, is}
 use Rattle.combinators.specs.Store.{wiped, Zeros}
 use Rattle.combinators.proofs.Lists.{rest}
@@ -20,14 +21,12 @@ use Rattle.selectors.specs.Outcome.{Outcome, reads, fails, panics, on_outcome, b
 use Rattle.selectors.specs.Selector.{body_of, is_descendant, without_blank, without_first, pseudo_of, pseudo_taken, selector_of}
 use Rattle.selectors.specs.Components.{started_of, blank_last}
 use Rattle.selectors.specs.Reading.{TextRoom, RowRoom}
-use Rattle.selectors.specs.declared.readings.Reading.{Reading}
-use Rattle.selectors.specs.declared.readings.Reading.TheVariants.{Reads, Fails, Panics}
 use Rattle.combinators.proofs.ZeroLaws.{zeros-later, zeros-behind, zeros-back}
 use Rattle.selectors.proofs.AllLaws.{where-read}
 use Rattle.selectors.proofs.Gathering.{one-row}
 use Rattle.selectors.proofs.BodyLaws.{blank-last, both_ends}
 use Rattle.selectors.proofs.Blanks.{blank-told, Ended, empty, ends, ended, end-texts}
-use Rattle.selectors.proofs.ReadingLaws.{Left, left-reads, left-fails, left-panics, Found, found, nothing, panicked}
+use Rattle.selectors.proofs.ReadingLaws.{Reading, panic_at, sized, Left, left-reads, left-fails, left-panics, Found, found, nothing, panicked}
 use Rattle.selectors.proofs.SelectorBounds.{ComponentsKeep, BodyKeeps, started-keeps, fewer, pseudo-within}
 
 -- ---- `drop_blank` on the rows of components
@@ -210,18 +209,18 @@ module _ {s rules₀ : List ℕ} {place : ℕ} {store₀ : List ℕ} {fill : ℕ
 
   module _ {b : Reading} {rules₁ store₁ : List ℕ} (e : Left length (component_rows fill) component_texts (started_of s) rules₀ (place + selector_head) store₀ fill b rules₁ store₁) where
     -- where no components are read, no selector is read and both stores are as they were
-    pub fails-left : b ≡ Fails → Ends Fails rules₁ store₁
+    pub fails-left : b ≡ Ok None → Ends (Ok None) rules₁ store₁
     fails-left told =
         let n = nothing _ _ _ _ _ _ _ _ e told in
         left-fails _ _ _ _ _ _ _ _ (selector-fails s n.0) n.1.0 n.1.1
 
     -- where the reading of components panics, the reading of the selector panics at the same place
-    pub panics-left : {p : ℕ} → b ≡ Panics p → Ends (Panics p) rules₁ store₁
+    pub panics-left : {p : ℕ} → b ≡ Err (panic_at p) → Ends (Err (panic_at p)) rules₁ store₁
     panics-left {p} told =
         let n = panicked _ _ _ _ _ _ _ _ e told in
         left-panics _ _ _ _ _ _ _ _ (selector-panics s p n.0) n.1.0 n.1.1
 
-    module _ {n count numbers text' : ℕ} (told : b ≡ Reads n count numbers text') where
+    module _ {n count numbers text' : ℕ} (told : b ≡ Ok (Some (sized n count numbers text'))) where
       -- the components that were read, their sizes and where they lie
       list : Found length (component_rows fill) component_texts (started_of s) rules₀ (place + selector_head) store₀ fill rules₁ store₁ n count numbers text'
       list = found _ _ _ _ _ _ _ _ e told
@@ -297,7 +296,7 @@ module _ {s rules₀ : List ℕ} {place : ℕ} {store₀ : List ℕ} {fill : ℕ
           text-is = ap component_texts (reverse-reverse (without_blank ds)) ∙ end-texts ds (ended ds)
 
           -- the head goes before the components
-          pub reads-left : {rules₃ : List ℕ} → rules₃ ≡ sets rules₂ place (kept ∷ pseudo ∷ []) → Ends (Reads (n + taken) 1 (selector_head + component_width * kept) text') rules₃ store₁
+          pub reads-left : {rules₃ : List ℕ} → rules₃ ≡ sets rules₂ place (kept ∷ pseudo ∷ []) → Ends (Ok (Some (sized (n + taken) 1 (selector_head + component_width * kept) text'))) rules₃ store₁
           reads-left w =
               left-reads _ _ _ _ _ _ _ _ reads-it refl (two-more _ (component_width * kept) (length-components fill (without_blank ds) ∙ ap (λ (k : ℕ). component_width * k) (sym kept-is)) ∙ ap length row_is)
               (list.texts ∙ ap length (sym text-is))

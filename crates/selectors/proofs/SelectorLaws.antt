@@ -1,8 +1,11 @@
 -- The small functions of selectors.
 use mathlib.Core.Path.{◌≡◌, refl, sym, ap, subst, ◌∙◌}
-use mathlib.Core.Bool.{Bool, true, false}
+use mathlib.Core.Bool.{Bool, true, false, not}
 use mathlib.Core.List.{List, [], ◌∷◌}
-use Prim.Native.Nat.{ℕ, ◌+◌, ◌-◌, ◌*◌, ◌<◌}
+use Prim.Native.Nat.{ℕ, ◌+◌, ◌-◌, ◌*◌, ◌<◌, ◌≤◌}
+use native.Mathlib.Omega.{arith}
+use borrow.Author.Tests.{lt-ltb}
+use lib.Dec.{eqb, ltb}
 use lib.ListN.{get_or}
 use lib.Seq.{sets}
 use Rattle.combinators.specs.Choice.{pick, is}
@@ -31,27 +34,28 @@ text-both k a b n = pick-false _ _ _ _ (is-no k nth_kind n) refl
 pub text-fits : (k a b m : ℕ) → (k ≡ nth_kind → ⊥) → text_length k a b < m → a + b < m
 text-fits k a b m n h = subst (λ (t : ℕ). t < m) (sym (text-both k a b n)) h
 
--- ---- `kept_of`: how many rows a component has
+-- ---- `is_kept`: a blank at the start is not
 module _ (start k : ℕ) where
-  -- a blank at the start is not kept
-  pub kept-none : start ≡ 0 → k ≡ descendant_kind → ◌≡◌ {A = ℕ} 0 (pick (is start 0) (pick (is k descendant_kind) 0 1) 1)
-  kept-none s e = pick_true _ _ _ _ (is-yes start 0 s) (pick_true _ _ _ _ (is-yes k descendant_kind e) refl)
+  -- behind the start all are kept
+  pub kept-later : 0 < start → ltb 0 start ≡ pick (is start 0) (pick (is k descendant_kind) false true) true
+  kept-later h = lt-ltb 0 start h ∙ pick-false _ _ _ _ (is-no start 0 (λ e. absurd (omega arith))) refl
 
-  -- any other component at the start is kept
-  pub kept-first : start ≡ 0 → (k ≡ descendant_kind → ⊥) → ◌≡◌ {A = ℕ} 1 (pick (is start 0) (pick (is k descendant_kind) 0 1) 1)
-  kept-first s n = pick_true _ _ _ _ (is-yes start 0 s) (pick-false _ _ _ _ (is-no k descendant_kind n) refl)
-
-  -- behind the start all are
-  pub kept-later : (start ≡ 0 → ⊥) → ◌≡◌ {A = ℕ} 1 (pick (is start 0) (pick (is k descendant_kind) 0 1) 1)
-  kept-later n = pick-false _ _ _ _ (is-no start 0 n) refl
+  -- at the start all but a blank are
+  pub kept-first : start ≤ 0 → not (eqb k descendant_kind) ≡ pick (is start 0) (pick (is k descendant_kind) false true) true
+  unfolding is
+  kept-first h = pick_true _ _ _ _ (is-yes start 0 (omega arith)) (by (eqb k descendant_kind))
+    where
+      by : (b : Bool) → not b ≡ pick b false true
+      by true = unfold pick in refl
+      by false = unfold pick in refl
 
 -- what is not kept is not written
-pub put-none : (kept : ℕ) (row rules : List ℕ) (place : ℕ) → kept ≡ 0 → rules ≡ sets rules place (pick (is kept 0) [] row)
-put-none kept row rules place e = ap (sets rules place) (pick_true _ _ _ _ (is-yes kept 0 e) refl)
+pub put-none : (kept : Bool) (row rules : List ℕ) (place : ℕ) → kept ≡ false → rules ≡ sets rules place (pick kept row [])
+put-none kept row rules place e = ap (sets rules place) (pick-false _ _ _ _ e refl)
 
 -- the row of one that is kept
-pub put_one : (kept : ℕ) (row rules rules' : List ℕ) (place : ℕ) → (kept ≡ 0 → ⊥) → rules' ≡ sets rules place row → rules' ≡ sets rules place (pick (is kept 0) [] row)
-put_one kept row rules rules' place n e = e ∙ ap (sets rules place) (pick-false _ _ _ _ (is-no kept 0 n) refl)
+pub put_one : (kept : Bool) (row rules rules' : List ℕ) (place : ℕ) → kept ≡ true → rules' ≡ sets rules place row → rules' ≡ sets rules place (pick kept row [])
+put_one kept row rules rules' place e w = w ∙ ap (sets rules place) (pick_true _ _ _ _ e refl)
 
 -- ---- `drop_blank`: a blank at the end is dropped
 module _ (rules : List ℕ) (place count : ℕ) where
@@ -126,47 +130,32 @@ module _ (p : PseudoElement) where
   unfolding pseudo_taken
   taken-before e = rw (e, before_text)
 
-  -- `::before` is number 1
-  number-before : p ≡ before → ◌≡◌ {A = ℕ} 1 (pseudo_number p)
-  unfolding pseudo_number
-  number-before e = rw e
-
   -- `::after` takes seven bytes
   taken-after : p ≡ after → ◌≡◌ {A = ℕ} 7 (pseudo_taken p)
   unfolding pseudo_taken
   taken-after e = rw (e, after_text)
-
-  -- `::after` is number 2
-  number-after : p ≡ after → ◌≡◌ {A = ℕ} 2 (pseudo_number p)
-  unfolding pseudo_number
-  number-after e = rw e
 
   -- no pseudo element takes no bytes
   taken_none : p ≡ none → ◌≡◌ {A = ℕ} 0 (pseudo_taken p)
   unfolding pseudo_taken
   taken_none e = rw e
 
-  -- no pseudo element is number 0
-  number-none : p ≡ none → ◌≡◌ {A = ℕ} 0 (pseudo_number p)
-  unfolding pseudo_number
-  number-none e = rw e
-
 module _ (s : List ℕ) (b : Bool) (e : b ≡ starts_with before_bytes s) where
-  -- `::before` takes eight bytes and is number 1
-  pub pseudo-before : b ≡ true → (◌≡◌ {A = ℕ} 8 (pseudo_taken (pseudo_of s))) × (◌≡◌ {A = ℕ} 1 (pseudo_number (pseudo_of s)))
+  -- `::before` takes eight bytes
+  pub pseudo-before : b ≡ true → (◌≡◌ {A = ℕ} 8 (pseudo_taken (pseudo_of s))) × (before ≡ pseudo_of s)
   pseudo-before t =
       let q : pseudo_of s ≡ before = before-is s (sym e ∙ t) in
-      (taken-before _ q, number-before _ q)
+      (taken-before _ q, sym q)
 
   module _ (h : b ≡ false) (a : Bool) (i : a ≡ starts_with after_bytes s) where
-    -- `::after` takes seven bytes and is number 2
-    pub pseudo-after : a ≡ true → (◌≡◌ {A = ℕ} 7 (pseudo_taken (pseudo_of s))) × (◌≡◌ {A = ℕ} 2 (pseudo_number (pseudo_of s)))
+    -- `::after` takes seven bytes
+    pub pseudo-after : a ≡ true → (◌≡◌ {A = ℕ} 7 (pseudo_taken (pseudo_of s))) × (after ≡ pseudo_of s)
     pseudo-after t =
         let q : pseudo_of s ≡ after = after_is s (sym e ∙ h) (sym i ∙ t) in
-        (taken-after _ q, number-after _ q)
+        (taken-after _ q, sym q)
 
-    -- anything else takes none and is number 0
-    pub pseudo-none : a ≡ false → (◌≡◌ {A = ℕ} 0 (pseudo_taken (pseudo_of s))) × (◌≡◌ {A = ℕ} 0 (pseudo_number (pseudo_of s)))
+    -- anything else takes none
+    pub pseudo-none : a ≡ false → (◌≡◌ {A = ℕ} 0 (pseudo_taken (pseudo_of s))) × (none ≡ pseudo_of s)
     pseudo-none t =
         let q : pseudo_of s ≡ none = none_is s (sym e ∙ h) (sym i ∙ t) in
-        (taken_none _ q, number-none _ q)
+        (taken_none _ q, sym q)

@@ -7,6 +7,7 @@ use native.Mathlib.Nat.{zero-add}
 use native.Mathlib.Omega.{arith}
 use lib.ListN.{length, take, drop, get_or, length-drop}
 use lib.Seq.{drop-drop}
+use Rattle.std.specs.Prelude.{Some, None, Ok, Err}
 use Rattle.combinators.specs.Ascii as ascii
 use Rattle.combinators.specs.Choice.{pick, is}
 use Rattle.combinators.specs.Store.{wiped}
@@ -21,13 +22,9 @@ use Rattle.selectors.specs.Outcome.{Outcome, reads, fails, panics, on_outcome, b
 use Rattle.selectors.specs.Selector.{selector_of}
 use Rattle.selectors.specs.SelectorList.{more_selectors, more_from, selectors_of}
 use Rattle.selectors.specs.Reading.{TextRoom, RowRoom}
-use Rattle.selectors.specs.declared.readings.Reading.{Reading}
-use Rattle.selectors.specs.declared.readings.Reading.TheVariants.{Reads, Fails, Panics}
-use Rattle.selectors.specs.declared.readings.ManyReading.{ManyReading}
-use Rattle.selectors.specs.declared.readings.ManyReading.TheVariants as many
 use Rattle.selectors.proofs.AllLaws.{where-read, where-panics, reads-no, behind-never, then_never}
 use Rattle.selectors.proofs.Gathering.{Gathered, gathered_none, gathered_next, gathered-as, rules-zeros, store-zeros, rules-long, store_long, many_read, many-panics}
-use Rattle.selectors.proofs.ReadingLaws.{Left, LeftMany, Found, found, nothing, panicked}
+use Rattle.selectors.proofs.ReadingLaws.{Reading, ManyReading, panic_at, sized, Left, LeftMany, Found, found, nothing, panicked}
 use Rattle.selectors.proofs.SelectorBounds.{SelectorKeeps, selector-keeps}
 
 -- ---- what is still to be read where the next selector may start at `next`, `gap` bytes behind the last; behind one of n bytes there are `turns n`
@@ -185,20 +182,20 @@ module _ {s rules₀ : List ℕ} {place : ℕ} {store₀ : List ℕ} {fill : ℕ
 
   module _ {r : Reading} {y z : List ℕ} (e : Left (λ _. 1) (selector_row (fill + text)) selector_text (selector_of lent) rules (place + numbers) store (fill + text) r y z) where
     -- where no selector follows, those that were read so far are the whole list
-    pub no-selector : r ≡ Fails → Ends s rules₀ place store₀ fill (many.Reads taken count numbers text) y z
+    pub no-selector : r ≡ Ok None → Ends s rules₀ place store₀ fill (Ok (sized taken count numbers text)) y z
     unfolding next_of on_outcome selector_rows selector_texts
     no-selector g =
         let n = nothing _ _ _ _ _ _ _ _ e g in
         rw (n.1.0, n.1.1) (many_read i.gathered 0 taken (rw (← lent_is, n.0)) (omega arith))
 
     -- the crate panics in the selector: what was read before is wiped
-    module _ {p : ℕ} (g : r ≡ Panics p) where
+    module _ {p : ℕ} (g : r ≡ Err (panic_at p)) where
       -- the panic lies within the text
       pub panic-within : next + p ≤ length s
       panic-within = omega (arith, where-panics (length lent) _ (selector_of lent) p (panicked _ _ _ _ _ _ _ _ e g).0 (selector-keeps lent), lent-long, i.within)
 
       -- the return where the crate panics: rows and texts are wiped, and the byte is counted from the start of the list
-      pub panics-left : {y' z' : List ℕ} → y' ≡ wiped place numbers y → z' ≡ wiped fill text z → Ends s rules₀ place store₀ fill (many.Panics (next + p)) y' z'
+      pub panics-left : {y' z' : List ℕ} → y' ≡ wiped place numbers y → z' ≡ wiped fill text z → Ends s rules₀ place store₀ fill (Err (panic_at (next + p))) y' z'
       unfolding next_of on_outcome selector_rows selector_texts
       panics-left ey ez =
           let n = panicked _ _ _ _ _ _ _ _ e g in
@@ -206,7 +203,7 @@ module _ {s rules₀ : List ℕ} {place : ℕ} {store₀ : List ℕ} {fill : ℕ
           (i.gap + p) (next + p) (rw (← lent_is, n.0)) (omega (arith, i.next-is))
 
     -- a selector reads: it is gathered with those before it
-    module _ {n o row more : ℕ} (g : r ≡ Reads n o row more) where
+    module _ {n o row more : ℕ} (g : r ≡ Ok (Some (sized n o row more))) where
       -- the selector that was read, its sizes and where it lies
       one : Found (λ _. 1) (selector_row (fill + text)) selector_text (selector_of lent) rules (place + numbers) store (fill + text) y z n o row more
       one = found _ _ _ _ _ _ _ _ e g
@@ -241,7 +238,7 @@ module _ {s rules₀ : List ℕ} {place : ℕ} {store₀ : List ℕ} {fill : ℕ
 
       module _ {b : Bool} (eb : b ≡ is (get_or s (next + n) 0) ascii.comma) where
         -- where no ',' follows a selector, it is the last of the list
-        pub no-comma : b ≡ false → Ends s rules₀ place store₀ fill (many.Reads (next + n) (count + 1) (numbers + row) (text + more)) y z
+        pub no-comma : b ≡ false → Ends s rules₀ place store₀ fill (Ok (sized (next + n) (count + 1) (numbers + row) (text + more))) y z
         unfolding selector_rows selector_texts
         no-comma f = many_read read-on 0 (next + n) (none-follows s (next + n) eb f (i.turns n)) (omega arith)
 

@@ -1,11 +1,10 @@
 -- Simple components: the alternatives in order, each of which leaves the store as it was where it fails.
 use mathlib.Core.Path.{◌≡◌, refl, sym, ap, ◌∙◌}
-use mathlib.Core.List.{List, [], ◌∷◌}
+use mathlib.Core.List.{List, []}
 use Prim.Native.Nat.{ℕ}
 use native.Mathlib.Omega.{arith}
-use types.Run.{OneOf, miss}
-use denote.Enum.Declared.{tag_of}
 use lib.Seq.{sets}
+use Rattle.std.specs.Prelude.{None, Ok}
 use Rattle.combinators.specs.Choice.{pick, is}
 use Rattle.combinators.proofs.Rules.{pick-holds, is-yes, is-no}
 use Rattle.lexer.specs.Name.{ident_of}
@@ -17,27 +16,16 @@ use Rattle.selectors.specs.Selector.{class_of, attr_of, hash_of, pseudo_class_of
 use Rattle.selectors.specs.Components.{first_component, next_of}
 use Rattle.selectors.specs.Reading.{written}
 use Rattle.selectors.specs.ComponentAnswer.{component_answer, mark_of, named_of}
-use Rattle.selectors.specs.declared.components.ComponentAnswer.{ComponentAnswer}
-use Rattle.selectors.specs.declared.components.ComponentAnswer.TheVariants.{NoComponent}
-use Rattle.selectors.specs.contracts.components.ComponentAnswer.{the_type}
-use Rattle.selectors.proofs.ComponentLaws.{Left, or-fails, or_assoc}
+use Rattle.selectors.proofs.ComponentLaws.{ComponentAnswer, Left, or-fails, or_assoc}
 use Rattle.selectors.proofs.PseudoLaws.{none-textless, pseudo-textless}
-
--- the variants of an answer that reads or panics
-abbrev some : List ℕ
-some = 0 ∷ 2 ∷ []
-
--- none is not among them
-not_some : {A : Type 0} → OneOf some (tag_of the_type NoComponent) → A
-not_some h = absurd (miss some _ tt h)
 
 -- ---- the first of two that reads or panics
 -- where the first reads or panics, both together leave what it leaves
-left-first : (o o' : Outcome syntax.Component) (st : List ℕ) (fill : ℕ) (r : ComponentAnswer) (z : List ℕ) → Left o st fill r z → OneOf some (tag_of the_type r)
+left-first : (o o' : Outcome syntax.Component) (st : List ℕ) (fill : ℕ) (r : ComponentAnswer) (z : List ℕ) → Left o st fill r z → (r ≡ Ok None → ⊥)
     → Left (or_else o o') st fill r z
 unfolding or_else component_answer on_outcome
 left-first (reads n c) o' st fill r z w h = w
-left-first fails o' st fill r z w h = let e : r ≡ NoComponent = w.0 in not_some (rw e at h)
+left-first fails o' st fill r z w h = absurd (h w.0)
 left-first (panics p) o' st fill r z w h = w
 
 -- where the first alternative fails, what the second leaves is left
@@ -45,25 +33,25 @@ left-second : (o o' : Outcome syntax.Component) (st : List ℕ) (fill : ℕ) →
 left-second o o' st fill e r z w = rw (or-fails o o' e) w
 
 -- an answer that nothing was read: the store is as it was
-not-component : (o : Outcome syntax.Component) (st : List ℕ) (fill : ℕ) (z : List ℕ) → Left o st fill NoComponent z → (o ≡ fails) × (z ≡ st)
+not-component : (o : Outcome syntax.Component) (st : List ℕ) (fill : ℕ) (z : List ℕ) → Left o st fill (Ok None) z → (o ≡ fails) × (z ≡ st)
 unfolding component_answer written on_outcome
 not-component (reads n c) st fill z w = absurd (let e = w.0 in let q : ◌≡◌ {A = ℕ} 0 1 = cc in omega arith)
 not-component fails st fill z w = (refl, w.1)
 not-component (panics p) st fill z w = absurd (let e = w.0 in let q : ◌≡◌ {A = ℕ} 0 1 = cc in omega arith)
 
 -- the same of an answer that is it
-tried : (o : Outcome syntax.Component) (st : List ℕ) (fill : ℕ) (r : ComponentAnswer) (z : List ℕ) → Left o st fill r z → r ≡ NoComponent → (o ≡ fails) × (z ≡ st)
+tried : (o : Outcome syntax.Component) (st : List ℕ) (fill : ℕ) (r : ComponentAnswer) (z : List ℕ) → Left o st fill r z → r ≡ Ok None → (o ≡ fails) × (z ≡ st)
 tried o st fill r z w h = not-component o st fill z (rw h at w)
 
 -- ---- the returns of `parse_named`
 module _ (s st : List ℕ) (fill : ℕ) (r : ComponentAnswer) (z : List ℕ) (w : Left (class_of s) st fill r z) where
   -- the return where a class was read
-  pub named-class : OneOf some (tag_of the_type r) → Left (named_of s) st fill r z
+  pub named-class : (r ≡ Ok None → ⊥) → Left (named_of s) st fill r z
   unfolding named_of
   named-class h = left-first _ _ st fill r z w h
 
   -- no class was read: an attribute is tried
-  module _ (h : r ≡ NoComponent) where
+  module _ (h : r ≡ Ok None) where
     -- the store is as it was
     pub same_class : z ≡ st
     same_class = (tried _ st fill r z w h).1
@@ -79,11 +67,11 @@ module _ (s st : List ℕ) (fill : ℕ) (r : ComponentAnswer) (z : List ℕ) (w 
       from-attr = rw same_class at w₂
 
       -- the return where an attribute was read
-      pub named-attr : OneOf some (tag_of the_type r₂) → Left (named_of s) st fill r₂ z₂
+      pub named-attr : (r₂ ≡ Ok None → ⊥) → Left (named_of s) st fill r₂ z₂
       named-attr k = no-class r₂ z₂ (left-first _ _ st fill r₂ z₂ from-attr k)
 
       -- no attribute was read: a hash is tried
-      module _ (h₂ : r₂ ≡ NoComponent) where
+      module _ (h₂ : r₂ ≡ Ok None) where
         -- the store is as it was
         pub same-attr : z₂ ≡ st
         same-attr = (tried _ st fill r₂ z₂ from-attr h₂).1
@@ -98,11 +86,11 @@ module _ (s st : List ℕ) (fill : ℕ) (r : ComponentAnswer) (z : List ℕ) (w 
           from-hash = rw same-attr at w₃
 
           -- the return where a hash was read
-          pub named-hash : OneOf some (tag_of the_type r₃) → Left (named_of s) st fill r₃ z₃
+          pub named-hash : (r₃ ≡ Ok None → ⊥) → Left (named_of s) st fill r₃ z₃
           named-hash k = no-attr r₃ z₃ (left-first _ _ st fill r₃ z₃ from-hash k)
 
           -- no hash was read: a type selector is tried
-          module _ (h₃ : r₃ ≡ NoComponent) where
+          module _ (h₃ : r₃ ≡ Ok None) where
             -- the store is as it was
             same-hash : z₃ ≡ st
             same-hash = (tried _ st fill r₃ z₃ from-hash h₃).1
@@ -117,11 +105,11 @@ module _ (s st : List ℕ) (fill : ℕ) (r : ComponentAnswer) (z : List ℕ) (w 
               from-element = rw same-hash at w₄
 
               -- the return where an element was read
-              pub named-element : OneOf some (tag_of the_type r₄) → Left (named_of s) st fill r₄ z₄
+              pub named-element : (r₄ ≡ Ok None → ⊥) → Left (named_of s) st fill r₄ z₄
               named-element k = no-hash r₄ z₄ (left-first _ _ st fill r₄ z₄ from-element k)
 
               -- no type selector was read: a pseudo-class is tried
-              module _ (h₄ : r₄ ≡ NoComponent) where
+              module _ (h₄ : r₄ ≡ Ok None) where
                 -- the store is as it was
                 pub same-element : z₄ ≡ st
                 same-element = (tried _ st fill r₄ z₄ from-element h₄).1
@@ -176,11 +164,11 @@ module _ (s st : List ℕ) (fill : ℕ) (r : ComponentAnswer) (er : r ≡ compon
   mark-left = (er, sym (ap (sets st fill) (mark-textless s)))
 
   -- the return where one of the three was read
-  pub simple-mark : OneOf some (tag_of the_type r) → Left (component_of s) st fill r st
+  pub simple-mark : (r ≡ Ok None → ⊥) → Left (component_of s) st fill r st
   simple-mark h = rw (← component-is s) (left-first _ _ st fill r st mark-left h)
 
   -- none: what stands behind it
-  pub simple-named : r ≡ NoComponent → (x : ComponentAnswer) (z : List ℕ) → Left (named_of s) st fill x z → Left (component_of s) st fill x z
+  pub simple-named : r ≡ Ok None → (x : ComponentAnswer) (z : List ℕ) → Left (named_of s) st fill x z → Left (component_of s) st fill x z
   simple-named h x z v = rw (← component-is s) (left-second _ _ st fill (tried _ st fill r st mark-left h).0 x z v)
 
 -- ---- the returns of `parse_next`
@@ -192,12 +180,12 @@ module _ (start : ℕ) (s st : List ℕ) (fill : ℕ) where
 
   module _ (h : start ≡ 0) (r : ComponentAnswer) (z : List ℕ) (w : Left (parsed 0 (ident_of s) element) st fill r z) where
     -- at the start of a selector a type selector that reads or panics is the next component
-    pub next-element : OneOf some (tag_of the_type r) → Left (next_of (is start 0) s) st fill r z
+    pub next-element : (r ≡ Ok None → ⊥) → Left (next_of (is start 0) s) st fill r z
     unfolding next_of first_component pick
     next-element k = rw (is-yes start 0 h) (left-first _ _ st fill r z w k)
 
     -- no type selector was read: any component is tried
-    module _ (e : r ≡ NoComponent) where
+    module _ (e : r ≡ Ok None) where
       -- where no type selector was read the store is as it was
       pub next-same : z ≡ st
       next-same = (tried _ st fill r z w e).1

@@ -1,5 +1,5 @@
 -- Components of selectors as the code answers them: the columns of a component's row, and its text in the store.
-use Rattle.std.specs.Prelude.{ℕ, ◌+◌, List, ◌≡◌, refl, length, get_or, drop}
+use Rattle.std.specs.Prelude.{ℕ, ◌+◌, Option, Some, None, Result, Ok, Err, List, ◌≡◌, refl, length, get_or, drop}
 use Rattle.std.proofs.lemmas.List.Edits.{sets}
 use Rattle.combinators.specs.Ascii as ascii
 use Rattle.combinators.specs.Choice.{pick, is}
@@ -11,8 +11,7 @@ use Rattle.characters.specs.Literal.{text}
 use Rattle.characters.specs.Utf8.{utf8}
 use Rattle.lexer.specs.Name.{ident_of}
 use Rattle.lexer.specs.Whitespace.{skip_whitespace}
-use Rattle.lexer.specs.declared.names.Name.{Name}
-use Rattle.lexer.specs.declared.names.Name.TheVariants.{Text, NoName}
+use Rattle.lexer.specs.declared.Written.{Written}
 use Rattle.syntax.specs.Selector as syntax
 use Rattle.syntax.specs.Selector.{child, star}
 use Rattle.syntax.specs.RuleLayout.{class_kind, attribute_equal_kind, component_kind, component_first, component_second, component_text}
@@ -20,15 +19,17 @@ use Rattle.selectors.specs.Outcome as outcome
 use Rattle.selectors.specs.Outcome.{Outcome, reads, on_outcome, or_else}
 use Rattle.selectors.specs.Selector.{quoted_of, marked, blank_of, class_of, attr_of, hash_of, pseudo_class_of}
 use Rattle.selectors.specs.Reading.{written}
-use Rattle.selectors.specs.declared.components.ComponentAnswer.{ComponentAnswer}
-use Rattle.selectors.specs.declared.components.ComponentAnswer.TheVariants.{Component, NoComponent, Panic}
+use Rattle.selectors.specs.declared.components.Component.{Component}
+use Rattle.selectors.specs.declared.readings.Panic.{Panic}
 
-unfoldable pub component_answer : Outcome syntax.Component → ComponentAnswer
-component_answer o = on_outcome o (λ n c. Component n (component_kind c) (component_first c) (component_second c)) NoComponent Panic
+unfoldable pub component_answer : Outcome syntax.Component → Result (Option Component) Panic
+component_answer o =
+    on_outcome o (λ n c. Ok (Some (record { taken = n; kind = component_kind c; first = component_first c; second = component_second c }))) (Ok None)
+    (λ p. Err (record { place = p }))
 
 -- `.ab` and `[a="b"]`
-case : (component_answer (reads 3 (syntax.class (text "ab"))) ≡ Component 3 class_kind 2 0)
-    × (component_answer (reads 7 (syntax.attribute_equal (text "a") (text "b"))) ≡ Component 7 attribute_equal_kind 1 1)
+case : (component_answer (reads 3 (syntax.class (text "ab"))) ≡ Ok (Some (record { taken = 3; kind = class_kind; first = 2; second = 0 })))
+    × (component_answer (reads 7 (syntax.attribute_equal (text "a") (text "b"))) ≡ Ok (Some (record { taken = 7; kind = attribute_equal_kind; first = 1; second = 1 })))
     × (written component_text (reads 7 (syntax.attribute_equal (text "a") (text "b"))) ≡ text "ab")
 unfolding component_answer written on_outcome component_kind component_first component_second component_text text utf8 pick
 case = (refl, refl, refl)
@@ -43,15 +44,15 @@ mark_of t = or_else (marked t ascii.greater_than_sign child) (or_else (marked t 
 unfoldable pub named_of : List ℕ → Outcome syntax.Component
 named_of t = or_else (class_of t) (or_else (attr_of t) (or_else (hash_of t) (or_else (outcome.parsed 0 (ident_of t) syntax.element) (pseudo_class_of t))))
 
--- the bytes of `>` or `*` with the white space on both sides; 0 where it is not there
-unfoldable pub mark_taken : List ℕ → ℕ → ℕ
+-- the bytes of `>` or `*` with the white space on both sides, if it is there
+unfoldable pub mark_taken : List ℕ → ℕ → Option ℕ
 mark_taken t mark =
     let w = skip_whitespace t in
-    pick (is (get_or t w 0) mark) (w + 1 + skip_whitespace (drop (w + 1) t)) 0
+    pick (is (get_or t w 0) mark) (Some (w + 1 + skip_whitespace (drop (w + 1) t))) None
 
--- the bytes of the name `nth-child`, behind white space and comments; 0 where another name or none is there
-unfoldable pub nth_child_name : List ℕ → ℕ
-nth_child_name t = on_parsed (ident_of t) (λ n name. pick (same_text name (text "nth-child")) n 0) 0
+-- the bytes of the name `nth-child`, behind white space and comments, if that is the name there
+unfoldable pub nth_child_name : List ℕ → Option ℕ
+nth_child_name t = on_parsed (ident_of t) (λ n name. pick (same_text name (text "nth-child")) (Some n) None) None
 
 -- ---- the parts of `parse_attr`
 
@@ -64,8 +65,8 @@ unfolding closed_by on_parsed pick is text utf8
 case-closed = (refl, refl)
 
 -- as the code answers, where n bytes stand for a text of so many bytes, which lies in the store; it is wiped where there is no `]`
-unfoldable pub closed_answer : List ℕ → ℕ → ℕ → Name
-closed_answer t n size = pick (is (get_or t n 0) ascii.right_square_bracket) (Text (n + 1) size) NoName
+unfoldable pub closed_answer : List ℕ → ℕ → ℕ → Option Written
+closed_answer t n size = pick (is (get_or t n 0) ascii.right_square_bracket) (Some (record { taken = (n + 1); length = size })) None
 
 unfoldable pub closed_store : List ℕ → ℕ → ℕ → ℕ → List ℕ → List ℕ
 closed_store t n size fill store = pick (is (get_or t n 0) ascii.right_square_bracket) store (wiped fill size store)
@@ -75,8 +76,8 @@ unfoldable pub attr_value_of : List ℕ → Parsed (List ℕ)
 attr_value_of t = parsed.or_else (closed_by t (quoted_of t)) (closed_by t (ident_of t))
 
 -- the answer where a name of so many bytes has a value or none behind its `=`, which stands at a place
-unfoldable pub equal_answer : Parsed (List ℕ) → ℕ → ℕ → ComponentAnswer
-equal_answer p at name = on_parsed p (λ n v. Component (at + 1 + n) attribute_equal_kind name (length v)) NoComponent
+unfoldable pub equal_answer : Parsed (List ℕ) → ℕ → ℕ → Result (Option Component) Panic
+equal_answer p at name = on_parsed p (λ n v. Ok (Some (record { taken = at + 1 + n; kind = attribute_equal_kind; first = name; second = length v }))) (Ok None)
 
 -- the store: the value stands behind the name, or the name is wiped
 unfoldable pub equal_store : Parsed (List ℕ) → ℕ → ℕ → List ℕ → List ℕ

@@ -1,9 +1,11 @@
 -- Components as the code has them: by the numbers of their rows.
-use Rattle.std.specs.Prelude.{ℕ, ◌+◌, ◌*◌, ◌-◌, Bool, false, List, [], ◌∷◌, get_or}
+use Rattle.std.specs.Prelude.{ℕ, ◌+◌, ◌*◌, ◌-◌, Bool, false, Option, Some, None, List, [], ◌∷◌, get_or}
 use Rattle.combinators.specs.Choice.{pick, is}
 use Rattle.lexer.specs.Name.{ident_of}
 use Rattle.syntax.specs.RuleLayout.{component_width, component_kind_at, nth_kind, descendant_kind}
-use Rattle.syntax.specs.Selector.{Component, element}
+use Rattle.syntax.specs.Selector.{Component, element, PseudoElement, none, before, after}
+use Rattle.selectors.specs.declared.selectors.PseudoElement as declared
+use Rattle.selectors.specs.declared.selectors.PseudoElement.TheVariants as code
 use Rattle.selectors.specs.Outcome.{Outcome, behind, parsed, or_else}
 use Rattle.selectors.specs.Selector.{component_of, body_of, is_descendant, without_first}
 
@@ -31,3 +33,9 @@ started_of t = behind 0 (body_of t) without_first
 -- whether the last of n rows is that of a blank
 unfoldable pub blank_last : List ℕ → ℕ → ℕ → Bool
 blank_last rows place n = pick (is n 0) false (is (get_or rows (place + component_width * (n - 1) + component_kind_at) 0) descendant_kind)
+
+-- what the pseudo element that was read, or none, is
+abbrev pub pseudo_meant : Option declared.PseudoElement → PseudoElement
+pseudo_meant None = none
+pseudo_meant (Some code.Before) = before
+pseudo_meant (Some code.After) = after

@@ -1,21 +1,22 @@
 -- What reading selectors, rules and sheets leaves: an answer, and the rows and texts of what was read. A reader that fails or panics leaves the
 -- stores as they were: they are zero where it may write, and what it wrote is zero again.
-use Rattle.std.specs.Prelude.{ℕ, ◌+◌, ◌*◌, ◌^◌, ◌≤◌, ◌<◌, List, [], length}
+use Rattle.std.specs.Prelude.{ℕ, ◌+◌, ◌*◌, ◌^◌, ◌≤◌, ◌<◌, Option, Some, None, Result, Ok, Err, List, [], length}
 use Rattle.syntax.specs.RuleLayout.{component_width}
 use Rattle.combinators.specs.Store.{Zeros}
 use Rattle.selectors.specs.Outcome.{Outcome, on_outcome}
-use Rattle.selectors.specs.declared.readings.Reading.{Reading}
-use Rattle.selectors.specs.declared.readings.Reading.TheVariants.{Reads, Fails, Panics}
-use Rattle.selectors.specs.declared.readings.ManyReading.{ManyReading}
-use Rattle.selectors.specs.declared.readings.ManyReading.TheVariants as many
+use Rattle.selectors.specs.declared.readings.Panic.{Panic}
+use Rattle.selectors.specs.declared.readings.Read.{Read}
 
 -- the answer: c counts what was read, w gives its rows and x its texts
-unfoldable pub reading : {A : Type 0} → (A → ℕ) → (A → List ℕ) → (A → List ℕ) → Outcome A → Reading
-reading c w x o = on_outcome o (λ n a. Reads n (c a) (length (w a)) (length (x a))) Fails (λ p. Panics p)
+unfoldable pub reading : {A : Type 0} → (A → ℕ) → (A → List ℕ) → (A → List ℕ) → Outcome A → Result (Option Read) Panic
+reading c w x o =
+    on_outcome o (λ n a. Ok (Some (record { taken = n; count = c a; numbers = length (w a); text = length (x a) }))) (Ok None) (λ p. Err (record { place = p }))
 
 -- that of a reader which never fails (laws `selectors-never`, `sheet-never-fails`): what is said of `fails` is said of nothing
-unfoldable pub many_reading : {A : Type 0} → (A → ℕ) → (A → List ℕ) → (A → List ℕ) → Outcome A → ManyReading
-many_reading c w x o = on_outcome o (λ n a. many.Reads n (c a) (length (w a)) (length (x a))) (many.Reads 0 0 0 0) (λ p. many.Panics p)
+unfoldable pub many_reading : {A : Type 0} → (A → ℕ) → (A → List ℕ) → (A → List ℕ) → Outcome A → Result Read Panic
+many_reading c w x o =
+    on_outcome o (λ n a. Ok (record { taken = n; count = c a; numbers = length (w a); text = length (x a) })) (Ok (record { taken = 0; count = 0; numbers = 0; text = 0 }))
+    (λ p. Err (record { place = p }))
 
 -- what is written of what was read: nothing where it does not read
 unfoldable pub written : {A : Type 0} → (A → List ℕ) → Outcome A → List ℕ

@@ -5,25 +5,26 @@ ghost use Rattle.syntax.specs.Signed.{signed_number};
 ghost use Rattle.selectors.specs.Selector.{sign_taken, signed, greatest, both_of, just_a, just_b, nth_of, nth_args_of};
 ghost use Rattle.selectors.specs.NthAnswer.{nth_answer, converted_answer, integer_of};
 
+use crate::readings::Panic;
 use combinators::bytes::{byte_is, starts_with};
 use lexer::numbers::{parse_integer, parse_sign};
 use lexer::whitespace::skip_from;
-use values::colours::{DECIMAL, NumberAnswer, digits_in};
+use values::colours::{DECIMAL, digits_in};
 
-// The bytes taken, a and b; or the byte where the crate panics.
-#[derive(Clone, Copy)]
-pub enum NthAnswer {
-    Nth { taken: usize, a: u32, b: u32 },
-    NoNth,
-    Panic(usize),
+// The bytes taken, a and b.
+#[derive(Clone, Copy, Debug, PartialEq, Eq)]
+pub struct Nth {
+    pub taken: usize,
+    pub a: u32,
+    pub b: u32,
 }
 
 // A sign or none and digits or none: the bytes of the sign, the bytes of both, and the number where it fits.
-#[derive(Clone, Copy)]
+#[derive(Clone, Copy, Debug, PartialEq, Eq)]
 struct SignedInteger {
     sign: usize,
     taken: usize,
-    value: NumberAnswer,
+    value: Option<u32>,
 }
 
 // The greatest number of `i32`, which the crate converts to.
@@ -53,26 +54,22 @@ fn signed_number(v: u32, minus: bool) -> u32
     requires { v ≤ greatest }
     ensures { result ≡ signed_number (signed minus v) }
 {
-    if v == 0 {
-        return ZERO;
-    }
     if minus {
-        return v * 2 - 1;
+        (v * 2).saturating_sub(1)
+    } else {
+        v * 2
     }
-    v * 2
 }
 
 // The number that digits write, where it fits; 1 where there is none.
-fn converted(digits: &[u8], minus: bool) -> NumberAnswer
+fn converted(digits: &[u8], minus: bool) -> Option<u32>
     ensures { result ≡ converted_answer digits.now minus }
 {
-    if digits.len() == 0 {
-        return NumberAnswer::Number(signed_number(1, minus));
+    if digits.is_empty() {
+        return Some(signed_number(1, minus));
     }
-    let NumberAnswer::Number(v) = digits_in(digits, DECIMAL, GREATEST) else {
-        return NumberAnswer::NoNumber;
-    };
-    NumberAnswer::Number(signed_number(v, minus))
+    let v = digits_in(digits, DECIMAL, GREATEST)?;
+    Some(signed_number(v, minus))
 }
 
 // A sign or none and digits or none.
@@ -88,128 +85,108 @@ fn signed_integer(s: &[u8]) -> SignedInteger
 }
 
 // A sign or none, digits or none, `n`, white space or none, a sign, digits.
-fn both_of(s: &[u8]) -> NthAnswer
+fn both_of(s: &[u8]) -> Result<Option<Nth>, Panic>
     ensures { result ≡ nth_answer (both_of s.now) }
 {
     let first = signed_integer(s);
-    if byte_is(s, first.taken, b'n') {
-        let at = skip_from(s, first.taken + 1);
-        let second = signed_integer(&s[at..]);
-        if second.sign == 0 {
-            return NthAnswer::NoNth;
-        }
-        if second.taken == second.sign {
-            return NthAnswer::NoNth;
-        }
-        let value = first.value;
-        let NumberAnswer::Number(a) = value else {
-            return NthAnswer::Panic(first.sign);
-        };
-        let other = second.value;
-        let NumberAnswer::Number(b) = other else {
-            return NthAnswer::Panic(at + second.sign);
-        };
-        return NthAnswer::Nth {
-            taken: at + second.taken,
-            a,
-            b,
-        };
+    if !byte_is(s, first.taken, b'n') {
+        return Ok(None);
     }
-    NthAnswer::NoNth
+    let at = skip_from(s, first.taken + 1);
+    let second = signed_integer(&s[at..]);
+    if second.sign == 0 || second.taken == second.sign {
+        return Ok(None);
+    }
+    let a = first.value.ok_or(Panic { place: first.sign })?;
+    let b = second.value.ok_or(Panic {
+        place: at + second.sign,
+    })?;
+    Ok(Some(Nth {
+        taken: at + second.taken,
+        a,
+        b,
+    }))
 }
 
 // The same up to the `n`.
-fn just_a(s: &[u8]) -> NthAnswer
+fn just_a(s: &[u8]) -> Result<Option<Nth>, Panic>
     ensures { result ≡ nth_answer (just_a s.now) }
 {
     let first = signed_integer(s);
-    if byte_is(s, first.taken, b'n') {
-        let value = first.value;
-        let NumberAnswer::Number(a) = value else {
-            return NthAnswer::Panic(first.sign);
-        };
-        return NthAnswer::Nth {
-            taken: first.taken + 1,
-            a,
-            b: ZERO,
-        };
+    if !byte_is(s, first.taken, b'n') {
+        return Ok(None);
     }
-    NthAnswer::NoNth
+    let a = first.value.ok_or(Panic { place: first.sign })?;
+    Ok(Some(Nth {
+        taken: first.taken + 1,
+        a,
+        b: ZERO,
+    }))
 }
 
 // A sign or none, digits.
-fn just_b(s: &[u8]) -> NthAnswer
+fn just_b(s: &[u8]) -> Result<Option<Nth>, Panic>
     ensures { result ≡ nth_answer (just_b s.now) }
 {
     let second = signed_integer(s);
     if second.taken == second.sign {
-        return NthAnswer::NoNth;
+        return Ok(None);
     }
-    let value = second.value;
-    let NumberAnswer::Number(b) = value else {
-        return NthAnswer::Panic(second.sign);
-    };
-    NthAnswer::Nth {
+    let b = second.value.ok_or(Panic { place: second.sign })?;
+    Ok(Some(Nth {
         taken: second.taken,
         a: ZERO,
         b,
-    }
+    }))
 }
 
 // `even`, `odd`, or an+b in one of its forms, in the crate's order.
-fn parse_nth(s: &[u8]) -> NthAnswer
+fn parse_nth(s: &[u8]) -> Result<Option<Nth>, Panic>
     ensures { result ≡ nth_answer (nth_of s.now) }
 {
     if starts_with(s, &EVEN) {
-        return NthAnswer::Nth {
+        return Ok(Some(Nth {
             taken: EVEN.len(),
             a: TWO,
             b: ZERO,
-        };
+        }));
     }
     if starts_with(s, &ODD) {
-        return NthAnswer::Nth {
+        return Ok(Some(Nth {
             taken: ODD.len(),
             a: TWO,
             b: ONE,
-        };
+        }));
     }
-    let both = both_of(s);
-    let NthAnswer::NoNth = both else {
-        return both;
-    };
-    let first = just_a(s);
-    let NthAnswer::NoNth = first else {
-        return first;
-    };
+    if let Some(both) = both_of(s)? {
+        return Ok(Some(both));
+    }
+    if let Some(first) = just_a(s)? {
+        return Ok(Some(first));
+    }
     just_b(s)
 }
 
 // The arguments in brackets, with white space or none before and behind.
-pub fn parse_nth_child_args(s: &[u8]) -> NthAnswer
+pub fn parse_nth_child_args(s: &[u8]) -> Result<Option<Nth>, Panic>
     ensures { result ≡ nth_answer (nth_args_of s.now) }
 {
-    if byte_is(s, 0, b'(') {
-        let start = skip_from(s, 1);
-        match parse_nth(&s[start..]) {
-            NthAnswer::Nth { taken: n, a, b } => {
-                let end = skip_from(s, start + n);
-                if byte_is(s, end, b')') {
-                    return NthAnswer::Nth {
-                        taken: end + 1,
-                        a,
-                        b,
-                    };
-                }
-                return NthAnswer::NoNth;
-            }
-            NthAnswer::NoNth => {
-                return NthAnswer::NoNth;
-            }
-            NthAnswer::Panic(p) => {
-                return NthAnswer::Panic(start + p);
-            }
-        }
+    if !byte_is(s, 0, b'(') {
+        return Ok(None);
     }
-    NthAnswer::NoNth
+    let start = skip_from(s, 1);
+    // `map_err` would do, but no proof reaches what its closure ensures
+    let nth = match parse_nth(&s[start..]) {
+        Ok(Some(nth)) => nth,
+        Ok(None) => return Ok(None),
+        Err(panic) => return Err(panic.behind(start)),
+    };
+    let end = skip_from(s, start + nth.taken);
+    if !byte_is(s, end, b')') {
+        return Ok(None);
+    }
+    Ok(Some(Nth {
+        taken: end + 1,
+        ..nth
+    }))
 }

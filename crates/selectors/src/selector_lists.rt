@@ -6,7 +6,7 @@ ghost use Rattle.syntax.specs.RuleLayout.{selector_head, selector_rows, selector
 ghost use Rattle.selectors.specs.SelectorList.{selectors_of};
 ghost use Rattle.selectors.specs.Reading.{many_reading, written, TextRoom, RowRoom};
 
-use crate::readings::{ManyReading, Reading, take_back};
+use crate::readings::{Panic, Read, take_back};
 use crate::selectors::parse_selector;
 use combinators::bytes::byte_is;
 use lexer::whitespace::skip_from;
@@ -18,7 +18,7 @@ pub fn parse_selectors(
     place: usize,
     store: &mut [u8],
     fill: usize,
-) -> ManyReading
+) -> Result<Read, Panic>
     requires row_room { RowRoom selector_head s.now rules.old place }
     requires text_room { TextRoom 4 s.now store.old fill }
     ensures value { result ≡ many_reading length (selector_rows fill) selector_texts (selectors_of s.now) }
@@ -32,38 +32,32 @@ pub fn parse_selectors(
     let mut next = 0;
     loop {
         match parse_selector(&s[next..], rules, place + numbers, store, fill + text) {
-            Reading::Fails => {
-                return ManyReading::Reads {
+            Ok(None) => {
+                return Ok(Read {
                     taken,
                     count,
                     numbers,
                     text,
-                };
+                });
             }
-            Reading::Panics(p) => {
+            Err(panic) => {
                 take_back(rules, place, numbers, store, fill, text);
-                return ManyReading::Panics(next + p);
+                return Err(panic.behind(next));
             }
-            Reading::Reads {
-                taken: n,
-                numbers: row,
-                text: more,
-                ..
-            } => {
-                taken = next + n;
+            Ok(Some(selector)) => {
+                taken = next + selector.taken;
                 count += 1;
-                numbers += row;
-                text += more;
-                if byte_is(s, taken, b',') {
-                    next = skip_from(s, taken + 1);
-                } else {
-                    return ManyReading::Reads {
+                numbers += selector.numbers;
+                text += selector.text;
+                if !byte_is(s, taken, b',') {
+                    return Ok(Read {
                         taken,
                         count,
                         numbers,
                         text,
-                    };
+                    });
                 }
+                next = skip_from(s, taken + 1);
             }
         }
     }

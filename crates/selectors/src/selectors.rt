@@ -1,6 +1,6 @@
 // Selectors: components as long as they read, and `parse_selector`. Rows go to `rules` from `place` on, texts to `store` from `fill` on; both
 // are zero there, and stay so where nothing is read.
-ghost use Rattle.std.specs.Prelude.{◌≡◌, [], ◌∷◌, ◌+◌, ◌-◌, ◌*◌, ◌^◌, ◌<◌, length};
+ghost use Rattle.std.specs.Prelude.{◌≡◌, true, false, [], ◌∷◌, ◌+◌, ◌-◌, ◌*◌, ◌^◌, ◌<◌, length};
 ghost use Rattle.std.proofs.lemmas.List.Edits.{sets};
 ghost use Rattle.combinators.specs.Choice.{pick, is};
 ghost use Rattle.combinators.specs.Store.{wiped};
@@ -8,12 +8,12 @@ ghost use Rattle.syntax.specs.RuleLayout.{component_width, descendant_kind, comp
 ghost use Rattle.syntax.specs.Writing.{ComponentFits};
 ghost use Rattle.selectors.specs.Selector.{selector_of, pseudo_of, pseudo_taken};
 ghost use Rattle.selectors.specs.ComponentAnswer.{component_answer};
-ghost use Rattle.selectors.specs.Components.{text_length, next_of, started_of, blank_last};
+ghost use Rattle.selectors.specs.Components.{pseudo_meant, text_length, next_of, started_of, blank_last};
 ghost use Rattle.selectors.specs.Stores.{Clean};
 ghost use Rattle.selectors.specs.Reading.{reading, written, TextRoom, RowRoom};
 
-use crate::components::{ComponentAnswer, parse_element, parse_simple_selector_component};
-use crate::readings::{Reading, take_back};
+use crate::components::{Component, parse_element, parse_simple_selector_component};
+use crate::readings::{Panic, Read, take_back};
 use combinators::bytes::starts_with;
 use combinators::stores::{number_at, wipe_numbers};
 use syntax::rows::{
@@ -27,11 +27,17 @@ const BEFORE: [u8; 8] = *b"::before";
 
 const AFTER: [u8; 7] = *b"::after";
 
-// A pseudo element, and the bytes that it takes.
-#[derive(Clone, Copy)]
+#[derive(Clone, Copy, Debug, PartialEq, Eq)]
+pub enum PseudoElement {
+    Before,
+    After,
+}
+
+// A pseudo element or none, and the bytes that it takes.
+#[derive(Clone, Copy, Debug, PartialEq, Eq)]
 pub struct PseudoRead {
     pub taken: usize,
-    pub pseudo: u32,
+    pub pseudo: Option<PseudoElement>,
 }
 
 // The bytes of a component's texts.
@@ -39,63 +45,62 @@ fn text_length(kind: u32, first: usize, second: usize) -> usize
     requires { text_length kind first second < 2 ^ 64 }
     ensures { result ≡ text_length kind first second }
 {
-    if kind == NTH {
-        return 0;
-    }
-    first + second
+    if kind == NTH { 0 } else { first + second }
 }
 
 // The next component, `start` bytes from the start of a selector: there a type selector if there is one, or else any.
-fn parse_next(s: &[u8], start: usize, store: &mut [u8], fill: usize) -> ComponentAnswer
+fn parse_next(
+    s: &[u8],
+    start: usize,
+    store: &mut [u8],
+    fill: usize,
+) -> Result<Option<Component>, Panic>
     requires { Clean (length s.now) fill store.old }
     ensures value { result ≡ component_answer (next_of (is start 0) s.now) }
     ensures store_after { store.new ≡ sets store.old fill (written component_text (next_of (is start 0) s.now)) }
 {
-    if start == 0 {
-        let element = parse_element(s, store, fill);
-        let ComponentAnswer::NoComponent = element else {
-            return element;
-        };
+    if start > 0 {
         return parse_simple_selector_component(s, store, fill);
     }
-    parse_simple_selector_component(s, store, fill)
+    match parse_element(s, store, fill)? {
+        Some(element) => Ok(Some(element)),
+        None => parse_simple_selector_component(s, store, fill),
+    }
 }
 
-// How many rows a component of a kind has, `start` bytes from the start of a selector: there a blank is dropped.
-fn kept_of(start: usize, kind: u32) -> usize
-    ensures { result ≡ pick (is start 0) (pick (is kind descendant_kind) 0 1) 1 }
+// Whether a component of a kind has a row, `start` bytes from the start of a selector: there a blank is dropped.
+fn is_kept(start: usize, kind: u32) -> bool
+    ensures { result ≡ pick (is start 0) (pick (is kind descendant_kind) false true) true }
 {
-    if start == 0 {
-        if kind == DESCENDANT {
-            return 0;
-        }
-        return 1;
-    }
-    1
+    start > 0 || kind != DESCENDANT
 }
 
 // Puts down the row of a component where it is kept.
-fn put_kept(
-    kept: usize,
-    kind: u32,
-    first: usize,
-    second: usize,
-    fill: usize,
-    rules: &mut [u32],
-    place: usize,
-)
-    requires { ComponentFits first second fill }
-    ensures { rules.new ≡ sets rules.old place (pick (is kept 0) [] (kind ∷ fill ∷ first ∷ second ∷ [])) }
+fn put_kept(kept: bool, component: Component, fill: usize, rules: &mut [u32], place: usize)
+    requires { ComponentFits component.first component.second fill }
+    ensures { rules.new ≡ sets rules.old place (pick kept (component.kind ∷ fill ∷ component.first ∷ component.second ∷ []) []) }
 {
-    if kept == 0 {
-        return;
+    if kept {
+        put_component(
+            component.kind,
+            component.first,
+            component.second,
+            fill,
+            rules,
+            place,
+        );
     }
-    put_component(kind, first, second, fill, rules, place);
 }
 
 // Reads the components of a selector as long as they read, `parse_selector_with_element` or else `parse_selector_without_element`, without a blank
 // at the start; their rows stand in reading order.
-fn parse_body(s: &[u8], rules: &mut [u32], place: usize, store: &mut [u8], fill: usize) -> Reading
+fn parse_body(
+    s: &[u8],
+    rules: &mut [u32],
+    place: usize,
+    store: &mut [u8],
+    fill: usize,
+) -> Result<Option<Read>, Panic>
     requires row_room { RowRoom 0 s.now rules.old place }
     requires text_room { TextRoom 4 s.now store.old fill }
     ensures value { result ≡ reading length (component_rows fill) component_texts (started_of s.now) }
@@ -109,33 +114,29 @@ fn parse_body(s: &[u8], rules: &mut [u32], place: usize, store: &mut [u8], fill:
     loop {
         let at = fill + text;
         match parse_next(&s[taken..], taken, store, at) {
-            ComponentAnswer::Component {
-                taken: n,
-                kind,
-                first,
-                second,
-            } => {
-                let kept = kept_of(taken, kind);
-                put_kept(kept, kind, first, second, at, rules, place + numbers);
-                taken += n;
-                count += kept;
-                numbers += COMPONENT_WIDTH * kept;
-                text += text_length(kind, first, second);
+            Ok(Some(component)) => {
+                let kept = is_kept(taken, component.kind);
+                put_kept(kept, component, at, rules, place + numbers);
+                taken += component.taken;
+                let rows = usize::from(kept);
+                count += rows;
+                numbers += COMPONENT_WIDTH * rows;
+                text += text_length(component.kind, component.first, component.second);
             }
-            ComponentAnswer::NoComponent => {
+            Ok(None) => {
                 if taken == 0 {
-                    return Reading::Fails;
+                    return Ok(None);
                 }
-                return Reading::Reads {
+                return Ok(Some(Read {
                     taken,
                     count,
                     numbers,
                     text,
-                };
+                }));
             }
-            ComponentAnswer::Panic(p) => {
+            Err(panic) => {
                 take_back(rules, place, numbers, store, fill, text);
-                return Reading::Panics(taken + p);
+                return Err(panic.behind(taken));
             }
         }
     }
@@ -148,35 +149,48 @@ fn drop_blank(rules: &mut [u32], place: usize, count: usize) -> usize
     ensures rules_after { rules.new ≡ pick (blank_last rules.old place count) (wiped (place + component_width * (count - 1)) component_width rules.old) rules.old }
 {
     if count == 0 {
-        return count;
+        return 0;
     }
     let last = place + COMPONENT_WIDTH * (count - 1);
-    if number_at(rules, last, COMPONENT_KIND) == DESCENDANT {
-        wipe_numbers(rules, last, COMPONENT_WIDTH);
-        return count - 1;
+    if number_at(rules, last, COMPONENT_KIND) != DESCENDANT {
+        return count;
     }
-    count
+    wipe_numbers(rules, last, COMPONENT_WIDTH);
+    count - 1
 }
 
 // Reads a pseudo element or none.
 fn parse_pseudo_element(s: &[u8]) -> PseudoRead
-    ensures { (result.taken ≡ pseudo_taken (pseudo_of s.now)) × (result.pseudo ≡ pseudo_number (pseudo_of s.now)) }
+    ensures { (result.taken ≡ pseudo_taken (pseudo_of s.now)) × (pseudo_meant result.pseudo ≡ pseudo_of s.now) }
 {
     if starts_with(s, &BEFORE) {
         return PseudoRead {
             taken: BEFORE.len(),
-            pseudo: PSEUDO_BEFORE,
+            pseudo: Some(PseudoElement::Before),
         };
     }
     if starts_with(s, &AFTER) {
         return PseudoRead {
             taken: AFTER.len(),
-            pseudo: PSEUDO_AFTER,
+            pseudo: Some(PseudoElement::After),
         };
     }
     PseudoRead {
         taken: 0,
-        pseudo: PSEUDO_NONE,
+        pseudo: None,
+    }
+}
+
+// The number of a pseudo element or none in the row of a selector.
+fn pseudo_number(pseudo: Option<PseudoElement>) -> u32
+    ensures { result ≡ pseudo_number (pseudo_meant pseudo) }
+{
+    let Some(element) = pseudo else {
+        return PSEUDO_NONE;
+    };
+    match element {
+        PseudoElement::Before => PSEUDO_BEFORE,
+        PseudoElement::After => PSEUDO_AFTER,
     }
 }
 
@@ -187,35 +201,23 @@ pub fn parse_selector(
     place: usize,
     store: &mut [u8],
     fill: usize,
-) -> Reading
+) -> Result<Option<Read>, Panic>
     requires row_room { RowRoom selector_head s.now rules.old place }
     requires text_room { TextRoom 4 s.now store.old fill }
     ensures value { result ≡ reading (λ x. 1) (selector_row fill) selector_text (selector_of s.now) }
     ensures rules_after { rules.new ≡ sets rules.old place (written (selector_row fill) (selector_of s.now)) }
     ensures store_after { store.new ≡ sets store.old fill (written selector_text (selector_of s.now)) }
 {
-    match parse_body(s, rules, place + SELECTOR_HEAD, store, fill) {
-        Reading::Fails => {
-            return Reading::Fails;
-        }
-        Reading::Panics(p) => {
-            return Reading::Panics(p);
-        }
-        Reading::Reads {
-            taken: n,
-            count,
-            text,
-            ..
-        } => {
-            let kept = drop_blank(rules, place + SELECTOR_HEAD, count);
-            let pseudo = parse_pseudo_element(&s[n..]);
-            put_selector_head(kept, pseudo.pseudo, rules, place);
-            return Reading::Reads {
-                taken: n + pseudo.taken,
-                count: 1,
-                numbers: SELECTOR_HEAD + COMPONENT_WIDTH * kept,
-                text,
-            };
-        }
-    }
+    let Some(body) = parse_body(s, rules, place + SELECTOR_HEAD, store, fill)? else {
+        return Ok(None);
+    };
+    let kept = drop_blank(rules, place + SELECTOR_HEAD, body.count);
+    let pseudo = parse_pseudo_element(&s[body.taken..]);
+    put_selector_head(kept, pseudo_number(pseudo.pseudo), rules, place);
+    Ok(Some(Read {
+        taken: body.taken + pseudo.taken,
+        count: 1,
+        numbers: SELECTOR_HEAD + COMPONENT_WIDTH * kept,
+        text: body.text,
+    }))
 }

@@ -6,6 +6,9 @@ use Prim.Native.Nat.{ℕ, ◌+◌, ◌-◌, ◌*◌, ◌^◌, ◌≤◌, ◌<◌
 use native.Mathlib.Omega.{arith}
 use lib.ListN.{length, get_or, take, drop, length-drop}
 use lib.Seq.{sets}
+use Rattle.selectors.proofs.ReadingLaws as readings
+use Rattle.selectors.proofs.ReadingLaws.{Reading}
+use Rattle.std.specs.Prelude.{Some, None, Ok, Option, Result, Err}
 use Rattle.combinators.specs.Ascii as ascii
 use Rattle.combinators.specs.Choice.{pick, is}
 use Rattle.combinators.specs.Parsed.{on_parsed}
@@ -14,16 +17,15 @@ use Rattle.combinators.proofs.Lists.{rest, byte-there}
 use Rattle.lexer.specs.Name.{ident_of, name_answer, name_text}
 use Rattle.lexer.specs.TokenRow.{token_width}
 use Rattle.lexer.specs.Whitespace.{skip_whitespace}
-use Rattle.lexer.specs.declared.names.Name.{Name}
-use Rattle.lexer.specs.declared.names.Name.TheVariants as name
+use Rattle.lexer.specs.declared.Written.{Written}
 use Rattle.lexer.proofs.Bounds.{Fits}
 use Rattle.lexer.proofs.IdentBounds.{ident-fits}
 use Rattle.syntax.specs.RuleLayout.{rule_rows, rule_texts}
 use Rattle.syntax.specs.Stream.{rows_many, texts_many}
 use Rattle.values.specs.Value.{Statement, statement_of}
-use Rattle.values.specs.Layout.{rows_of, texts_of, brackets_after, Left, left, Room}
-use Rattle.values.specs.declared.statements.StatementAnswer.{StatementAnswer}
-use Rattle.values.specs.declared.statements.StatementAnswer.TheVariants as answer
+use Rattle.values.specs.Layout.{statement_answer, rows_of, texts_of, brackets_after, Left, left, Room}
+use Rattle.values.specs.declared.statements.Statement as declared
+use Rattle.values.specs.declared.statements.Unbalanced.{Unbalanced}
 use Rattle.values.proofs.Sizes.{Sized, statement-sized, rows_long}
 use Rattle.values.proofs.Unmarked.{brackets-wiped}
 use Rattle.lexer.proofs.NameAnswers.{NameRead, named-from, unnamed-from}
@@ -31,8 +33,6 @@ use Rattle.selectors.specs.Outcome.{fails, on_outcome}
 use Rattle.sheets.specs.Sheet.{spaced, statement_end, at_rule_of}
 use Rattle.sheets.specs.Rules.{WorkRoom}
 use Rattle.selectors.specs.Reading.{reading}
-use Rattle.selectors.specs.declared.readings.Reading.{Reading}
-use Rattle.selectors.specs.declared.readings.Reading.TheVariants.{Reads, Fails}
 use Rattle.combinators.proofs.ZeroLaws.{zeros-back}
 
 -- ---- what the answer of `parse_to_end_of_statement` says
@@ -43,18 +43,16 @@ record Said (r : Statement) (b : Bool) (n k t : ℕ) : Type 0 where
   text : t ≡ length (texts_of r.tokens)
 
 -- an answer with a statement says that its brackets close, and what it counts
-said-by : (b : Bool) (p q u n k t : ℕ) → answer.Statement n k t ≡ pick b (answer.Statement p q u) (answer.Unbalanced p q u)
-    → (b ≡ true) × (n ≡ p) × (k ≡ q) × (t ≡ u)
+said-by : (b : Bool) (x : declared.Statement) (y : Unbalanced) (got : declared.Statement) → Ok got ≡ pick b (Ok x) (Err y) → (b ≡ true) × (got ≡ x)
 unfolding pick
-said-by true p q u n k t e = (refl, cc, cc, cc)
-said-by false p q u n k t e = absurd (let z : ◌≡◌ {A = ℕ} 0 1 = cc in omega arith)
+said-by true x y got e = (refl, cc)
+said-by false x y got e = absurd (let z : ◌≡◌ {A = ℕ} 0 1 = cc in omega arith)
 
 -- of a bracket that is wrong
-unsaid-by : (b : Bool) (p q u n k t : ℕ) → answer.Unbalanced n k t ≡ pick b (answer.Statement p q u) (answer.Unbalanced p q u)
-    → (b ≡ false) × (n ≡ p) × (k ≡ q) × (t ≡ u)
+unsaid-by : (b : Bool) (x : declared.Statement) (y got : Unbalanced) → Err got ≡ pick b (Ok x) (Err y) → (b ≡ false) × (got ≡ y)
 unfolding pick
-unsaid-by true p q u n k t e = absurd (let z : ◌≡◌ {A = ℕ} 0 1 = cc in omega arith)
-unsaid-by false p q u n k t e = (refl, cc, cc, cc)
+unsaid-by true x y got e = absurd (let z : ◌≡◌ {A = ℕ} 0 1 = cc in omega arith)
+unsaid-by false x y got e = (refl, cc)
 
 -- ---- `parse_statement_end`: the tokens of the statement are wiped again, and the stores are as they were
 module _ (s : List ℕ) (n : ℕ) (tokens brackets store : List ℕ) (fill : ℕ) (o : WorkRoom s tokens brackets store fill) (h : n ≤ length s) where
@@ -82,7 +80,7 @@ module _ (s : List ℕ) (n : ℕ) (tokens brackets store : List ℕ) (fill : ℕ
       }
 
   -- what was left of it
-  module _ {a : StatementAnswer} {x b z : List ℕ}
+  module _ {a : Result declared.Statement Unbalanced} {x b z : List ℕ}
       (e : record { answer = a; rows = x; brackets = b; store = z } ≡ left (statement_of true lent) tokens brackets store fill) where
     -- what was left is what the statement leaves
     left_is : record { answer = a; rows = x; brackets = b; store = z } ≡ left stated tokens brackets store fill
@@ -104,18 +102,18 @@ module _ (s : List ℕ) (n : ℕ) (tokens brackets store : List ℕ) (fill : ℕ
     store_is = ap (λ (l : Left). l.store) left_is
 
     -- the answer, where it reads
-    said : {m k t : ℕ} → a ≡ answer.Statement m k t → Said stated true m k t
-    unfolding left
-    said {m} {k} {t} ea =
-        let p = said-by stated.balanced _ _ _ m k t (sym ea ∙ ap (λ (l : Left). l.answer) left_is) in
-        record { balanced = p.0; taken = p.1; count = p.2; text = p.3 }
+    said : {got : declared.Statement} → a ≡ Ok got → Said stated true got.taken got.count got.text
+    unfolding left statement_answer
+    said {got} ea =
+        let p = said-by stated.balanced _ _ got (sym ea ∙ ap (λ (l : Left). l.answer) left_is) in
+        record { balanced = p.0; taken = ap (λ r. r.taken) p.1; count = ap (λ r. r.count) p.1; text = ap (λ r. r.text) p.1 }
 
     -- and where a bracket is wrong
-    unsaid : {m k t : ℕ} → a ≡ answer.Unbalanced m k t → Said stated false m k t
-    unfolding left
-    unsaid {m} {k} {t} ea =
-        let p = unsaid-by stated.balanced _ _ _ m k t (sym ea ∙ ap (λ (l : Left). l.answer) left_is) in
-        record { balanced = p.0; taken = p.1; count = p.2; text = p.3 }
+    unsaid : {got : Unbalanced} → a ≡ Err got → Said stated false got.taken got.count got.text
+    unfolding left statement_answer
+    unsaid {got} ea =
+        let p = unsaid-by stated.balanced _ _ got (sym ea ∙ ap (λ (l : Left). l.answer) left_is) in
+        record { balanced = p.0; taken = ap (λ r. r.taken) p.1; count = ap (λ r. r.count) p.1; text = ap (λ r. r.text) p.1 }
 
     module _ {v : Bool} {m k t : ℕ} (q : Said stated v m k t) where
       -- the count of tokens fits
@@ -148,30 +146,30 @@ module _ (s : List ℕ) (n : ℕ) (tokens brackets store : List ℕ) (fill : ℕ
     Ended r x' b' z' = (r ≡ reading length (rule_rows fill) rule_texts (statement_end s n)) × ((x' ≡ tokens) × ((b' ≡ brackets) × (z' ≡ store)))
 
     -- the statement ends: its brackets match
-    module _ {m k t : ℕ} (ea : a ≡ answer.Statement m k t) where
+    module _ {got : declared.Statement} (ea : a ≡ Ok got) where
       -- its tokens have room
-      pub some-count : token_width * k < 2 ^ 64
+      pub some-count : token_width * got.count < 2 ^ 64
       some-count = count_fits (said ea)
 
       -- it ends within the text
-      pub some_end : n + m ≤ length s
+      pub some_end : n + got.taken ≤ length s
       some_end = end-within (said ea)
 
       -- all is as before, and nothing is kept of it
-      pub some-ended : {x' b' z' : List ℕ} → x' ≡ wiped 0 (token_width * k) x → b' ≡ wiped 0 k b → z' ≡ wiped fill t z → Ended (Reads (n + m) 0 0 0) x' b' z'
+      pub some-ended : {x' b' z' : List ℕ} → x' ≡ wiped 0 (token_width * got.count) x → b' ≡ wiped 0 got.count b → z' ≡ wiped fill got.text z → Ended (Ok (Some (readings.sized (n + got.taken) 0 0 0))) x' b' z'
       unfolding reading on_outcome statement_end pick rule_rows rule_texts rows_many texts_many
       some-ended ex eb ez =
           let q = said ea in
           (rw (q.balanced, q.taken), (tokens-back q ex, (brackets-back q eb, store-back q ez)))
 
     -- a bracket is wrong
-    module _ {m k t : ℕ} (ea : a ≡ answer.Unbalanced m k t) where
+    module _ {got : Unbalanced} (ea : a ≡ Err got) where
       -- the tokens before it have room
-      pub none-count : token_width * k < 2 ^ 64
+      pub none-count : token_width * got.count < 2 ^ 64
       none-count = count_fits (unsaid ea)
 
       -- all is as before, and it does not read
-      pub none-ended : {x' b' z' : List ℕ} → x' ≡ wiped 0 (token_width * k) x → b' ≡ wiped 0 k b → z' ≡ wiped fill t z → Ended Fails x' b' z'
+      pub none-ended : {x' b' z' : List ℕ} → x' ≡ wiped 0 (token_width * got.count) x → b' ≡ wiped 0 got.count b → z' ≡ wiped fill got.text z → Ended (Ok None) x' b' z'
       unfolding reading on_outcome statement_end pick
       none-ended ex eb ez =
           let q = unsaid ea in
@@ -189,7 +187,7 @@ module _ (s tokens brackets store : List ℕ) (fill : ℕ) (o : WorkRoom s token
 
   module _ {a : ℕ} (ea : a ≡ skip_whitespace s) {t : Bool} (et : t ≡ is (get_or s a 0) ascii.commercial_at) where
     -- without `@` nothing is read
-    pub at-missing : t ≡ false → Told Fails tokens brackets store
+    pub at-missing : t ≡ false → Told (Ok None) tokens brackets store
     unfolding at_rule_of reading on_outcome pick
     at-missing f = (rw (← ea, ← et, f), (refl, (refl, refl)))
 
@@ -209,16 +207,16 @@ module _ (s tokens brackets store : List ℕ) (fill : ℕ) (o : WorkRoom s token
         abbrev behind-at : List ℕ
         behind-at = take (length s - i) (drop i s)
 
-        module _ {x : Name} (ex : x ≡ name_answer (ident_of behind-at)) {z : List ℕ} (ez : z ≡ sets store fill (name_text (ident_of behind-at))) where
+        module _ {x : Option Written} (ex : x ≡ name_answer (ident_of behind-at)) {z : List ℕ} (ez : z ≡ sets store fill (name_text (ident_of behind-at))) where
           -- without a name behind `@` nothing is read
-          pub name-missing : x ≡ name.NoName → Told Fails tokens brackets z
+          pub name-missing : x ≡ None → Told (Ok None) tokens brackets z
           unfolding reading on_outcome on_parsed name_text
           name-missing q =
               let p = unnamed-from (ident_of behind-at) (sym q ∙ ex) in
               let u = ap ident_of (sym (rest s i)) ∙ p in
               (rw (rule-is, u), (refl, (refl, ez ∙ rw p)))
 
-          module _ {n m : ℕ} (q : x ≡ name.Text n m) where
+          module _ {n m : ℕ} (q : x ≡ Some (record { taken = n; length = m })) where
             -- the name that was read, with its bytes
             named : NameRead (ident_of (drop i s)) n m
             named = named-from (ident_of (drop i s)) n m (sym q ∙ ex ∙ ap (λ l. name_answer (ident_of l)) (rest s i))

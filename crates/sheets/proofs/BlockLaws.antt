@@ -6,6 +6,7 @@ use Prim.Native.Nat.{ℕ, ◌+◌, ◌-◌, ◌*◌, ◌^◌, ◌≤◌, ◌<◌
 use native.Mathlib.Omega.{arith}
 use lib.ListN.{length, get_or, take, drop, length-drop, length-map}
 use lib.Seq.{sets}
+use Rattle.std.specs.Prelude.{Option, Some, None}
 use Rattle.combinators.specs.Ascii as ascii
 use Rattle.combinators.specs.Choice.{pick, is}
 use Rattle.combinators.specs.Store.{wiped}
@@ -23,11 +24,14 @@ use Rattle.declarations.proofs.StyleAttribute.{bounded}
 use Rattle.selectors.specs.Outcome.{Outcome, reads, fails, panics, on_outcome, behind}
 use Rattle.sheets.specs.Sheet.{spaced, before_end, block_of}
 use Rattle.sheets.specs.Rules.{block_at, block_answer, BlockRoom}
-use Rattle.sheets.specs.declared.rulesets.BlockAnswer.{BlockAnswer}
-use Rattle.sheets.specs.declared.rulesets.BlockAnswer.TheVariants.{Block, NoBlock}
+use Rattle.sheets.specs.declared.rulesets.Block.{Block}
 use Rattle.selectors.specs.Reading.{written}
 use Rattle.combinators.proofs.ZeroLaws.{zeros-back}
 use Rattle.selectors.proofs.ReadingLaws.{ReadAs}
+
+-- the place behind a block and its sizes, as they are answered
+abbrev pub block_sizes : ℕ → ℕ → ℕ → ℕ → Block
+block_sizes end count numbers text = record { end = end; count = count; numbers = numbers; text = text }
 
 -- ---- `parse_block`: the place behind a ';', if there is one, and behind white space
 module _ (s : List ℕ) (e : ℕ) (h : e ≤ length s) {t : Bool} (et : t ≡ is (get_or s e 0) ascii.semicolon) where
@@ -89,19 +93,19 @@ kept-starts at d (x ∷ ds) =
 module _ (s : List ℕ) (n at : ℕ) (rules : List ℕ) (place : ℕ) (tokens brackets store : List ℕ) (fill : ℕ)
     (o : BlockRoom s n at rules place tokens brackets store fill) where
   -- what the function ensures
-  abbrev pub Blocked : BlockAnswer → List ℕ → List ℕ → List ℕ → List ℕ → Type 0
+  abbrev pub Blocked : Option Block → List ℕ → List ℕ → List ℕ → List ℕ → Type 0
   Blocked r y x b z = (r ≡ block_answer fill (block_at at s n))
       × ((y ≡ sets rules place (written (declaration_rows fill) (block_at at s n)))
       × ((x ≡ tokens) × ((b ≡ brackets) × (z ≡ sets store fill (written declaration_texts (block_at at s n))))))
 
   -- where it does not read
-  failed : block_of s n ≡ fails → {y x b z : List ℕ} → y ≡ rules → x ≡ tokens → b ≡ brackets → z ≡ store → Blocked NoBlock y x b z
+  failed : block_of s n ≡ fails → {y x b z : List ℕ} → y ≡ rules → x ≡ tokens → b ≡ brackets → z ≡ store → Blocked None y x b z
   unfolding block_at behind block_answer written on_outcome
   failed e ey ex eb ez = (rw e, (ey ∙ rw e, (ex, (eb, ez ∙ rw e))))
 
   module _ {w : ℕ} (ew : w ≡ n + skip_whitespace (drop n s)) {t : Bool} (et : t ≡ is (get_or s w 0) ascii.left_curly_bracket) where
     -- without an opening brace there is no block
-    pub brace-missing : t ≡ false → Blocked NoBlock rules tokens brackets store
+    pub brace-missing : t ≡ false → Blocked None rules tokens brackets store
     unfolding block_of spaced pick
     brace-missing f = failed (rw (← ew, ← et, f)) refl refl refl refl
 
@@ -192,7 +196,7 @@ module _ (s : List ℕ) (n at : ℕ) (rules : List ℕ) (place : ℕ) (tokens br
             end-at = eg ∙ ap (λ k. before_end s (d + k)) taken_is
 
             -- without a closing brace there is no block, and rows and texts are wiped
-            pub end-missing : u ≡ false → {y' z' : List ℕ} → y' ≡ wiped place (declaration_width * r.count) y → z' ≡ wiped fill r.text z → Blocked NoBlock y' x b z'
+            pub end-missing : u ≡ false → {y' z' : List ℕ} → y' ≡ wiped place (declaration_width * r.count) y → z' ≡ wiped fill r.text z → Blocked None y' x b z'
             unfolding block_of spaced pick
             end-missing v ey ez =
                 failed (rw (← ew, ← et, f, ← ed, ← end-at, ← eu, v))
@@ -215,20 +219,20 @@ module _ (s : List ℕ) (n at : ℕ) (rules : List ℕ) (place : ℕ) (tokens br
                     rw (← ew, ← et, f, ← ed, ← end-at, ← eu, v, ← ei, z)
 
                 -- and its rows and texts are left
-                pub block_read : Blocked (Block i r.count (declaration_width * r.count) r.text) y x b z
+                pub block_read : Blocked (Some (block_sizes i r.count (declaration_width * r.count) r.text)) y x b z
                 unfolding block_answer written on_outcome
                 block_read = (rw (block-is, length-declarations fill ds, count-is, text-is), (rules-are ∙ rw block-is, (tokens-are, (brackets-are, store_is ∙ rw block-is))))
 
 -- ---- what the answer of `parse_block` says
 -- an answer with a block: declarations were read, and the answer says their sizes
-pub block-by : (f : ℕ) (o : Outcome (List Declaration)) (n count numbers text : ℕ) → Block n count numbers text ≡ block_answer f o
-    → ReadAs length (declaration_rows f) declaration_texts o n count numbers text
+pub block-by : (f : ℕ) (o : Outcome (List Declaration)) (got : Block) → Some got ≡ block_answer f o
+    → ReadAs length (declaration_rows f) declaration_texts o got.end got.count got.numbers got.text
 unfolding block_answer on_outcome
-block-by f (reads m ds) n count numbers text e =
-    let q : n ≡ m = cc in
+block-by f (reads m ds) got e =
+    let q : got.end ≡ m = cc in
     record { value = ds; reads-it = rw q; counts = cc; rows = cc; texts = cc }
-block-by f fails n count numbers text e = absurd (let z : ◌≡◌ {A = ℕ} 0 1 = cc in omega arith)
-block-by f (panics p) n count numbers text e = absurd (let z : ◌≡◌ {A = ℕ} 0 1 = cc in omega arith)
+block-by f fails got e = absurd (let z : ◌≡◌ {A = ℕ} 0 1 = cc in omega arith)
+block-by f (panics p) got e = absurd (let z : ◌≡◌ {A = ℕ} 0 1 = cc in omega arith)
 
 -- an outcome where the crate does not panic
 abbrev Calm : Outcome (List Declaration) → Type 0
@@ -254,7 +258,7 @@ unfolding block_at
 block-never-panics at s n p e = subst Calm e (calm-moved at (block_of s n) (calm-block s n))
 
 -- so where there is none, none reads
-pub no-block-by : (f : ℕ) (o : Outcome (List Declaration)) → ((p : ℕ) → o ≡ panics p → ⊥) → NoBlock ≡ block_answer f o → o ≡ fails
+pub no-block-by : (f : ℕ) (o : Outcome (List Declaration)) → ((p : ℕ) → o ≡ panics p → ⊥) → None ≡ block_answer f o → o ≡ fails
 unfolding block_answer on_outcome
 no-block-by f (reads m ds) never e = absurd (let z : ◌≡◌ {A = ℕ} 0 1 = cc in omega arith)
 no-block-by f fails never e = refl

@@ -5,6 +5,7 @@ use Prim.Native.Nat.{ℕ, ◌+◌, ◌-◌, ◌*◌, ◌^◌, ◌≤◌, ◌<◌
 use native.Mathlib.Omega.{arith}
 use lib.ListN.{length, take, drop, length-drop, length-append}
 use lib.Seq.{sets, length-sets}
+use Rattle.std.specs.Prelude.{Option, Some, None, Ok, Err}
 use Rattle.combinators.specs.Store.{wiped, Zeros}
 use Rattle.combinators.proofs.Lists.{rest}
 use Rattle.combinators.proofs.Wiped.{sets-append}
@@ -21,18 +22,13 @@ use Rattle.selectors.specs.Outcome.{Outcome, reads, fails, panics, on_outcome, b
 use Rattle.selectors.specs.SelectorList.{selectors_of}
 use Rattle.sheets.specs.Sheet.{block_of, ruleset_of, moved_by}
 use Rattle.sheets.specs.Rules.{block_at, block_answer, BlockRoom, RuleRoom}
-use Rattle.sheets.specs.declared.rulesets.BlockAnswer.{BlockAnswer}
-use Rattle.sheets.specs.declared.rulesets.BlockAnswer.TheVariants.{Block, NoBlock}
+use Rattle.sheets.specs.declared.rulesets.Block.{Block}
 use Rattle.selectors.specs.Reading.{reading, written, TextRoom, RowRoom}
-use Rattle.selectors.specs.declared.readings.Reading.{Reading}
-use Rattle.selectors.specs.declared.readings.Reading.TheVariants.{Reads, Fails, Panics}
-use Rattle.selectors.specs.declared.readings.ManyReading.{ManyReading}
-use Rattle.selectors.specs.declared.readings.ManyReading.TheVariants as many
 use Rattle.selectors.proofs.AllLaws.{where-read, where-panics}
-use Rattle.selectors.proofs.ReadingLaws.{Left, LeftMany, left-reads, left-fails, left-panics, Found, found_as, found-many, nothing-as, panicked-many}
+use Rattle.selectors.proofs.ReadingLaws.{Reading, ManyReading, panic_at, sized, Left, LeftMany, left-reads, left-fails, left-panics, Found, found_as, found-many, nothing-as, panicked-many}
 use Rattle.selectors.proofs.SelectorBounds.{SelectorsKeep, selectors-keep}
 use Rattle.selectors.proofs.SelectorLists.{selectors-never}
-use Rattle.sheets.proofs.BlockLaws.{block-by, no-block-by, block-never-panics}
+use Rattle.sheets.proofs.BlockLaws.{block_sizes, block-by, no-block-by, block-never-panics}
 use Rattle.sheets.proofs.SheetBounds.{BlockKeeps, block-at-keeps}
 use Rattle.combinators.proofs.ZeroLaws.{zeros-later, zeros-behind, zeros-back}
 
@@ -126,13 +122,13 @@ module _ (s : List ℕ) (at : ℕ) (rules : List ℕ) (place : ℕ) (tokens brac
       said = rw (← rest s w) e
 
       -- the crate panics at them
-      module _ {p : ℕ} (h : r ≡ many.Panics p) where
+      module _ {p : ℕ} (h : r ≡ Err (panic_at p)) where
         -- a panic in them lies within the text
         pub list-place : w + p ≤ length s
         list-place = omega (arith, where-panics (length (drop w s)) _ list p (panicked-many _ _ _ _ _ _ _ _ said h).0 (selectors-keep (drop w s)), length-drop w s)
 
         -- so it panics in the rule
-        pub list-panics : Ruled (Panics (w + p)) y tokens brackets z
+        pub list-panics : Ruled (Err (panic_at (w + p))) y tokens brackets z
         unfolding behind on_outcome
         list-panics =
             let n = panicked-many _ _ _ _ _ _ _ _ said h in
@@ -140,7 +136,7 @@ module _ (s : List ℕ) (at : ℕ) (rules : List ℕ) (place : ℕ) (tokens brac
             ruled (left-panics _ _ _ _ _ _ _ _ (rw (ruleset-is, n.0, k)) n.1.0 n.1.1) refl refl
 
       -- the selectors read, up to n
-      module _ {n count numbers text : ℕ} (h : r ≡ many.Reads n count numbers text) where
+      module _ {n count numbers text : ℕ} (h : r ≡ Ok (sized n count numbers text)) where
         -- the selectors that were read, with their counts
         got : Found length (selector_rows fill) selector_texts list rules (place + rule_head) store fill y z n count numbers text
         got = found-many _ _ _ _ _ _ _ _ (selectors-never (drop w s)) said h
@@ -207,7 +203,7 @@ module _ (s : List ℕ) (at : ℕ) (rules : List ℕ) (place : ℕ) (tokens brac
             ap (λ (q : Outcome RuleSet). behind 0 q (moved_by at)) (ruleset-is ∙ rw got.reads-it) ∙ moved-block at w ss (block_of s (w + n))
 
         -- what `parse_block` left: the declarations, written behind the selectors
-        module _ {q : BlockAnswer} {y₂ x₂ b₂ z₂ : List ℕ} (e₂ : (q ≡ block_answer (fill + text) block)
+        module _ {q : Option Block} {y₂ x₂ b₂ z₂ : List ℕ} (e₂ : (q ≡ block_answer (fill + text) block)
             × ((y₂ ≡ sets y (place + rule_head + numbers) (written (declaration_rows (fill + text)) block))
             × ((x₂ ≡ tokens) × ((b₂ ≡ brackets) × (z₂ ≡ sets z (fill + text) (written declaration_texts block)))))) where
           -- the selectors are taken back, where nothing was written behind them
@@ -222,7 +218,7 @@ module _ (s : List ℕ) (at : ℕ) (rules : List ℕ) (place : ℕ) (tokens brac
               p ∙ ap (wiped fill text) (e ∙ got.store_is) ∙ zeros-back store fill o.work.store-zeros (selector_texts ss) text (omega (arith, got.texts))
 
           -- without a block there is no rule, and what the selectors left is wiped
-          pub block-fails : q ≡ NoBlock → {y₃ z₃ : List ℕ} → y₃ ≡ wiped (place + rule_head) numbers y₂ → z₃ ≡ wiped fill text z₂ → Ruled Fails y₃ x₂ b₂ z₃
+          pub block-fails : q ≡ None → {y₃ z₃ : List ℕ} → y₃ ≡ wiped (place + rule_head) numbers y₂ → z₃ ≡ wiped fill text z₂ → Ruled (Ok None) y₃ x₂ b₂ z₃
           unfolding behind on_outcome
           block-fails hq ey₃ ez₃ =
               let e = no-block-by (fill + text) block (block-never-panics at s (w + n)) (sym hq ∙ e₂.0) in
@@ -230,12 +226,12 @@ module _ (s : List ℕ) (at : ℕ) (rules : List ℕ) (place : ℕ) (tokens brac
               ruled (left-fails _ _ _ _ _ _ _ _ (meant_is ∙ rw e) (rules-back n.0 ey₃) (store-back n.1 ez₃)) e₂.1.1.0 e₂.1.1.1.0
 
           -- the block reads, up to its end
-          module _ {end declarations more kept : ℕ} (hq : q ≡ Block end declarations more kept) where
+          module _ {end declarations more kept : ℕ} (hq : q ≡ Some (block_sizes end declarations more kept)) where
             -- the declarations that were read, with their counts
             got₂ : Found length (declaration_rows (fill + text)) declaration_texts block y (place + rule_head + numbers) z (fill + text) y₂ z₂ end declarations more kept
             got₂ =
                 found_as length (declaration_rows (fill + text)) declaration_texts block y (place + rule_head + numbers) z (fill + text)
-                (block-by (fill + text) block end declarations more kept (sym hq ∙ e₂.0)) e₂.1.0 e₂.1.1.1.1
+                (block-by (fill + text) block (block_sizes end declarations more kept) (sym hq ∙ e₂.0)) e₂.1.0 e₂.1.1.1.1
 
             -- what stands behind it
             abbrev ds : List Declaration
@@ -314,5 +310,5 @@ module _ (s : List ℕ) (at : ℕ) (rules : List ℕ) (place : ℕ) (tokens brac
             text-long = ap length (sym text-is) ∙ omega (arith, length-append (selector_texts ss) (declaration_texts ds), got.texts, got₂.texts)
 
             -- all that is left of it
-            pub rule-read : {y₃ : List ℕ} → y₃ ≡ sets y₂ place head → Ruled (Reads end 1 (rule_head + numbers + more) (text + kept)) y₃ x₂ b₂ z₂
+            pub rule-read : {y₃ : List ℕ} → y₃ ≡ sets y₂ place head → Ruled (Ok (Some (sized end 1 (rule_head + numbers + more) (text + kept)))) y₃ x₂ b₂ z₂
             rule-read p = ruled (left-reads _ _ _ _ _ _ _ _ rule-is refl (sym row-long) (sym text-long) (row_written p) text-written) e₂.1.1.0 e₂.1.1.1.0

@@ -8,6 +8,9 @@ use native.Mathlib.Omega.{arith}
 use borrow.Author.Tests.{lt-ltb, le-ltb}
 use lib.ListN.{length, drop, replicate, length-replicate}
 use lib.Seq.{sets, sets-eq}
+use Rattle.selectors.proofs.ReadingLaws.{ManyReading, panic_at, sized}
+use Rattle.std.specs.Prelude.{Result, Ok, Err}
+use Rattle.combinators.specs.Refusal.{refused_at, panic}
 use Rattle.combinators.specs.LeastLengths.{stores_suffice}
 use Rattle.combinators.specs.Store.{cleared, Zeros}
 use Rattle.combinators.proofs.Cleared.{cleared-is}
@@ -20,13 +23,15 @@ use Rattle.selectors.specs.Outcome.{Outcome, reads, fails, panics, on_outcome}
 use Rattle.sheets.specs.Sheet.{statements_of, sheet_from, sheet_of}
 use Rattle.selectors.specs.Reading.{many_reading, written}
 use Rattle.sheets.specs.Rules.{SheetRoom}
-use Rattle.sheets.specs.SheetAnswer.{sheet_limit, numbers_of, SheetLeft, padded, sheet_numbers, sheet_left, unchanged, read_sheet, SheetLent}
-use Rattle.selectors.specs.declared.readings.ManyReading.{ManyReading}
-use Rattle.selectors.specs.declared.readings.ManyReading.TheVariants as many
+use Rattle.sheets.specs.SheetAnswer.{sheet_limit, refused_sheet, refusal_of, numbers_of, SheetLeft, padded, sheet_numbers, sheet_left, unchanged, read_sheet, SheetLent}
 use Rattle.selectors.proofs.AllLaws.{reads-no, behind-never, then_never}
 use Rattle.sheets.proofs.SheetBounds.{sheet-keeps}
 use Rattle.sheets.specs.declared.answers.SheetNumbers.{SheetNumbers}
-use Rattle.sheets.specs.declared.sheet.SheetAnswer.TheVariants.{Sheet, TooLong, ShortStore, NotUtf8, Panic}
+use Rattle.sheets.specs.declared.sheet.Sheet.{Sheet}
+use Rattle.sheets.specs.declared.sheet.SheetError.{SheetError}
+use Rattle.sheets.specs.declared.sheet.SheetError.TheVariants.{TooLong, ShortStore, NotUtf8, Panic}
+use Rattle.selectors.specs.declared.readings.Read.{Read}
+use Rattle.selectors.specs.declared.readings.Panic as readings
 use Rattle.combinators.proofs.ZeroLaws.{zeros-all}
 
 -- ---- zeros
@@ -58,24 +63,27 @@ stored xs l h =
     ∙ ap (λ (k : ℕ). xs ++ drop k (replicate n 0)) (zero-add (length xs)) ∙ ap (λ (r : List ℕ). xs ++ r) (drop-zeros (length xs) n)
 
 -- ---- reading a sheet for which the stores suffice
+-- the sheet that an answer with its sizes stands for
+abbrev pub sheet_read : Read → Result Sheet SheetError
+sheet_read got = Ok (record { count = got.count; stop = got.taken; numbers = got.numbers; bytes = got.text })
+
 -- an answer with rules says the counts of the rules that were read
-answer-reads : (o : Outcome (List RuleSet)) (stop count numbers bytes : ℕ) → many.Reads stop count numbers bytes ≡ many_reading length (rule_rows 0) rule_texts o
-    → numbers_of (Sheet count stop numbers bytes) ≡ sheet_numbers o
+answer-reads : (o : Outcome (List RuleSet)) (got : Read) → Ok got ≡ many_reading length (rule_rows 0) rule_texts o → numbers_of (sheet_read got) ≡ sheet_numbers o
 unfolding many_reading sheet_numbers numbers_of on_outcome
-answer-reads (reads n rs) stop count numbers bytes e =
-    let same : Sheet count stop numbers bytes ≡ Sheet (length rs) n (length (rule_rows 0 rs)) (length (rule_texts rs)) = cc in
-    ap numbers_of same
-answer-reads fails stop count numbers bytes e =
-    let same : Sheet count stop numbers bytes ≡ Sheet 0 0 0 0 = cc in
-    ap numbers_of same
-answer-reads (panics p) stop count numbers bytes e = absurd (let z : ◌≡◌ {A = ℕ} 0 1 = cc in omega arith)
+answer-reads (reads n rs) got e =
+    let same : got ≡ sized n (length rs) (length (rule_rows 0 rs)) (length (rule_texts rs)) = cc in
+    ap (λ (r : Read). numbers_of (sheet_read r)) same
+answer-reads fails got e =
+    let same : got ≡ sized 0 0 0 0 = cc in
+    ap (λ (r : Read). numbers_of (sheet_read r)) same
+answer-reads (panics p) got e = absurd (let z : ◌≡◌ {A = ℕ} 0 1 = cc in omega arith)
 
 -- where it panics, the answer has the byte where
-answer-panics : (o : Outcome (List RuleSet)) (p : ℕ) → many.Panics p ≡ many_reading length (rule_rows 0) rule_texts o → numbers_of (Panic p) ≡ sheet_numbers o
-unfolding many_reading sheet_numbers numbers_of on_outcome
+answer-panics : (o : Outcome (List RuleSet)) (p : readings.Panic) → Err p ≡ many_reading length (rule_rows 0) rule_texts o → numbers_of (Err (Panic p.place)) ≡ sheet_numbers o
+unfolding many_reading sheet_numbers numbers_of refusal_of on_outcome
 answer-panics (reads n rs) p e = absurd (let z : ◌≡◌ {A = ℕ} 0 1 = cc in omega arith)
 answer-panics fails p e = absurd (let z : ◌≡◌ {A = ℕ} 0 1 = cc in omega arith)
-answer-panics (panics q) p e = let same : Panic p ≡ Panic q = cc in ap numbers_of same
+answer-panics (panics q) p e = let same : p ≡ panic_at q = cc in ap (λ (r : readings.Panic). refused_sheet (refused_at panic r.place)) same
 
 -- what is left, by its parts
 left_by : {a a' : SheetNumbers} {y y' x x' b b' z z' : List ℕ} → a ≡ a' → y ≡ y' → x ≡ x' → b ≡ b' → z ≡ z'
@@ -141,26 +149,26 @@ module _ {s rules tokens brackets texts : List ℕ} (o : SheetLent s rules token
         (ez ∙ ap (λ (l : List ℕ). sets l 0 (written rule_texts (sheet_of s))) cz ∙ stored (written rule_texts (sheet_of s)) texts texts-fit)
 
     -- the return where the sheet reads
-    pub sheet-read : {stop count numbers bytes : ℕ} → r ≡ many.Reads stop count numbers bytes
-        → ◌≡◌ {A = SheetLeft} (record { answer = numbers_of (Sheet count stop numbers bytes); rules = y'; tokens = x'; brackets = b'; texts = z' }) (sheet_left s rules tokens brackets texts)
-    sheet-read {stop} {count} {numbers} {bytes} g = left (numbers_of (Sheet count stop numbers bytes)) (answer-reads (sheet_of s) stop count numbers bytes (sym g ∙ er))
+    pub sheet-read : {got : Read} → r ≡ Ok got
+        → ◌≡◌ {A = SheetLeft} (record { answer = numbers_of (sheet_read got); rules = y'; tokens = x'; brackets = b'; texts = z' }) (sheet_left s rules tokens brackets texts)
+    sheet-read {got} g = left (numbers_of (sheet_read got)) (answer-reads (sheet_of s) got (sym g ∙ er))
 
     -- the return where the crate panics
-    pub sheet-panics : {p : ℕ} → r ≡ many.Panics p
-        → ◌≡◌ {A = SheetLeft} (record { answer = numbers_of (Panic p); rules = y'; tokens = x'; brackets = b'; texts = z' }) (sheet_left s rules tokens brackets texts)
-    sheet-panics {p} g = left (numbers_of (Panic p)) (answer-panics (sheet_of s) p (sym g ∙ er))
+    pub sheet-panics : {p : readings.Panic} → r ≡ Err p
+        → ◌≡◌ {A = SheetLeft} (record { answer = numbers_of (Err (Panic p.place)); rules = y'; tokens = x'; brackets = b'; texts = z' }) (sheet_left s rules tokens brackets texts)
+    sheet-panics {p} g = left (numbers_of (Err (Panic p.place))) (answer-panics (sheet_of s) p (sym g ∙ er))
 
 -- ---- `read_sheet`, in the order of the refusals
 module _ (s rules tokens brackets texts : List ℕ) where
   -- a sheet that is too long is refused, and the stores stay
-  pub too_long_lem : sheet_limit < length s → ◌≡◌ {A = SheetLeft} (record { answer = numbers_of TooLong; rules = rules; tokens = tokens; brackets = brackets; texts = texts }) (read_sheet s rules tokens brackets texts)
-  unfolding read_sheet unchanged numbers_of
+  pub too_long_lem : sheet_limit < length s → ◌≡◌ {A = SheetLeft} (record { answer = numbers_of (Err TooLong); rules = rules; tokens = tokens; brackets = brackets; texts = texts }) (read_sheet s rules tokens brackets texts)
+  unfolding read_sheet unchanged numbers_of refusal_of
   too_long_lem h = pick_true _ _ _ _ (lt-ltb sheet_limit (length s) h) refl
 
   module _ (h : length s ≤ sheet_limit) {t : Bool} (et : t ≡ stores_suffice (length s) (length rules) (length tokens) (length brackets) (length texts)) where
     -- stores that are too short are refused, and stay
-    pub short-store : t ≡ false → ◌≡◌ {A = SheetLeft} (record { answer = numbers_of ShortStore; rules = rules; tokens = tokens; brackets = brackets; texts = texts }) (read_sheet s rules tokens brackets texts)
-    unfolding read_sheet unchanged numbers_of
+    pub short-store : t ≡ false → ◌≡◌ {A = SheetLeft} (record { answer = numbers_of (Err ShortStore); rules = rules; tokens = tokens; brackets = brackets; texts = texts }) (read_sheet s rules tokens brackets texts)
+    unfolding read_sheet unchanged numbers_of refusal_of
     short-store e = pick-false _ _ _ _ (le-ltb sheet_limit (length s) h) (pick-false _ _ _ _ (sym et ∙ e) refl)
 
     module _ (e : t ≡ true) where
@@ -170,8 +178,8 @@ module _ (s rules tokens brackets texts : List ℕ) where
 
       module _ {v : Bool} (ev : v ≡ valid s) where
         -- a sheet that is no UTF-8 is refused, and the stores stay
-        pub not-utf8 : v ≡ false → ◌≡◌ {A = SheetLeft} (record { answer = numbers_of NotUtf8; rules = rules; tokens = tokens; brackets = brackets; texts = texts }) (read_sheet s rules tokens brackets texts)
-        unfolding read_sheet unchanged numbers_of
+        pub not-utf8 : v ≡ false → ◌≡◌ {A = SheetLeft} (record { answer = numbers_of (Err NotUtf8); rules = rules; tokens = tokens; brackets = brackets; texts = texts }) (read_sheet s rules tokens brackets texts)
+        unfolding read_sheet unchanged numbers_of refusal_of
         not-utf8 f = pick-false _ _ _ _ (le-ltb sheet_limit (length s) h) (pick_true _ _ _ _ (sym et ∙ e) (pick-false _ _ _ _ (sym ev ∙ f) refl))
 
         -- a sheet that passes all tests leaves what reading leaves

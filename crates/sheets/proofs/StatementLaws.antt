@@ -5,6 +5,7 @@ use Prim.Native.Nat.{ℕ, ◌+◌}
 use native.Mathlib.Omega.{arith}
 use lib.ListN.{length}
 use lib.Seq.{sets}
+use Rattle.std.specs.Prelude.{Some, None, Ok, Err}
 use Rattle.combinators.proofs.Rules.{pick-holds}
 use Rattle.lexer.proofs.TokenBounds.{on-holds}
 use Rattle.syntax.specs.RuleLayout.{rule_row, rule_text, rule_rows, rule_texts}
@@ -14,9 +15,7 @@ use Rattle.selectors.specs.Outcome.{Outcome, reads, fails, panics, on_outcome, b
 use Rattle.sheets.specs.Sheet.{ruleset_of, statement_end, at_rule_of, statements_of, moved_by, moved_to}
 use Rattle.sheets.specs.Rules.{WorkRoom, RuleRoom}
 use Rattle.selectors.specs.Reading.{reading, written}
-use Rattle.selectors.specs.declared.readings.Reading.{Reading}
-use Rattle.selectors.specs.declared.readings.Reading.TheVariants.{Reads, Fails, Panics}
-use Rattle.selectors.proofs.ReadingLaws.{Left, left-reads, left-panics, found, nothing, panicked}
+use Rattle.selectors.proofs.ReadingLaws.{Reading, panic_at, sized, Left, left-reads, left-panics, found, nothing, panicked}
 
 -- ---- an at-rule says nothing, wherever it stands
 record Nothing (at fill : ℕ) (o : Outcome (List RuleSet)) : Type 0 where
@@ -121,7 +120,7 @@ module _ (s : List ℕ) (at : ℕ) (rules : List ℕ) (place : ℕ) (tokens brac
     left = (e.0, (e.1.0, e.1.1.1.1))
 
     -- the return where a rule was read
-    pub rule-stated : {n count numbers text : ℕ} → r ≡ Reads n count numbers text → Stated (Reads n count numbers text) y x b z
+    pub rule-stated : {n count numbers text : ℕ} → r ≡ Ok (Some (sized n count numbers text)) → Stated (Ok (Some (sized n count numbers text))) y x b z
     unfolding moved_to statements_of
     rule-stated {n} h =
         let g = found _ _ _ _ _ _ _ _ left h in
@@ -130,14 +129,14 @@ module _ (s : List ℕ) (at : ℕ) (rules : List ℕ) (place : ℕ) (tokens brac
         (g.rules-are ∙ ap (sets rules place) (one-rule fill a)) (g.store_is ∙ ap (sets store fill) (one-text a))) e.1.1.0 e.1.1.1.0
 
     -- the return where the crate panics
-    pub panic-stated : {p : ℕ} → r ≡ Panics p → Stated (Panics p) y x b z
+    pub panic-stated : {p : ℕ} → r ≡ Err (panic_at p) → Stated (Err (panic_at p)) y x b z
     unfolding moved_to statements_of
     panic-stated {p} h =
         let g = panicked _ _ _ _ _ _ _ _ left h in
         stated (left-panics _ _ _ _ _ _ _ _ (either-panics at (at_rule_of s) (ruleset_of s) p g.0) g.1.0 g.1.1) e.1.1.0 e.1.1.1.0
 
     -- no rule stands here: the stores are as they were, and an at-rule is looked for
-    module _ (h : r ≡ Fails) where
+    module _ (h : r ≡ Ok None) where
       -- it does not read, and the stores are as they were
       none : (first ≡ fails) × ((y ≡ rules) × (z ≡ store))
       none = nothing _ _ _ _ _ _ _ _ left h

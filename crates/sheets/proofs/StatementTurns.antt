@@ -6,6 +6,7 @@ use native.Mathlib.Nat.{zero-add}
 use native.Mathlib.Omega.{arith}
 use lib.ListN.{length, take, drop, length-drop}
 use lib.Seq.{sets, drop-drop}
+use Rattle.std.specs.Prelude.{Some, None, Ok, Err}
 use Rattle.combinators.specs.Choice.{pick, or, and, is, within}
 use Rattle.combinators.specs.Parsed as parsed
 use Rattle.combinators.specs.Parsed.{err, on_parsed}
@@ -25,13 +26,9 @@ use Rattle.selectors.specs.SelectorList.{selectors_of}
 use Rattle.sheets.specs.Sheet.{spaced, block_of, ruleset_of, at_rule_of, statements_of, moved_by, moved_to, sheet_from, sheet_of}
 use Rattle.selectors.specs.Reading.{reading, many_reading, written}
 use Rattle.sheets.specs.Rules.{rule_width, RuleRoom, SheetRoom}
-use Rattle.selectors.specs.declared.readings.Reading.{Reading}
-use Rattle.selectors.specs.declared.readings.Reading.TheVariants.{Reads, Fails, Panics}
-use Rattle.selectors.specs.declared.readings.ManyReading.{ManyReading}
-use Rattle.selectors.specs.declared.readings.ManyReading.TheVariants as many
 use Rattle.selectors.proofs.AllLaws.{where-read, where-panics}
 use Rattle.selectors.proofs.Gathering.{Gathered, gathered_none, gathered-more, gathered-as, rules-zeros, store-zeros, rules-long, store_long, many_read, many-panics}
-use Rattle.selectors.proofs.ReadingLaws.{Left, LeftMany, Found, found, nothing, panicked}
+use Rattle.selectors.proofs.ReadingLaws.{Reading, ManyReading, panic_at, sized, Left, LeftMany, Found, found, nothing, panicked}
 use Rattle.sheets.proofs.SheetBounds.{RulesKeep, moved_keeps}
 
 -- ---- no statement at the end of a text
@@ -167,12 +164,12 @@ module _ {s rules₀ tokens₀ brackets₀ store₀ rules tokens brackets store 
 
   -- no more is read: all were
   all_read : sheet_from i.turns (drop taken s) taken ≡ reads taken []
-      → LeftMany length (rule_rows 0) rule_texts (sheet_of s) rules₀ 0 store₀ 0 (many.Reads taken count numbers text) rules store
+      → LeftMany length (rule_rows 0) rule_texts (sheet_of s) rules₀ 0 store₀ 0 (Ok (sized taken count numbers text)) rules store
   unfolding rule_rows rule_texts
   all_read e = many_read i.gathered taken taken e (omega arith)
 
   -- at the end of the text, what was gathered is the whole sheet
-  pub at-end : length s ≤ taken → Ends s rules₀ tokens₀ brackets₀ store₀ (many.Reads taken count numbers text) rules tokens brackets store
+  pub at-end : length s ≤ taken → Ends s rules₀ tokens₀ brackets₀ store₀ (Ok (sized taken count numbers text)) rules tokens brackets store
   at-end l =
       let e : drop taken s ≡ [] = nil-of (drop taken s) (omega (arith, length-drop taken s)) in
       let a = all_read (rw e (no-sheet i.turns taken)) in
@@ -236,20 +233,20 @@ module _ {s rules₀ tokens₀ brackets₀ store₀ rules tokens brackets store 
       brackets-same = e.1.1.1.0 ∙ i.brackets-kept
 
       -- where no statement follows, those that were read so far are the whole sheet
-      pub no_more : r ≡ Fails → Ends s rules₀ tokens₀ brackets₀ store₀ (many.Reads taken count numbers text) y x b z
+      pub no_more : r ≡ Ok None → Ends s rules₀ tokens₀ brackets₀ store₀ (Ok (sized taken count numbers text)) y x b z
       no_more g =
           let n = nothing _ _ _ _ _ _ _ _ left g in
           let a = all_read (ap (λ (t : List ℕ). sheet_from i.turns t taken) (sym lent_is) ∙ turn-fails lent taken n.0 i.turns) in
           (a.0, (n.1.0 ∙ a.1.0, (tokens-same, (brackets-same, n.1.1 ∙ a.1.1))))
 
       -- the crate panics in the statement: what was read before is wiped
-      module _ {p : ℕ} (g : r ≡ Panics p) where
+      module _ {p : ℕ} (g : r ≡ Err (panic_at p)) where
         -- the byte where it panics lies within the text
         pub panic-fits : taken + p ≤ length s
         panic-fits = omega (arith, where-panics (length lent) _ statements p (panicked _ _ _ _ _ _ _ _ left g).0 (moved_keeps taken lent), lent-long, i.within)
 
         -- the return where the crate panics: what was written is wiped, and nothing is kept
-        pub panics-left : {y' z' : List ℕ} → y' ≡ wiped 0 numbers y → z' ≡ wiped 0 text z → Ends s rules₀ tokens₀ brackets₀ store₀ (many.Panics (taken + p)) y' x b z'
+        pub panics-left : {y' z' : List ℕ} → y' ≡ wiped 0 numbers y → z' ≡ wiped 0 text z → Ends s rules₀ tokens₀ brackets₀ store₀ (Err (panic_at (taken + p))) y' x b z'
         unfolding rule_rows rule_texts
         panics-left ey ez =
             let n = panicked _ _ _ _ _ _ _ _ left g in
@@ -258,7 +255,7 @@ module _ {s rules₀ tokens₀ brackets₀ store₀ rules tokens brackets store 
             (a.0, (a.1.0, (tokens-same, (brackets-same, a.1.1))))
 
       -- the statement reads: its rules are added to those before
-      module _ {n more row kept : ℕ} (g : r ≡ Reads n more row kept) where
+      module _ {n more row kept : ℕ} (g : r ≡ Ok (Some (sized n more row kept))) where
         -- the rules that were read, with their counts, rows and texts
         got : Found length (rule_rows text) rule_texts statements rules numbers store text y z n more row kept
         got = found _ _ _ _ _ _ _ _ left g

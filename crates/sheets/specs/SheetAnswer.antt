@@ -1,5 +1,5 @@
 -- What `read_sheet` answers and leaves: the refusals of document 01 in the order of their numbers, or the rules of the sheet.
-use Rattle.std.specs.Prelude.{ℕ, ◌-◌, ◌≤◌, ◌≡◌, refl, List, [], ◌∷◌, ◌++◌, ltb, length, replicate}
+use Rattle.std.specs.Prelude.{ℕ, ◌-◌, ◌≤◌, ◌≡◌, refl, Result, Ok, Err, List, [], ◌∷◌, ◌++◌, ltb, length, replicate}
 use Rattle.combinators.specs.Choice.{pick, or, and, is, within}
 use Rattle.combinators.specs.LeastLengths.{stores_suffice, Least}
 use Rattle.combinators.specs.Refusal.{no_refusal, refused, refused_at, too_long, short_store, not_utf8, panic}
@@ -13,8 +13,9 @@ use Rattle.selectors.specs.Outcome.{Outcome, on_outcome}
 use Rattle.selectors.specs.Reading.{written}
 use Rattle.sheets.specs.Sheet.{sheet_from, sheet_of}
 use Rattle.sheets.specs.declared.answers.SheetNumbers.{SheetNumbers}
-use Rattle.sheets.specs.declared.sheet.SheetAnswer.{SheetAnswer}
-use Rattle.sheets.specs.declared.sheet.SheetAnswer.TheVariants.{Sheet, TooLong, ShortStore, NotUtf8, Panic}
+use Rattle.sheets.specs.declared.sheet.Sheet.{Sheet}
+use Rattle.sheets.specs.declared.sheet.SheetError.{SheetError}
+use Rattle.sheets.specs.declared.sheet.SheetError.TheVariants.{TooLong, ShortStore, NotUtf8, Panic}
 
 -- "a sheet over 32,768 bytes"
 abbrev pub sheet_limit : ℕ
@@ -26,12 +27,15 @@ refused_sheet r = record { refusal = r; count = 0; stop = 0; numbers = 0; bytes 
 
 -- "Where an answer is an enum, a definition gives this paper's number and values for each of its cases"; of refusal 4 the text is "0 in a call with
 -- one text"
-unfoldable pub numbers_of : SheetAnswer → SheetNumbers
-numbers_of (Sheet count stop numbers bytes) = record { refusal = no_refusal; count = count; stop = stop; numbers = numbers; bytes = bytes }
-numbers_of TooLong = refused_sheet (refused too_long)
-numbers_of ShortStore = refused_sheet (refused short_store)
-numbers_of NotUtf8 = refused_sheet (refused not_utf8)
-numbers_of (Panic p) = refused_sheet (refused_at panic p)
+unfoldable pub refusal_of : SheetError → Refusal
+refusal_of TooLong = refused too_long
+refusal_of ShortStore = refused short_store
+refusal_of NotUtf8 = refused not_utf8
+refusal_of (Panic p) = refused_at panic p
+
+unfoldable pub numbers_of : Result Sheet SheetError → SheetNumbers
+numbers_of (Ok sheet) = record { refusal = no_refusal; count = sheet.count; stop = sheet.stop; numbers = sheet.numbers; bytes = sheet.bytes }
+numbers_of (Err e) = refused_sheet (refusal_of e)
 
 -- ---- what is left of the call: its answer, and the four stores
 pub record SheetLeft : Type 0 where
@@ -86,9 +90,9 @@ test-refusals : ((read_sheet (replicate 32769 0xff) [] [] [] []).answer.refusal 
     × ((read_sheet (replicate 32768 0xff) [] [] [] []).answer.refusal ≡ refused 2)
     × ((read_sheet (0xff ∷ []) (replicate 72 1) (replicate 72 1) (1 ∷ []) (replicate 13 1)).answer.refusal ≡ refused 2)
     × (read_sheet (0xff ∷ []) (replicate 72 1) (replicate 72 1) (1 ∷ []) (replicate 14 1)
-    ≡ record { answer = numbers_of NotUtf8; rules = replicate 72 1; tokens = replicate 72 1; brackets = 1 ∷ []; texts = replicate 14 1 })
-    × ((numbers_of (Panic 2)).refusal ≡ record { number = 4; text = 0; place = 2 })
-unfolding read_sheet unchanged numbers_of stores_suffice pick and valid scalar_taken scalar_of scalar_by lead_of taken_of is_continuation or is within many took
+    ≡ record { answer = numbers_of (Err NotUtf8); rules = replicate 72 1; tokens = replicate 72 1; brackets = 1 ∷ []; texts = replicate 14 1 })
+    × ((numbers_of (Err (Panic 2))).refusal ≡ record { number = 4; text = 0; place = 2 })
+unfolding read_sheet unchanged numbers_of refusal_of stores_suffice pick and valid scalar_taken scalar_of scalar_by lead_of taken_of is_continuation or is within many took
 test-refusals = (refl, refl, refl, refl, refl)
 
 test-empty : read_sheet [] (replicate 64 1) (replicate 64 1) (1 ∷ []) (replicate 12 1)

@@ -1,8 +1,8 @@
 // What `read_sheet` answers, in document 01's numbers.
 ghost use Rattle.std.specs.Prelude.{◌≡◌};
-ghost use Rattle.sheets.specs.SheetAnswer.{refused_sheet, numbers_of};
+ghost use Rattle.sheets.specs.SheetAnswer.{refusal_of, refused_sheet, numbers_of};
 
-use crate::sheet::SheetAnswer;
+use crate::sheet::{Sheet, SheetError};
 use combinators::refusals::{
     NOT_UTF8, PANIC, Refusal, SHORT_STORE, TOO_LONG, no_refusal, refused, refused_at,
 };
@@ -18,6 +18,19 @@ pub struct SheetNumbers {
     pub bytes: usize,
 }
 
+impl From<SheetError> for Refusal {
+    ghost from_gives = { λ error refusal. refusal ≡ refusal_of error };
+
+    fn from(error: SheetError) -> Refusal {
+        match error {
+            SheetError::TooLong => refused(TOO_LONG),
+            SheetError::ShortStore => refused(SHORT_STORE),
+            SheetError::NotUtf8 => refused(NOT_UTF8),
+            SheetError::Panic(place) => refused_at(PANIC, place),
+        }
+    }
+}
+
 fn refused_sheet(refusal: Refusal) -> SheetNumbers
     ensures { result ≡ refused_sheet refusal }
 {
@@ -31,36 +44,17 @@ fn refused_sheet(refusal: Refusal) -> SheetNumbers
 }
 
 // What an answer stands for.
-pub fn numbers_of(answer: SheetAnswer) -> SheetNumbers
+pub fn numbers_of(answer: Result<Sheet, SheetError>) -> SheetNumbers
     ensures { result ≡ numbers_of answer }
 {
     match answer {
-        SheetAnswer::Sheet {
-            count,
-            stop,
-            numbers,
-            bytes,
-        } => {
-            let refusal = no_refusal();
-            return SheetNumbers {
-                refusal,
-                count,
-                stop,
-                numbers,
-                bytes,
-            };
-        }
-        SheetAnswer::TooLong => {
-            return refused_sheet(refused(TOO_LONG));
-        }
-        SheetAnswer::ShortStore => {
-            return refused_sheet(refused(SHORT_STORE));
-        }
-        SheetAnswer::NotUtf8 => {
-            return refused_sheet(refused(NOT_UTF8));
-        }
-        SheetAnswer::Panic(place) => {
-            return refused_sheet(refused_at(PANIC, place));
-        }
+        Ok(sheet) => SheetNumbers {
+            refusal: no_refusal(),
+            count: sheet.count,
+            stop: sheet.stop,
+            numbers: sheet.numbers,
+            bytes: sheet.bytes,
+        },
+        Err(error) => refused_sheet(Refusal::from(error)),
     }
 }

@@ -8,10 +8,10 @@ ghost use Rattle.selectors.specs.Reading.{reading};
 use combinators::bytes::byte_is;
 use combinators::stores::wipe_bytes;
 use declarations::rules::wipe_work;
-use lexer::names::{Name, parse_ident};
+use lexer::names::parse_ident;
 use lexer::whitespace::{skip_from, skip_optional_whitespace};
-use selectors::readings::Reading;
-use values::statements::{StatementAnswer, parse_to_end_of_statement};
+use selectors::readings::{Panic, Read};
+use values::statements::parse_to_end_of_statement;
 
 // The place behind the statement that goes on at `n`, or that its brackets are wrong.
 fn parse_statement_end(
@@ -21,7 +21,7 @@ fn parse_statement_end(
     brackets: &mut [u8],
     store: &mut [u8],
     fill: usize,
-) -> Reading
+) -> Result<Option<Read>, Panic>
     requires work_room { WorkRoom s.now tokens.old brackets.old store.old fill }
     requires n_in_bounds { n ≤ length s.now }
     ensures value { result ≡ reading length (rule_rows fill) rule_texts (statement_end s.now n) }
@@ -30,24 +30,20 @@ fn parse_statement_end(
     ensures store_unchanged { store.new ≡ store.old }
 {
     match parse_to_end_of_statement(&s[n..], true, tokens, brackets, store, fill) {
-        StatementAnswer::Statement {
-            taken: m,
-            count,
-            text,
-        } => {
-            wipe_work(tokens, brackets, count);
-            wipe_bytes(store, fill, text);
-            return Reading::Reads {
-                taken: n + m,
+        Ok(statement) => {
+            wipe_work(tokens, brackets, statement.count);
+            wipe_bytes(store, fill, statement.text);
+            Ok(Some(Read {
+                taken: n + statement.taken,
                 count: 0,
                 numbers: 0,
                 text: 0,
-            };
+            }))
         }
-        StatementAnswer::Unbalanced { count, text, .. } => {
-            wipe_work(tokens, brackets, count);
-            wipe_bytes(store, fill, text);
-            return Reading::Fails;
+        Err(unbalanced) => {
+            wipe_work(tokens, brackets, unbalanced.count);
+            wipe_bytes(store, fill, unbalanced.text);
+            Ok(None)
         }
     }
 }
@@ -59,7 +55,7 @@ pub fn parse_at_rule(
     brackets: &mut [u8],
     store: &mut [u8],
     fill: usize,
-) -> Reading
+) -> Result<Option<Read>, Panic>
     requires { WorkRoom s.now tokens.old brackets.old store.old fill }
     ensures value { result ≡ reading length (rule_rows fill) rule_texts (at_rule_of s.now) }
     ensures tokens_unchanged { tokens.new ≡ tokens.old }
@@ -67,17 +63,13 @@ pub fn parse_at_rule(
     ensures store_unchanged { store.new ≡ store.old }
 {
     let a = skip_optional_whitespace(s);
-    if byte_is(s, a, b'@') {
-        let i = skip_from(s, a + 1);
-        match parse_ident(&s[i..], store, fill) {
-            Name::Text(n, length) => {
-                wipe_bytes(store, fill, length);
-                return parse_statement_end(s, i + n, tokens, brackets, store, fill);
-            }
-            Name::NoName => {
-                return Reading::Fails;
-            }
-        }
+    if !byte_is(s, a, b'@') {
+        return Ok(None);
     }
-    Reading::Fails
+    let i = skip_from(s, a + 1);
+    let Some(name) = parse_ident(&s[i..], store, fill) else {
+        return Ok(None);
+    };
+    wipe_bytes(store, fill, name.length);
+    parse_statement_end(s, i + name.taken, tokens, brackets, store, fill)
 }

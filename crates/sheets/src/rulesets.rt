@@ -14,7 +14,7 @@ ghost use Rattle.selectors.specs.Reading.{reading, written};
 use combinators::bytes::byte_is;
 use declarations::rules::parse_rules;
 use lexer::whitespace::{skip_from, skip_optional_whitespace};
-use selectors::readings::{ManyReading, Reading, take_back};
+use selectors::readings::{Panic, Read, take_back};
 use selectors::selector_lists::parse_selectors;
 use syntax::rows::{DECLARATION_WIDTH, RULE_HEAD};
 use syntax::writers::put_rule_head;
@@ -25,10 +25,7 @@ fn past_semicolon(s: &[u8], e: usize) -> usize
     ensures value { result ≡ pick (is (get_or s.now e 0) semicolon) (e + 1) e }
     ensures upper_bound { result ≤ length s.now }
 {
-    if byte_is(s, e, b';') {
-        return e + 1;
-    }
-    e
+    if byte_is(s, e, b';') { e + 1 } else { e }
 }
 
 // Where '}' should stand behind declarations that end at `n`.
@@ -41,17 +38,14 @@ fn before_end(s: &[u8], n: usize) -> usize
     skip_from(s, past_semicolon(s, skip_from(s, n)))
 }
 
-// The place behind a block, how many declarations it has, how many numbers their rows take and how many bytes their texts; or that there is none. The
-// crate never panics in a block.
-#[derive(Clone, Copy)]
-pub enum BlockAnswer {
-    Block {
-        end: usize,
-        count: usize,
-        numbers: usize,
-        text: usize,
-    },
-    NoBlock,
+// The place behind a block, how many declarations it has, how many numbers their rows take and how many bytes their texts. The crate never panics
+// in a block.
+#[derive(Clone, Copy, Debug, PartialEq, Eq)]
+pub struct Block {
+    pub end: usize,
+    pub count: usize,
+    pub numbers: usize,
+    pub text: usize,
 }
 
 // Reads '{', declarations and '}' behind the selectors of a rule, which end at `n`; `s` starts at the byte `at` of the text.
@@ -65,7 +59,7 @@ fn parse_block(
     brackets: &mut [u8],
     store: &mut [u8],
     fill: usize,
-) -> BlockAnswer
+) -> Option<Block>
     requires { BlockRoom s.now n at rules.old place tokens.old brackets.old store.old fill }
     ensures value { result ≡ block_answer fill (block_at at s.now n) }
     ensures rules_after { rules.new ≡ sets rules.old place (written (declaration_rows fill) (block_at at s.now n)) }
@@ -74,33 +68,33 @@ fn parse_block(
     ensures store_after { store.new ≡ sets store.old fill (written declaration_texts (block_at at s.now n)) }
 {
     let o = skip_from(s, n);
-    if byte_is(s, o, b'{') {
-        let d = skip_from(s, o + 1);
-        let read = parse_rules(
-            &s[d..],
-            true,
-            at + d,
-            rules,
-            place,
-            tokens,
-            brackets,
-            store,
-            fill,
-        );
-        let numbers = DECLARATION_WIDTH * read.count;
-        let f = before_end(s, d + read.taken);
-        if byte_is(s, f, b'}') {
-            return BlockAnswer::Block {
-                end: skip_from(s, f + 1),
-                count: read.count,
-                numbers,
-                text: read.text,
-            };
-        }
-        take_back(rules, place, numbers, store, fill, read.text);
-        return BlockAnswer::NoBlock;
+    if !byte_is(s, o, b'{') {
+        return None;
     }
-    BlockAnswer::NoBlock
+    let d = skip_from(s, o + 1);
+    let read = parse_rules(
+        &s[d..],
+        true,
+        at + d,
+        rules,
+        place,
+        tokens,
+        brackets,
+        store,
+        fill,
+    );
+    let numbers = DECLARATION_WIDTH * read.count;
+    let f = before_end(s, d + read.taken);
+    if byte_is(s, f, b'}') {
+        return Some(Block {
+            end: skip_from(s, f + 1),
+            count: read.count,
+            numbers,
+            text: read.text,
+        });
+    }
+    take_back(rules, place, numbers, store, fill, read.text);
+    None
 }
 
 // Reads a rule; `s` starts at the byte `at` of the text.
@@ -113,7 +107,7 @@ pub fn parse_ruleset(
     brackets: &mut [u8],
     store: &mut [u8],
     fill: usize,
-) -> Reading
+) -> Result<Option<Read>, Panic>
     requires { RuleRoom s.now at rules.old place tokens.old brackets.old store.old fill }
     ensures value { result ≡ reading (λ x. 1) (rule_row fill) rule_text (behind 0 (ruleset_of s.now) (moved_by at)) }
     ensures rules_after { rules.new ≡ sets rules.old place (written (rule_row fill) (behind 0 (ruleset_of s.now) (moved_by at))) }
@@ -122,47 +116,36 @@ pub fn parse_ruleset(
     ensures store_after { store.new ≡ sets store.old fill (written rule_text (behind 0 (ruleset_of s.now) (moved_by at))) }
 {
     let w = skip_optional_whitespace(s);
-    match parse_selectors(&s[w..], rules, place + RULE_HEAD, store, fill) {
-        ManyReading::Panics(p) => {
-            return Reading::Panics(w + p);
-        }
-        ManyReading::Reads {
-            taken: n,
-            count: selectors,
-            numbers,
-            text,
-        } => {
-            let behind = place + RULE_HEAD + numbers;
-            match parse_block(
-                s,
-                w + n,
-                at,
-                rules,
-                behind,
-                tokens,
-                brackets,
-                store,
-                fill + text,
-            ) {
-                BlockAnswer::Block {
-                    end,
-                    count: declarations,
-                    numbers: more,
-                    text: kept,
-                } => {
-                    put_rule_head(at + w, selectors, declarations, rules, place);
-                    return Reading::Reads {
-                        taken: end,
-                        count: 1,
-                        numbers: RULE_HEAD + numbers + more,
-                        text: text + kept,
-                    };
-                }
-                BlockAnswer::NoBlock => {
-                    take_back(rules, place + RULE_HEAD, numbers, store, fill, text);
-                    return Reading::Fails;
-                }
-            }
-        }
-    }
+    let list = match parse_selectors(&s[w..], rules, place + RULE_HEAD, store, fill) {
+        Ok(list) => list,
+        Err(panic) => return Err(panic.behind(w)),
+    };
+    let Some(block) = parse_block(
+        s,
+        w + list.taken,
+        at,
+        rules,
+        place + RULE_HEAD + list.numbers,
+        tokens,
+        brackets,
+        store,
+        fill + list.text,
+    ) else {
+        take_back(
+            rules,
+            place + RULE_HEAD,
+            list.numbers,
+            store,
+            fill,
+            list.text,
+        );
+        return Ok(None);
+    };
+    put_rule_head(at + w, list.count, block.count, rules, place);
+    Ok(Some(Read {
+        taken: block.end,
+        count: 1,
+        numbers: RULE_HEAD + list.numbers + block.numbers,
+        text: list.text + block.text,
+    }))
 }

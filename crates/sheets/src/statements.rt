@@ -8,7 +8,7 @@ ghost use Rattle.selectors.specs.Reading.{reading, many_reading, written};
 
 use crate::at_rules::parse_at_rule;
 use crate::rulesets::parse_ruleset;
-use selectors::readings::{ManyReading, Reading, take_back};
+use selectors::readings::{Panic, Read, take_back};
 
 // Reads a rule, or else an at-rule; `s` starts at the byte `at` of the text.
 pub fn parse_statement(
@@ -20,7 +20,7 @@ pub fn parse_statement(
     brackets: &mut [u8],
     store: &mut [u8],
     fill: usize,
-) -> Reading
+) -> Result<Option<Read>, Panic>
     requires { RuleRoom s.now at rules.old place tokens.old brackets.old store.old fill }
     ensures value { result ≡ reading length (rule_rows fill) rule_texts (moved_to at (statements_of s.now)) }
     ensures rules_after { rules.new ≡ sets rules.old place (written (rule_rows fill) (moved_to at (statements_of s.now))) }
@@ -28,26 +28,9 @@ pub fn parse_statement(
     ensures brackets_unchanged { brackets.new ≡ brackets.old }
     ensures store_after { store.new ≡ sets store.old fill (written rule_texts (moved_to at (statements_of s.now))) }
 {
-    match parse_ruleset(s, at, rules, place, tokens, brackets, store, fill) {
-        Reading::Reads {
-            taken: n,
-            count,
-            numbers,
-            text,
-        } => {
-            return Reading::Reads {
-                taken: n,
-                count,
-                numbers,
-                text,
-            };
-        }
-        Reading::Panics(p) => {
-            return Reading::Panics(p);
-        }
-        Reading::Fails => {
-            return parse_at_rule(s, tokens, brackets, store, fill);
-        }
+    match parse_ruleset(s, at, rules, place, tokens, brackets, store, fill)? {
+        Some(rule) => Ok(Some(rule)),
+        None => parse_at_rule(s, tokens, brackets, store, fill),
     }
 }
 
@@ -58,7 +41,7 @@ pub fn parse_stylesheet(
     tokens: &mut [u32],
     brackets: &mut [u8],
     store: &mut [u8],
-) -> ManyReading
+) -> Result<Read, Panic>
     requires { SheetRoom s.now rules.old tokens.old brackets.old store.old }
     ensures value { result ≡ many_reading length (rule_rows 0) rule_texts (sheet_of s.now) }
     ensures rules_after { rules.new ≡ sets rules.old 0 (written (rule_rows 0) (sheet_of s.now)) }
@@ -81,35 +64,30 @@ pub fn parse_stylesheet(
             store,
             text,
         ) {
-            Reading::Reads {
-                taken: n,
-                count: more,
-                numbers: row,
-                text: kept,
-            } => {
-                taken += n;
-                count += more;
-                numbers += row;
-                text += kept;
+            Ok(Some(statement)) => {
+                taken += statement.taken;
+                count += statement.count;
+                numbers += statement.numbers;
+                text += statement.text;
             }
-            Reading::Fails => {
-                return ManyReading::Reads {
+            Ok(None) => {
+                return Ok(Read {
                     taken,
                     count,
                     numbers,
                     text,
-                };
+                });
             }
-            Reading::Panics(p) => {
+            Err(panic) => {
                 take_back(rules, 0, numbers, store, 0, text);
-                return ManyReading::Panics(taken + p);
+                return Err(panic.behind(taken));
             }
         }
     }
-    ManyReading::Reads {
+    Ok(Read {
         taken,
         count,
         numbers,
         text,
-    }
+    })
 }

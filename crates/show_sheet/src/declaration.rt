@@ -1,122 +1,75 @@
-// Declarations as text, from their rows, each behind its line and column. Of a height only zero is known, of a display only none.
-use crate::place::print_line_and_column;
-use crate::writing::{print, print_colour, print_name, print_quoted};
-use combinators::stores::number_at;
+// Declarations as text, from their rows. Of a height only zero is known, of a display only none. The rows are lent numbers by the project's rule,
+// so that kinds and words stay the numbers that `syntax::rows` names.
+use crate::text::{Colour, Name};
 use combinators::texts::part_of;
-use std::io::Stdout;
+use std::fmt;
+use streams::Quoted;
 use syntax::rows::{
     BACKGROUND_COLOR, COLOR, CONTENT, DECLARATION_IMPORTANT, DECLARATION_KIND, DECLARATION_SECOND,
     DECLARATION_START, DECLARATION_VALUE, DECLARATION_WIDTH, DISPLAY, FLAG_TRUE, HEIGHT,
     MAX_HEIGHT, OVERFLOW, OVERFLOW_AUTO, OVERFLOW_HIDDEN, OVERFLOW_SCROLL, OVERFLOW_VISIBLE,
     OVERFLOW_Y, UNKNOWN, WHITE_SPACE, WHITE_SPACE_NORMAL, WHITE_SPACE_PRE, WHITE_SPACE_PRE_WRAP,
 };
-use syntax::walk::forward;
 
-fn print_property(out: Stdout, kind: u32) {
-    match kind {
-        COLOR => print(out, b"color: "),
-        BACKGROUND_COLOR => print(out, b"background-color: "),
-        HEIGHT => print(out, b"height: "),
-        MAX_HEIGHT => print(out, b"max-height: "),
-        OVERFLOW => print(out, b"overflow: "),
-        OVERFLOW_Y => print(out, b"overflow-y: "),
-        DISPLAY => print(out, b"display: "),
-        WHITE_SPACE => print(out, b"white-space: "),
-        CONTENT => print(out, b"content: "),
-        UNKNOWN => print(out, b"unknown: "),
-        _ => {}
+/// A declaration, whose row has its texts in a store.
+#[derive(Clone, Copy)]
+pub struct Declaration<'a> {
+    pub row: [u32; DECLARATION_WIDTH],
+    pub texts: &'a [u8],
+}
+
+impl Declaration<'_> {
+    /// The byte of the sheet where its name starts.
+    pub fn start(self) -> usize {
+        self.row[DECLARATION_START] as usize
     }
 }
 
-fn print_overflow(out: Stdout, word: u32) {
-    match word {
-        OVERFLOW_VISIBLE => print(out, b"visible"),
-        OVERFLOW_HIDDEN => print(out, b"hidden"),
-        OVERFLOW_SCROLL => print(out, b"scroll"),
-        OVERFLOW_AUTO => print(out, b"auto"),
-        _ => {}
+impl fmt::Display for Declaration<'_> {
+    fn fmt<W: fmt::Write>(&self, f: &mut fmt::Formatter<W>) -> fmt::Result {
+        let value = self.row[DECLARATION_VALUE];
+        let length = self.row[DECLARATION_SECOND] as usize;
+        let text = part_of(self.texts, value as usize, length);
+        match self.row[DECLARATION_KIND] {
+            COLOR => write!(f, "color: {}", Colour(value)),
+            BACKGROUND_COLOR => write!(f, "background-color: {}", Colour(value)),
+            HEIGHT => write!(f, "height: {}", flag_word(value, "zero")),
+            MAX_HEIGHT => write!(f, "max-height: {}", flag_word(value, "zero")),
+            OVERFLOW => write!(f, "overflow: {}", overflow_word(value)),
+            OVERFLOW_Y => write!(f, "overflow-y: {}", overflow_word(value)),
+            DISPLAY => write!(f, "display: {}", flag_word(value, "none")),
+            WHITE_SPACE => write!(f, "white-space: {}", white_space_word(value)),
+            CONTENT => write!(f, "content: {}", Quoted(text)),
+            UNKNOWN => write!(f, "unknown: {}", Name(text)),
+            _ => Ok(()),
+        }?;
+        if self.row[DECLARATION_IMPORTANT] == FLAG_TRUE {
+            f.write_str(" !important")?;
+        }
+        Ok(())
     }
 }
 
-fn print_white_space(out: Stdout, word: u32) {
-    match word {
-        WHITE_SPACE_NORMAL => print(out, b"normal"),
-        WHITE_SPACE_PRE => print(out, b"pre"),
-        WHITE_SPACE_PRE_WRAP => print(out, b"pre-wrap"),
-        _ => {}
+// The word for a flag that is set.
+fn flag_word<'a>(flag: u32, word: &'a str) -> &'a str {
+    if flag == FLAG_TRUE { word } else { "other" }
+}
+
+fn overflow_word(value: u32) -> &'static str {
+    match value {
+        OVERFLOW_VISIBLE => "visible",
+        OVERFLOW_HIDDEN => "hidden",
+        OVERFLOW_SCROLL => "scroll",
+        OVERFLOW_AUTO => "auto",
+        _ => "",
     }
 }
 
-// A flag by the word for it where it is set.
-fn print_flag(out: Stdout, flag: u32, word: &[u8]) {
-    if flag == FLAG_TRUE {
-        print(out, word);
-        return;
+fn white_space_word(value: u32) -> &'static str {
+    match value {
+        WHITE_SPACE_NORMAL => "normal",
+        WHITE_SPACE_PRE => "pre",
+        WHITE_SPACE_PRE_WRAP => "pre-wrap",
+        _ => "",
     }
-    print(out, b"other");
-}
-
-// A value that is one number.
-fn print_value(out: Stdout, kind: u32, value: u32) {
-    match kind {
-        COLOR => print_colour(out, value),
-        BACKGROUND_COLOR => print_colour(out, value),
-        HEIGHT => print_flag(out, value, b"zero"),
-        MAX_HEIGHT => print_flag(out, value, b"zero"),
-        OVERFLOW => print_overflow(out, value),
-        OVERFLOW_Y => print_overflow(out, value),
-        DISPLAY => print_flag(out, value, b"none"),
-        WHITE_SPACE => print_white_space(out, value),
-        _ => {}
-    }
-}
-
-// A value that is a text, or the name of a property that is not known.
-fn print_words(out: Stdout, kind: u32, text: &[u8]) {
-    match kind {
-        CONTENT => print_quoted(out, text),
-        UNKNOWN => print_name(out, text),
-        _ => {}
-    }
-}
-
-// The declaration of the row at `at`.
-fn print_declaration(out: Stdout, rows: &[u32], at: usize, store: &[u8]) {
-    let kind = number_at(rows, at, DECLARATION_KIND);
-    let value = number_at(rows, at, DECLARATION_VALUE);
-    let second = number_at(rows, at, DECLARATION_SECOND) as usize;
-    print_property(out, kind);
-    print_value(out, kind, value);
-    print_words(out, kind, part_of(store, value as usize, second));
-    if number_at(rows, at, DECLARATION_IMPORTANT) == FLAG_TRUE {
-        print(out, b" !important");
-    }
-}
-
-// Where the declaration of the row at `at` starts: the row has the byte of its name in the sheet.
-fn print_start(out: Stdout, sheet: &[u8], rows: &[u32], at: usize) {
-    print(out, b"  ");
-    print_line_and_column(out, sheet, number_at(rows, at, DECLARATION_START) as usize);
-    print(out, b" ");
-}
-
-// The declarations from `at` on, a line for each; the place behind them.
-pub fn print_declarations(
-    out: Stdout,
-    sheet: &[u8],
-    rows: &[u32],
-    at: usize,
-    count: usize,
-    store: &[u8],
-) -> usize {
-    let mut place = at;
-    let mut left = count;
-    while left > 0 {
-        print_start(out, sheet, rows, place);
-        print_declaration(out, rows, place, store);
-        print(out, b";\n");
-        place = forward(rows, place, DECLARATION_WIDTH);
-        left -= 1;
-    }
-    place
 }

@@ -3,19 +3,21 @@
 // its number, in words. Takes 2.2 MB of stack, the stores for a sheet of 32,768 bytes.
 #![tactic(auto)]
 
-mod declaration;
-mod place;
-mod rule;
-mod selector;
-mod writing;
+mod declaration; // declaration.rt: declarations as text
+mod place; // place.rt: a byte of the sheet by its line and column
+mod refusal; // refusal.rt: why a sheet is refused
+mod rows; // rows.rt: rows as slices
+mod rule; // rule.rt: the rules, line by line
+mod selector; // selector.rt: selectors as text
+mod text; // text.rt: names, lines and colours as text
 
 use combinators::least::{NUMBER_MORE, NUMBER_WIDTH, TEXT_MORE, TEXT_WIDTH};
-use place::print_place;
-use rule::print_rules;
-use sheets::sheet::{SHEET_LIMIT, SheetAnswer, read_sheet};
-use std::io::Stdout;
+use place::{Marked, Place};
+use refusal::Refusal;
+use rule::{Source, print_rules};
+use sheets::sheet::{SHEET_LIMIT, read_sheet};
+use std::io;
 use streams::read_full;
-use writing::{print, print_number};
 
 // One byte more than a sheet may have is read, to see whether the input goes on.
 const INPUT: usize = SHEET_LIMIT + 1;
@@ -28,49 +30,32 @@ const BRACKETS: usize = SHEET_LIMIT;
 const NUMBERS: usize = NUMBER_WIDTH * SHEET_LIMIT + NUMBER_MORE;
 
 // How many bytes were read of the sheet, and where reading stopped before its end.
-fn print_read(out: Stdout, s: &[u8], stop: usize) {
-    print(out, b"read ");
-    print_number(out, stop);
-    print(out, b" of ");
-    print_number(out, s.len());
-    print(out, b" bytes\n");
-    if stop < s.len() {
-        print(out, b"stopped at ");
-        print_place(out, s, stop);
+fn print_read(out: &impl Print, sheet: &[u8], stop: usize) -> io::Result<()> {
+    println!(out; "read {stop} of {} bytes", sheet.len())?;
+    if stop < sheet.len() {
+        print!(out; "stopped at {}", Marked(Place { sheet, byte: stop }))?;
     }
+    Ok(())
 }
 
-fn print_too_long(out: Stdout) {
-    print(out, b"refused 1: the sheet has more than ");
-    print_number(out, SHEET_LIMIT);
-    print(out, b" bytes\n");
-}
-
-// Where the Rust crate panics.
-fn print_panic(out: Stdout, s: &[u8], place: usize) {
-    print(out, b"refused 4: the Rust crate panics at ");
-    print_place(out, s, place);
-}
-
-fn print_sheet(out: Stdout, s: &[u8]) {
+fn print_sheet(out: &impl Print, sheet: &[u8]) -> io::Result<()> {
     let mut rules = [0u32; NUMBERS];
     let mut tokens = [0u32; NUMBERS];
     let mut brackets = [0u8; BRACKETS];
-    let mut store = [0u8; STORE];
-    match read_sheet(s, &mut rules, &mut tokens, &mut brackets, &mut store) {
-        SheetAnswer::Sheet { count, stop, .. } => {
-            print_read(out, s, stop);
-            print_rules(out, s, &rules, &store, count);
+    let mut texts = [0u8; STORE];
+    match read_sheet(sheet, &mut rules, &mut tokens, &mut brackets, &mut texts) {
+        Ok(read) => {
+            let texts = &texts;
+            print_read(out, sheet, read.stop)?;
+            print_rules(out, Source { sheet, texts }, &rules, read.count)
         }
-        SheetAnswer::TooLong => print_too_long(out),
-        SheetAnswer::ShortStore => print(out, b"refused 2: a store is too short\n"),
-        SheetAnswer::NotUtf8 => print(out, b"refused 3: the sheet is not UTF-8\n"),
-        SheetAnswer::Panic(place) => print_panic(out, s, place),
+        Err(error) => print!(out; "{}", Refusal { sheet, error }),
     }
 }
 
+// Whoever stops reading the output ends it; that is no error.
 fn main(rt: HostRuntime) {
     let mut input = [0u8; INPUT];
-    let n = read_full(rt.stdin(), &mut input);
-    print_sheet(rt.stdout(), &input[..n]);
+    let n = read_full(&mut rt.stdin(), &mut input);
+    let _ = print_sheet(&rt, &input[..n]);
 }

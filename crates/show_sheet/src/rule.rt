@@ -1,47 +1,73 @@
 // The rules of a sheet, from their rows: a line for the selectors and one for each declaration.
-use crate::declaration::print_declarations;
-use crate::selector::print_selectors;
-use crate::writing::print;
+use crate::declaration::Declaration;
+use crate::place::Place;
+use crate::rows::cut;
+use crate::selector::Selector;
 use combinators::stores::number_at;
-use std::io::Stdout;
-use syntax::rows::{RULE_DECLARATIONS, RULE_HEAD, RULE_SELECTORS};
-use syntax::walk::forward;
+use std::io;
+use syntax::rows::{DECLARATION_WIDTH, RULE_DECLARATIONS, RULE_HEAD, RULE_SELECTORS};
 
-// The `count` declarations from `at` on, in braces; the place behind them.
-fn print_block(
-    out: Stdout,
-    sheet: &[u8],
+/// A sheet that was read, and the store with the texts of its rows.
+#[derive(Clone, Copy)]
+pub struct Source<'a> {
+    pub sheet: &'a [u8],
+    pub texts: &'a [u8],
+}
+
+/// Prints the first `count` rules of the rows.
+pub fn print_rules(
+    out: &impl Print,
+    source: Source<'_>,
     rows: &[u32],
-    at: usize,
     count: usize,
-    store: &[u8],
-) -> usize {
-    if count == 0 {
-        print(out, b" { }\n");
-        return at;
+) -> io::Result<()> {
+    let mut rest = rows;
+    for _ in 0..count {
+        rest = print_rule(out, source, rest)?;
     }
-    print(out, b" {\n");
-    let behind = print_declarations(out, sheet, rows, at, count, store);
-    print(out, b"}\n");
-    behind
+    Ok(())
 }
 
-// The rule at `at`; the place behind it.
-fn print_rule(out: Stdout, sheet: &[u8], rows: &[u32], at: usize, store: &[u8]) -> usize {
-    let selectors = number_at(rows, at, RULE_SELECTORS) as usize;
-    let declarations = number_at(rows, at, RULE_DECLARATIONS) as usize;
+// Prints the first rule of the rows; the rows behind it.
+fn print_rule<'a>(out: &impl Print, source: Source<'a>, rows: &'a [u32]) -> io::Result<&'a [u32]> {
+    let selectors = number_at(rows, 0, RULE_SELECTORS);
+    let declarations = number_at(rows, 0, RULE_DECLARATIONS) as usize;
+    let (_, behind_head) = cut(rows, RULE_HEAD);
+    let mut rest = behind_head;
     if selectors == 0 {
-        print(out, b"(no selector)");
+        print!(out; "(no selector)")?;
     }
-    let place = print_selectors(out, rows, forward(rows, at, RULE_HEAD), selectors, store);
-    print_block(out, sheet, rows, place, declarations, store)
+    for i in 0..selectors {
+        let (selector, behind) = Selector::cut(rest, source.texts);
+        let comma = if i > 0 { ", " } else { "" };
+        print!(out; "{comma}{selector}")?;
+        rest = behind;
+    }
+    let (rows, behind) = cut(rest, declarations * DECLARATION_WIDTH);
+    print_block(out, source, rows.as_chunks::<DECLARATION_WIDTH>().0)?;
+    Ok(behind)
 }
 
-pub fn print_rules(out: Stdout, sheet: &[u8], rows: &[u32], store: &[u8], count: usize) {
-    let mut place = 0;
-    let mut left = count;
-    while left > 0 {
-        place = print_rule(out, sheet, rows, place, store);
-        left -= 1;
+// Prints the declarations in braces, each behind its line and column.
+fn print_block(
+    out: &impl Print,
+    source: Source<'_>,
+    rows: &[[u32; DECLARATION_WIDTH]],
+) -> io::Result<()> {
+    if rows.is_empty() {
+        return println!(out; " {{ }}");
     }
+    println!(out; " {{")?;
+    for row in rows {
+        let declaration = Declaration {
+            row: *row,
+            texts: source.texts,
+        };
+        let place = Place {
+            sheet: source.sheet,
+            byte: declaration.start(),
+        };
+        println!(out; "  {place} {declaration};")?;
+    }
+    println!(out; "}}")
 }

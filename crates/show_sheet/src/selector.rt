@@ -1,131 +1,86 @@
 // Selectors as text, from their rows.
-use crate::writing::{print, print_name, print_number, print_quoted};
+use crate::rows::cut;
+use crate::text::Name;
 use combinators::stores::number_at;
 use combinators::texts::part_of;
-use std::io::Stdout;
+use std::fmt;
+use streams::Quoted;
 use syntax::rows::{
     ATTRIBUTE, ATTRIBUTE_EQUAL, CHILD, CLASS, COMPONENT_FIRST, COMPONENT_KIND, COMPONENT_SECOND,
     COMPONENT_TEXT, COMPONENT_WIDTH, DESCENDANT, ELEMENT, HASH, NTH, PSEUDO_AFTER, PSEUDO_BEFORE,
     SELECTOR_COMPONENTS, SELECTOR_HEAD, SELECTOR_PSEUDO, STAR,
 };
-use syntax::walk::forward;
 
-// The size of a number with a sign, which is stored as 2v, or as -2v-1 where it is negative.
-fn size_of(n: usize) -> usize {
-    if n % 2 == 0 {
-        return n / 2;
-    }
-    n / 2 + 1
+/// A selector, of which the components are rows and have their texts in a store.
+#[derive(Clone, Copy)]
+pub struct Selector<'a> {
+    components: &'a [[u32; COMPONENT_WIDTH]],
+    pseudo: u32,
+    texts: &'a [u8],
 }
 
-// `an+b`.
-fn print_nth(out: Stdout, a: usize, b: usize) {
-    print(out, b":nth-child(");
-    if a % 2 == 1 {
-        print(out, b"-");
-    }
-    print_number(out, size_of(a));
-    if b % 2 == 1 {
-        print(out, b"n-");
-    } else {
-        print(out, b"n+");
-    }
-    print_number(out, size_of(b));
-    print(out, b")");
-}
-
-// A name behind its mark.
-fn print_marked(out: Stdout, mark: &[u8], name: &[u8]) {
-    print(out, mark);
-    print_name(out, name);
-}
-
-// A name in square brackets.
-fn print_attribute(out: Stdout, name: &[u8]) {
-    print(out, b"[");
-    print_name(out, name);
-    print(out, b"]");
-}
-
-fn print_attribute_equal(out: Stdout, name: &[u8], value: &[u8]) {
-    print(out, b"[");
-    print_name(out, name);
-    print(out, b"=");
-    print_quoted(out, value);
-    print(out, b"]");
-}
-
-// A component with one text or none.
-fn print_simple(out: Stdout, kind: u32, text: &[u8]) {
-    match kind {
-        STAR => print(out, b"*"),
-        CLASS => print_marked(out, b".", text),
-        ELEMENT => print_name(out, text),
-        HASH => print_marked(out, b"#", text),
-        CHILD => print(out, b" > "),
-        DESCENDANT => print(out, b" "),
-        ATTRIBUTE => print_attribute(out, text),
-        _ => {}
+impl<'a> Selector<'a> {
+    /// The selector whose numbers are the first of the rows, and the rows behind it.
+    pub fn cut(rows: &'a [u32], texts: &'a [u8]) -> (Self, &'a [u32]) {
+        let count = number_at(rows, 0, SELECTOR_COMPONENTS) as usize;
+        let pseudo = number_at(rows, 0, SELECTOR_PSEUDO);
+        let (_, behind_head) = cut(rows, SELECTOR_HEAD);
+        let (components, rest) = cut(behind_head, count * COMPONENT_WIDTH);
+        let (components, _) = components.as_chunks::<COMPONENT_WIDTH>();
+        let selector = Selector {
+            components,
+            pseudo,
+            texts,
+        };
+        (selector, rest)
     }
 }
 
-// The component of the row at `at`.
-fn print_component(out: Stdout, rows: &[u32], at: usize, store: &[u8]) {
-    let kind = number_at(rows, at, COMPONENT_KIND);
-    let start = number_at(rows, at, COMPONENT_TEXT) as usize;
-    let first = number_at(rows, at, COMPONENT_FIRST) as usize;
-    let second = number_at(rows, at, COMPONENT_SECOND) as usize;
-    if kind == NTH {
-        print_nth(out, first, second);
-        return;
-    }
-    let text = part_of(store, start, first);
-    if kind == ATTRIBUTE_EQUAL {
-        print_attribute_equal(out, text, part_of(store, start + first, second));
-        return;
-    }
-    print_simple(out, kind, text);
-}
-
-// The components from `at` on; the place behind them.
-fn print_components(out: Stdout, rows: &[u32], at: usize, count: usize, store: &[u8]) -> usize {
-    let mut place = at;
-    let mut left = count;
-    while left > 0 {
-        print_component(out, rows, place, store);
-        place = forward(rows, place, COMPONENT_WIDTH);
-        left -= 1;
-    }
-    place
-}
-
-fn print_pseudo(out: Stdout, pseudo: u32) {
-    match pseudo {
-        PSEUDO_BEFORE => print(out, b"::before"),
-        PSEUDO_AFTER => print(out, b"::after"),
-        _ => {}
-    }
-}
-
-// The selector at `at`; the place behind it.
-fn print_selector(out: Stdout, rows: &[u32], at: usize, store: &[u8]) -> usize {
-    let count = number_at(rows, at, SELECTOR_COMPONENTS) as usize;
-    let place = forward(rows, at, SELECTOR_HEAD);
-    let behind = print_components(out, rows, place, count, store);
-    print_pseudo(out, number_at(rows, at, SELECTOR_PSEUDO));
-    behind
-}
-
-// The selectors from `at` on, parted by commas; the place behind them.
-pub fn print_selectors(out: Stdout, rows: &[u32], at: usize, count: usize, store: &[u8]) -> usize {
-    let mut place = at;
-    let mut left = count;
-    while left > 0 {
-        place = print_selector(out, rows, place, store);
-        left -= 1;
-        if left > 0 {
-            print(out, b", ");
+impl fmt::Display for Selector<'_> {
+    fn fmt<W: fmt::Write>(&self, f: &mut fmt::Formatter<W>) -> fmt::Result {
+        let texts = self.texts;
+        for row in self.components {
+            write!(f, "{}", Component { row: *row, texts })?;
+        }
+        match self.pseudo {
+            PSEUDO_BEFORE => f.write_str("::before"),
+            PSEUDO_AFTER => f.write_str("::after"),
+            _ => Ok(()),
         }
     }
-    place
+}
+
+// The rows are lent numbers by the project's rule, so that a kind stays the number that `syntax::rows` names.
+#[derive(Clone, Copy)]
+struct Component<'a> {
+    row: [u32; COMPONENT_WIDTH],
+    texts: &'a [u8],
+}
+
+impl fmt::Display for Component<'_> {
+    fn fmt<W: fmt::Write>(&self, f: &mut fmt::Formatter<W>) -> fmt::Result {
+        let start = self.row[COMPONENT_TEXT] as usize;
+        let first = self.row[COMPONENT_FIRST];
+        let second = self.row[COMPONENT_SECOND];
+        let name = part_of(self.texts, start, first as usize);
+        let value = part_of(self.texts, start + first as usize, second as usize);
+        match self.row[COMPONENT_KIND] {
+            STAR => f.write_str("*"),
+            CLASS => write!(f, ".{}", Name(name)),
+            ELEMENT => write!(f, "{}", Name(name)),
+            HASH => write!(f, "#{}", Name(name)),
+            CHILD => f.write_str(" > "),
+            DESCENDANT => f.write_str(" "),
+            NTH => write!(f, ":nth-child({}n{:+})", signed(first), signed(second)),
+            ATTRIBUTE => write!(f, "[{}]", Name(name)),
+            ATTRIBUTE_EQUAL => write!(f, "[{}={}]", Name(name), Quoted(value)),
+            _ => Ok(()),
+        }
+    }
+}
+
+// A number with a sign, which is stored as 2v, or as -2v-1 where it is negative.
+fn signed(n: u32) -> i64 {
+    let half = i64::from(n / 2);
+    if n % 2 == 0 { half } else { -half - 1 }
 }

@@ -1,36 +1,27 @@
--- The texts of a token, as the code answers them, and how many bytes of the store they take.
+-- How many bytes of the store the texts of a token take, which lie there one behind the other.
 use Rattle.std.specs.Prelude.{ℕ, ◌+◌}
 use Rattle.lexer.specs.declared.tokens.Token as lexer
 use Rattle.lexer.specs.declared.tokens.Token.TheVariants as token
-use Rattle.show_tokens.specs.declared.Texts.{Texts}
-use Rattle.show_tokens.specs.declared.Texts.TheVariants.{NoText, One, Two, Character}
 
--- by the kind of the token
-unfoldable pub texts_of : lexer.Token → Texts
-texts_of (token.Ident n) = One n
-texts_of (token.Function n) = One n
-texts_of (token.Hash n) = One n
-texts_of (token.String n) = One n
-texts_of (token.BadString n) = One n
-texts_of (token.Delim c) = Character c
-texts_of (token.Number n) = One n
-texts_of (token.Dimension n u) = Two n u
-texts_of (token.Percentage n) = One n
-texts_of token.CDO = NoText
-texts_of token.CDC = NoText
-texts_of token.Colon = NoText
-texts_of token.Semicolon = NoText
-texts_of token.Comma = NoText
-texts_of token.OpenSquare = NoText
-texts_of token.CloseSquare = NoText
-texts_of token.OpenRound = NoText
-texts_of token.CloseRound = NoText
-texts_of token.OpenBrace = NoText
-texts_of token.CloseBrace = NoText
-
--- a delimiter's character is not in the store
-unfoldable pub texts_length : Texts → ℕ
-texts_length NoText = 0
-texts_length (One n) = n
-texts_length (Two n u) = n + u
-texts_length (Character c) = 0
+-- by the kind of the token; a delimiter's character is not in the store
+abbrev pub texts_length : lexer.Token → ℕ
+texts_length (token.Ident n) = n
+texts_length (token.Function n) = n
+texts_length (token.Hash n) = n
+texts_length (token.String n) = n
+texts_length (token.BadString n) = n
+texts_length (token.Delim c) = 0
+texts_length (token.Number n) = n
+texts_length (token.Dimension n u) = n + u
+texts_length (token.Percentage n) = n
+texts_length token.CDO = 0
+texts_length token.CDC = 0
+texts_length token.Colon = 0
+texts_length token.Semicolon = 0
+texts_length token.Comma = 0
+texts_length token.OpenSquare = 0
+texts_length token.CloseSquare = 0
+texts_length token.OpenRound = 0
+texts_length token.CloseRound = 0
+texts_length token.OpenBrace = 0
+texts_length token.CloseBrace = 0

@@ -2,7 +2,6 @@
 use mathlib.Core.Path.{◌≡◌, refl, sym, ap, ◌∙◌}
 use mathlib.Core.List.{List, [], ◌∷◌, append-nil}
 use Prim.Native.Nat.{ℕ}
-use Rattle.syntax.specs.Selector.{Component}
 use Rattle.syntax.specs.Style.{agent_origin}
 use Rattle.syntax.specs.declared.styles.Value.{Value}
 use Rattle.cascade.specs.declared.slots.Cascade.TheVariants.{Crate}
@@ -13,11 +12,14 @@ use Rattle.styles.specs.Merged.{merged_row}
 use Rattle.styles.proofs.Merging.{merged-none}
 use Rattle.compiled.specs.Decoded.{Decoded, read, fault, on_decoded, counted}
 use Rattle.compiled.specs.Component.{component_at}
-use Rattle.compiled.specs.Sheet.{Head, head_at}
-use Rattle.compiled.specs.Answer.{head_answer}
-use Rattle.compiled.specs.declared.sheets.HeadAnswer.{HeadAnswer}
-use Rattle.compiled.specs.declared.sheets.HeadAnswer.TheVariants as head
-use Rattle.compiled.proofs.Answers.{head_read, head-fault}
+use Rattle.compiled.specs.Sheet.{head_at}
+use Rattle.compiled.specs.declared.sheets.Head.{Head}
+use Rattle.compiled.specs.Answer.{read_answer}
+use Rattle.std.proofs.Common.{Result, Ok, Err}
+use Rattle.compiled.specs.declared.places.Fault.{Fault}
+use Rattle.compiled.specs.declared.places.Read.{Read}
+use Rattle.compiled.proofs.Walking.{Source}
+use Rattle.compiled.proofs.Answers.{answer_read, answer-fault}
 use Rattle.compiled.proofs.Following.{then-read, then-fault, mapped-read, mapped-fault}
 use Rattle.segments.specs.Down.{read_in}
 use Rattle.runner.specs.PageRows.{selectors_declare}
@@ -25,8 +27,6 @@ use Rattle.runner.specs.Run.{found_at}
 use Rattle.runner.specs.Walked.{WalkedSelector, walked_styles_at, walked_parts_at, walked_selector_at}
 use Rattle.stepping.specs.Reading.{listed, weights_at}
 use Rattle.stepping.specs.Merging.{styles_declare}
-use Rattle.stepping.specs.declared.specificity.Weight.{Weight}
-use Rattle.stepping.specs.declared.specificity.Weight.TheVariants as weight
 use Rattle.stepping.proofs.ReadingLaws.{listed-is, listed-none}
 use Rattle.stepping.proofs.WeightLaws.{weights-read, weights-fault}
 use Rattle.stepping.proofs.StyleLaws.{unmerged}
@@ -49,54 +49,50 @@ module _ (code : List ℕ) (p : ℕ) (row : List ℕ) where
   one_found n s e z m = m ∙ ap (merged_row Crate row) (rw e (sym (append-nil _)))
 
 -- ---- returns of `merge_found`
-module _ (code : List ℕ) (p : ℕ) (r : HeadAnswer) (er : r ≡ head_answer (head_at code agent_origin p)) where
+module _ (code : List ℕ) (p : ℕ) (r : Result (Read Head) Fault) (er : r ≡ read_answer (head_at code agent_origin p)) where
   -- where no head is read at the place, the row stays: no selector is found there
-  pub head-none : (q : ℕ) → r ≡ head.Fault q → (row : List ℕ) → FoundMerged code p row row
+  pub head-none : (f : Fault) → r ≡ Err f → (row : List ℕ) → FoundMerged code p row row
   unfolding walked_selector_at
-  head-none q e row = none_found code p row q (then-fault (head_at code agent_origin p) _ q (head-fault _ r er q e))
+  head-none f e row = none_found code p row f.place (then-fault (head_at code agent_origin p) _ f.place (answer-fault _ r er f e))
 
-  module _ (n origin pseudo count : ℕ) (h : r ≡ head.Head n origin pseudo count) (c : Weight) (ec : c ≡ weights_at code count n) where
-    -- the head that was read: origin, pseudo element and number of components
-    abbrev told : Head
-    told = record { origin = origin; pseudo = pseudo; count = count }
-
+  module _ (x : Read Head) (h : r ≡ Ok x) (c : Result (Read Specificity) Fault) (ec : c ≡ weights_at code x.value.count x.next) where
     -- with its head read, the selector is what its parts behind it make of it
-    behind-head : walked_selector_at code agent_origin p ≡ walked_parts_at code told n
+    behind-head : walked_selector_at code agent_origin p ≡ walked_parts_at code x.value x.next
     unfolding walked_selector_at
-    behind-head = then-read (head_at code agent_origin p) _ n told (head_read _ r er n origin pseudo count h)
+    behind-head = then-read (head_at code agent_origin p) _ x.next x.value (answer_read _ r er x h)
 
     -- a component is not there
-    pub components-none : (q : ℕ) → c ≡ weight.Fault q → (row : List ℕ) → FoundMerged code p row row
+    pub components-none : (f : Fault) → c ≡ Err f → (row : List ℕ) → FoundMerged code p row row
     unfolding walked_parts_at
-    components-none q e row = none_found code p row q (behind-head ∙ then-fault (counted (component_at code) count n) _ q (weights-fault code n count c ec q e))
+    components-none f e row = none_found code p row f.place (behind-head ∙ then-fault (counted (component_at code) x.value.count x.next) _ f.place (weights-fault code x.next x.value.count c ec f e))
 
-    module _ (m : ℕ) (spec : Specificity) (hc : c ≡ weight.Added m spec) where
+    module _ (y : Read Specificity) (hc : c ≡ Ok y) where
       -- the components are there, and how specific they are
-      components-read : (cs : List Component) × (counted (component_at code) count n ≡ read m cs) × (spec ≡ specificity cs)
-      components-read = weights-read code n count c ec m spec hc
+      components-read : Source specificity (counted (component_at code) x.value.count x.next) y.next y.value
+      components-read = weights-read code x.next x.value.count c ec y hc
 
       -- where its styles are there, the selector is
-      selector-read : (k : ℕ) (xs : List (Styled Value)) → walked_styles_at code m ≡ read k xs
-          → walked_selector_at code agent_origin p ≡ read k (record { origin = origin; pseudo = pseudo; components = components-read.0; styles = xs })
+      selector-read : (k : ℕ) (xs : List (Styled Value)) → walked_styles_at code y.next ≡ read k xs
+          → walked_selector_at code agent_origin p ≡ read k (record { origin = x.value.origin; pseudo = x.value.pseudo; components = components-read.value; styles = xs })
       unfolding walked_parts_at
       selector-read k xs e =
           let v = components-read in
-          behind-head ∙ then-read (counted (component_at code) count n) _ m v.0 v.1 ∙ mapped-read _ (walked_styles_at code m) k xs e
+          behind-head ∙ then-read (counted (component_at code) x.value.count x.next) _ y.next v.value v.first ∙ mapped-read _ (walked_styles_at code y.next) k xs e
 
       -- where one is not, it is not
-      selector-none : (q : ℕ) → walked_styles_at code m ≡ fault q → walked_selector_at code agent_origin p ≡ fault q
+      selector-none : (q : ℕ) → walked_styles_at code y.next ≡ fault q → walked_selector_at code agent_origin p ≡ fault q
       unfolding walked_parts_at
       selector-none q e =
           let v = components-read in
-          behind-head ∙ then-read (counted (component_at code) count n) _ m v.0 v.1 ∙ mapped-fault _ (walked_styles_at code m) q e
+          behind-head ∙ then-read (counted (component_at code) x.value.count x.next) _ y.next v.value v.first ∙ mapped-fault _ (walked_styles_at code y.next) q e
 
       -- its styles are merged, or nothing
-      pub found-merged : (row z : List ℕ) → z ≡ merged_row Crate row (styles_declare origin pseudo spec (listed (walked_styles_at code m))) → FoundMerged code p row z
-      found-merged row z e = go (walked_styles_at code m) refl
+      pub found-merged : (row z : List ℕ) → z ≡ merged_row Crate row (styles_declare x.value.origin x.value.pseudo y.value (listed (walked_styles_at code y.next))) → FoundMerged code p row z
+      found-merged row z e = go (walked_styles_at code y.next) refl
         where
-          go : (d : Decoded (List (Styled Value))) → walked_styles_at code m ≡ d → FoundMerged code p row z
+          go : (d : Decoded (List (Styled Value))) → walked_styles_at code y.next ≡ d → FoundMerged code p row z
           go (read k xs) q =
               one_found code p row k _ (selector-read k xs q) z
-              (e ∙ ap (λ (y : Specificity). merged_row Crate row (styles_declare origin pseudo y (listed (walked_styles_at code m)))) components-read.2
-              ∙ ap (λ ys. merged_row Crate row (styles_declare origin pseudo (specificity components-read.0) ys)) (listed-is _ k xs q))
-          go (fault k) q = e ∙ sym (unmerged origin pseudo spec row _ (listed-none _ k q)) ∙ none_found code p row k (selector-none k q)
+              (e ∙ ap (λ (w : Specificity). merged_row Crate row (styles_declare x.value.origin x.value.pseudo w (listed (walked_styles_at code y.next)))) components-read.made
+              ∙ ap (λ ys. merged_row Crate row (styles_declare x.value.origin x.value.pseudo (specificity components-read.value) ys)) (listed-is _ k xs q))
+          go (fault k) q = e ∙ sym (unmerged x.value.origin x.value.pseudo y.value row _ (listed-none _ k q)) ∙ none_found code p row k (selector-none k q)

@@ -26,6 +26,7 @@ use Rattle.styles.specs.StyleCall.{attributes_contents, inline_contents, placed_
 use Rattle.styles.proofs.Merging.{merged-none, merged-long, late-none}
 use Rattle.segments.specs.Down.{pass_at}
 use Rattle.sweeps.specs.Met.{handed_element}
+use Rattle.sweeps.specs.declared.elements.Handed as element
 use Rattle.segments.specs.Parts.{part_sets, flags_limit, pair_limit}
 use Rattle.segments.specs.Pass.{Passed}
 use Rattle.segments.specs.Sweep.{pair_at, pair_bytes}
@@ -127,9 +128,10 @@ module _ (code out state : List ℕ) (l : OpenLent code out state) where
       raises = e₁ ∙ count-stored state parent (length code + 1) (n + 1) wide ∙ rw en
 
       -- what passing the selectors at an element asks for
-      pub element-lent : SheetLent code state₁ ((depth - 1) * (length code + 1)) ((depth - 1) * (length code + 1) + (length code + 1)) (length code + 1) (n + 1)
-      element-lent =
-          record { sheet = l.sheet; few_bytes = l.few; room = omega (arith, raised_long, parts-there); apart = inl (omega arith); few = omega (arith, small) }
+      pub element-lent : (e : element.Handed) → e.place ≡ n + 1
+          → SheetLent code state₁ (record { above = (depth - 1) * (length code + 1); own = (depth - 1) * (length code + 1) + (length code + 1); width = length code + 1 }) e
+      element-lent e p =
+          record { sheet = l.sheet; few_bytes = l.few; room = omega (arith, raised_long, parts-there); apart = inl (omega arith); few = omega (arith, small, p) }
 
       -- its own part lies in the state behind that too
       pub own_room : (row : Path) (above before state₂ : List ℕ) → state₂ ≡ sets state₁ ((depth - 1) * (length code + 1) + (length code + 1)) (pass_at code row above before).part

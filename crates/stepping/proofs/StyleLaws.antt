@@ -1,5 +1,6 @@
 -- Declarations merged into a row one after the other, and the returns and turns of the functions that merge the styles of a selector.
 use mathlib.Core.Path.{◌≡◌, refl, sym, ap, ◌∙◌}
+use mathlib.Core.Bool.{true, false}
 use mathlib.Core.List.{List, [], ◌∷◌, ◌++◌}
 use Prim.Native.Nat.{ℕ, ◌-◌, ◌≤◌, ◌<◌}
 use native.Mathlib.Omega.{arith}
@@ -14,18 +15,17 @@ use Rattle.styles.specs.Merged.{merged_row}
 use Rattle.styles.specs.Said.{rule_style}
 use Rattle.styles.specs.StyleCall.{in_numbers}
 use Rattle.styles.proofs.Merging.{merged-none, merged-more, merged-append, merged-long}
-use Rattle.compiled.specs.Decoded.{Decoded, read, fault, counted}
+use Rattle.compiled.specs.Decoded.{read, counted}
 use Rattle.compiled.specs.Number.{number_at}
 use Rattle.compiled.specs.Style.{style_numbers_at}
 use Rattle.compiled.specs.Sheet.{compiled_limit, styles_at}
-use Rattle.compiled.specs.Answer.{number_answer, place_answer, style_answer}
-use Rattle.compiled.specs.declared.numbers.NumberAnswer.{NumberAnswer}
-use Rattle.compiled.specs.declared.numbers.NumberAnswer.TheVariants as number
-use Rattle.compiled.specs.declared.places.PlaceAnswer.{PlaceAnswer}
-use Rattle.compiled.specs.declared.places.PlaceAnswer.TheVariants as place
-use Rattle.compiled.specs.declared.styles.StyleAnswer.{StyleAnswer}
-use Rattle.compiled.specs.declared.styles.StyleAnswer.TheVariants as style
-use Rattle.compiled.proofs.Answers.{number_read, number-fault, place_read, place-fault}
+use Rattle.compiled.specs.Answer.{read_answer, place_answer}
+use Rattle.std.proofs.Common.{Result, Ok, Err}
+use Rattle.compiled.specs.declared.places.Fault.{Fault}
+use Rattle.compiled.specs.declared.places.Read.{Read}
+use Rattle.std.specs.Result.{is_ok}
+use Rattle.combinators.proofs.Rules.{never}
+use Rattle.compiled.proofs.Answers.{answer_read, answer-fault, place_read, place-fault}
 use Rattle.compiled.proofs.Following.{then-read, then-fault, mapped-read, mapped-fault}
 use Rattle.runner.specs.Walked.{walked_styles_at}
 use Rattle.runner.proofs.WalkedReads.{styles-place}
@@ -63,26 +63,6 @@ module _ (row₀ : List ℕ) (all : List (Declared Value)) where
     -- where none is left, the row is the first one with all merged
     pub merging-done : others ≡ [] → row ≡ merged_row Crate row₀ all
     merging-done e = sym (merged-none Crate row) ∙ sym (ap (merged_row Crate row) e) ∙ m.left
-
--- ---- what the answer for one style says of the bytes
-module _ (d : Decoded StyleNumbers) (r : StyleAnswer) (e : r ≡ style_answer d) where
-  -- an answer with a style: these numbers were read, up to that place
-  style-read : (n : ℕ) (x : StyleNumbers) → r ≡ style.Style n x → d ≡ read n x
-  unfolding style_answer
-  style-read n x p = go d (sym p ∙ e)
-    where
-      go : (d : Decoded StyleNumbers) → style.Style n x ≡ style_answer d → d ≡ read n x
-      go (read m y) q = cc
-      go (fault q) q' = absurd (let z : ◌≡◌ {A = ℕ} 0 1 = cc in omega arith)
-
-  -- there is a fault
-  style-fault : (p : ℕ) → r ≡ style.Fault p → d ≡ fault p
-  unfolding style_answer
-  style-fault p q = go d (sym q ∙ e)
-    where
-      go : (d : Decoded StyleNumbers) → style.Fault p ≡ style_answer d → d ≡ fault p
-      go (read m y) q = absurd (let z : ◌≡◌ {A = ℕ} 0 1 = cc in omega arith)
-      go (fault p') q = cc
 
 -- ---- turns of `merge_counted`
 module _ (code : List ℕ) (count at origin pseudo : ℕ) (spec : Specificity) (row₀ : List ℕ) where
@@ -122,23 +102,23 @@ module _ (code : List ℕ) (count at origin pseudo : ℕ) (spec : Specificity) (
 
   module _ (left i : ℕ) (row : List ℕ) (m : StylesMerging left i row) where
     -- a style is merged
-    pub styles-more : 0 < left → (r : StyleAnswer) → r ≡ style_answer (style_numbers_at code i) → (n : ℕ) (x : StyleNumbers) → r ≡ style.Style n x → (z : List ℕ)
-        → Merged Crate row z (record { pseudo = pseudo; slot = x.slot; candidate = record { weight = record { important = x.important; origin = origin; spec = spec }; value = x.value } })
-        → StylesMerging (left - 1) n z
-    styles-more h r e n x p z d =
-        let u = mapped-read in_numbers (style_numbers_at code i) n x (style-read (style_numbers_at code i) r e n x p) in
-        let w = counted_next (walked_style_at code) left i m.end m.others m.told n (in_numbers x) h u in
+    pub styles-more : 0 < left → (r : Result (Read StyleNumbers) Fault) → r ≡ read_answer (style_numbers_at code i) → (x : Read StyleNumbers) → r ≡ Ok x → (z : List ℕ)
+        → Merged Crate row z (record { pseudo = pseudo; slot = x.value.slot; candidate = record { weight = record { important = x.value.important; origin = origin; spec = spec }; value = x.value.value } })
+        → StylesMerging (left - 1) x.next z
+    styles-more h r e x p z d =
+        let u = mapped-read in_numbers (style_numbers_at code i) x.next x.value (answer_read (style_numbers_at code i) r e x p) in
+        let w = counted_next (walked_style_at code) left i m.end m.others m.told x.next (in_numbers x.value) h u in
         record {
           end = m.end;
           others = w.0;
           told = w.1;
-          merging = merging-more row₀ _ row _ m.merging _ _ (one-declared m.others w.0 (in_numbers x) w.2) z (style-merged row z x d);
+          merging = merging-more row₀ _ row _ m.merging _ _ (one-declared m.others w.0 (in_numbers x.value) w.2) z (style-merged row z x.value d);
         }
 
     -- while some are left, the reading of a style does not fail
-    pub styles-there : 0 < left → (r : StyleAnswer) → r ≡ style_answer (style_numbers_at code i) → (p : ℕ) → r ≡ style.Fault p → ⊥
-    styles-there h r e p q =
-        counted-there (walked_style_at code) left i m.end m.others m.told p h (mapped-fault in_numbers (style_numbers_at code i) p (style-fault (style_numbers_at code i) r e p q))
+    pub styles-there : 0 < left → (r : Result (Read StyleNumbers) Fault) → r ≡ read_answer (style_numbers_at code i) → (f : Fault) → r ≡ Err f → ⊥
+    styles-there h r e f q =
+        counted-there (walked_style_at code) left i m.end m.others m.told f.place h (mapped-fault in_numbers (style_numbers_at code i) f.place (answer-fault (style_numbers_at code i) r e f q))
 
     -- when none is left, all styles of the selector are merged into the row
     pub styles-done : left ≤ 0 → row ≡ merged_row Crate row₀ (styles_declare origin pseudo spec all)
@@ -151,53 +131,61 @@ unfolding styles_declare
 unmerged origin pseudo spec row xs e = rw e (sym (merged-none Crate row))
 
 -- ---- returns of `merge_one`
-module _ (code : List ℕ) (at origin pseudo : ℕ) (spec : Specificity) (row : List ℕ) (r : StyleAnswer) (e : r ≡ style_answer (style_numbers_at code at)) where
+module _ (code : List ℕ) (at origin pseudo : ℕ) (spec : Specificity) (row : List ℕ) (r : Result (Read StyleNumbers) Fault) (e : r ≡ read_answer (style_numbers_at code at)) where
   -- the style is merged
-  pub one-merged : (n : ℕ) (x : StyleNumbers) → r ≡ style.Style n x → (z : List ℕ)
-      → Merged Crate row z (record { pseudo = pseudo; slot = x.slot; candidate = record { weight = record { important = x.important; origin = origin; spec = spec }; value = x.value } })
+  pub one-merged : (x : Read StyleNumbers) → r ≡ Ok x → (z : List ℕ)
+      → Merged Crate row z (record { pseudo = pseudo; slot = x.value.slot; candidate = record { weight = record { important = x.value.important; origin = origin; spec = spec }; value = x.value.value } })
       → z ≡ merged_row Crate row (styles_declare origin pseudo spec (listed (counted (walked_style_at code) 1 at)))
-  one-merged n x p z m =
-      let u = mapped-read in_numbers (style_numbers_at code at) n x (style-read (style_numbers_at code at) r e n x p) in
-      style-merged code 1 at origin pseudo spec row row z x m ∙ ap (λ xs. merged_row Crate row (styles_declare origin pseudo spec xs)) (sym (one-read (walked_style_at code) at n (in_numbers x) u))
+  one-merged x p z m =
+      let u = mapped-read in_numbers (style_numbers_at code at) x.next x.value (answer_read (style_numbers_at code at) r e x p) in
+      style-merged code 1 at origin pseudo spec row row z x.value m ∙ ap (λ xs. merged_row Crate row (styles_declare origin pseudo spec xs)) (sym (one-read (walked_style_at code) at x.next (in_numbers x.value) u))
 
   -- where no style is read, the row stays: nothing is declared
-  pub one-unmerged : (p : ℕ) → r ≡ style.Fault p → row ≡ merged_row Crate row (styles_declare origin pseudo spec (listed (counted (walked_style_at code) 1 at)))
-  one-unmerged p q =
-      let u = mapped-fault in_numbers (style_numbers_at code at) p (style-fault (style_numbers_at code at) r e p q) in
-      unmerged origin pseudo spec row _ (one_none (walked_style_at code) at p u)
+  pub one-unmerged : (f : Fault) → r ≡ Err f → row ≡ merged_row Crate row (styles_declare origin pseudo spec (listed (counted (walked_style_at code) 1 at)))
+  one-unmerged f q =
+      let u = mapped-fault in_numbers (style_numbers_at code at) f.place (answer-fault (style_numbers_at code at) r e f q) in
+      unmerged origin pseudo spec row _ (one_none (walked_style_at code) at f.place u)
 
 -- ---- returns of `merge_styles`
-module _ (code : List ℕ) (at : ℕ) (r : NumberAnswer) (e : r ≡ number_answer (number_at code at)) where
+module _ (code : List ℕ) (at : ℕ) (r : Result (Read ℕ) Fault) (e : r ≡ read_answer (number_at code at)) where
   -- there is no count
-  pub count_none : (p : ℕ) → r ≡ number.Fault p → (origin pseudo : ℕ) (spec : Specificity) (row : List ℕ)
+  pub count_none : (f : Fault) → r ≡ Err f → (origin pseudo : ℕ) (spec : Specificity) (row : List ℕ)
       → row ≡ merged_row Crate row (styles_declare origin pseudo spec (listed (walked_styles_at code at)))
   unfolding walked_styles_at
-  count_none p q origin pseudo spec row = unmerged origin pseudo spec row _ (listed-none _ p (then-fault (number_at code at) _ p (number-fault (number_at code at) r e p q)))
+  count_none f q origin pseudo spec row = unmerged origin pseudo spec row _ (listed-none _ f.place (then-fault (number_at code at) _ f.place (answer-fault (number_at code at) r e f q)))
 
-  module _ (n k : ℕ) (p : r ≡ number.Number n k) where
+  module _ (x : Read ℕ) (p : r ≡ Ok x) where
     -- behind the count that was read, as many styles are read
-    styles-behind : walked_styles_at code at ≡ counted (walked_style_at code) k n
+    styles-behind : walked_styles_at code at ≡ counted (walked_style_at code) x.value x.next
     unfolding walked_styles_at
-    styles-behind = then-read (number_at code at) (λ n count. counted (walked_style_at code) count n) n k (number_read (number_at code at) r e n k p)
+    styles-behind = then-read (number_at code at) (λ n count. counted (walked_style_at code) count n) x.next x.value (answer_read (number_at code at) r e x p)
 
     -- what merging those styles leaves is what merging the styles at the place leaves, their count read with them
     pub styles-merged : (origin pseudo : ℕ) (spec : Specificity) (row z : List ℕ)
-        → z ≡ merged_row Crate row (styles_declare origin pseudo spec (listed (counted (walked_style_at code) k n))) → z ≡ merged_row Crate row (styles_declare origin pseudo spec (listed (walked_styles_at code at)))
+        → z ≡ merged_row Crate row (styles_declare origin pseudo spec (listed (counted (walked_style_at code) x.value x.next))) → z ≡ merged_row Crate row (styles_declare origin pseudo spec (listed (walked_styles_at code at)))
     styles-merged origin pseudo spec row z h = rw styles-behind h
 
     -- a count of one: merging that one style is merging all
-    pub style-alone : k ≡ 1 → (origin pseudo : ℕ) (spec : Specificity) (row z : List ℕ)
-        → z ≡ merged_row Crate row (styles_declare origin pseudo spec (listed (counted (walked_style_at code) 1 n))) → z ≡ merged_row Crate row (styles_declare origin pseudo spec (listed (walked_styles_at code at)))
+    pub style-alone : x.value ≡ 1 → (origin pseudo : ℕ) (spec : Specificity) (row z : List ℕ)
+        → z ≡ merged_row Crate row (styles_declare origin pseudo spec (listed (counted (walked_style_at code) 1 x.next))) → z ≡ merged_row Crate row (styles_declare origin pseudo spec (listed (walked_styles_at code at)))
     style-alone one origin pseudo spec row z h = styles-merged origin pseudo spec row z (rw one h)
 
-    module _ (d : PlaceAnswer) (ed : d ≡ place_answer (styles_at code at)) where
+    module _ (d : Result ℕ Fault) (ed : d ≡ place_answer (styles_at code at)) where
       -- all of them read
-      pub counted-lent : (m : ℕ) → d ≡ place.At m → length code ≤ compiled_limit → CountedLent code n k
-      counted-lent m hd l =
-          let w = place_read (walked_styles_at code at) d (ed ∙ styles-place code at) m hd in
-          record { few = omega (arith, l); reads = record { end = m; value = w.0; told = sym styles-behind ∙ w.1 } }
+      pub counted-lent : is_ok d ≡ true → length code ≤ compiled_limit → CountedLent code x.next x.value
+      counted-lent hd l = go d refl hd
+        where
+          go : (b : Result ℕ Fault) → d ≡ b → is_ok b ≡ true → CountedLent code x.next x.value
+          go (Ok m) k h =
+              let w = place_read (walked_styles_at code at) d (ed ∙ styles-place code at) m k in
+              record { few = omega (arith, l); reads = record { end = m; value = w.0; told = sym styles-behind ∙ w.1 } }
+          go (Err f) k h = never h
 
       -- where one of the styles does not read, the row stays: none is declared
-      pub styles-none : (q : ℕ) → d ≡ place.Fault q → (origin pseudo : ℕ) (spec : Specificity) (row : List ℕ)
+      pub styles-none : is_ok d ≡ false → (origin pseudo : ℕ) (spec : Specificity) (row : List ℕ)
           → row ≡ merged_row Crate row (styles_declare origin pseudo spec (listed (walked_styles_at code at)))
-      styles-none q hd origin pseudo spec row = unmerged origin pseudo spec row _ (listed-none _ q (place-fault (walked_styles_at code at) d (ed ∙ styles-place code at) q hd))
+      styles-none hd origin pseudo spec row = go d refl hd
+        where
+          go : (b : Result ℕ Fault) → d ≡ b → is_ok b ≡ false → row ≡ merged_row Crate row (styles_declare origin pseudo spec (listed (walked_styles_at code at)))
+          go (Ok m) k h = never (sym h)
+          go (Err f) k h = unmerged origin pseudo spec row _ (listed-none _ f.place (place-fault (walked_styles_at code at) d (ed ∙ styles-place code at) f k))

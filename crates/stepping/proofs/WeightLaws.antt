@@ -13,16 +13,20 @@ use Rattle.syntax.specs.Selector.{Component, star, class, element, hash, child, 
 use Rattle.cascade.specs.Specificity.{specificity_of, no_specificity, sum, SumFits}
 use Rattle.cascade.specs.declared.specificity.Specificity.{Specificity}
 use Rattle.matching.specs.Specificity.{added, specificity}
-use Rattle.compiled.specs.Decoded.{Decoded, read, fault, on_decoded, mapped, counted}
-use Rattle.compiled.specs.Component.{written_at, mark_of, named_of, component_at}
-use Rattle.compiled.specs.Answer.{component_answer, ShortSize}
-use Rattle.compiled.specs.declared.components.ComponentAnswer.{ComponentAnswer}
-use Rattle.compiled.specs.declared.components.ComponentAnswer.TheVariants as component
-use Rattle.compiled.proofs.Following.{then-read, then-fault}
-use Rattle.compiled.proofs.Walking.{at_mark, at_name, at-numbers, at_names, at-fault}
+use Rattle.compiled.specs.Decoded.{Decoded, read, fault, mapped, counted}
+use Rattle.compiled.specs.Component.{written_at, mark_of, named_of, component_in, component_at}
+use Rattle.std.proofs.Common.{Result, Ok, Err}
+use Rattle.compiled.specs.Text.{text_in}
+use Rattle.compiled.specs.Answer.{read_answer, ShortSize}
+use Rattle.compiled.specs.declared.places.Fault.{Fault}
+use Rattle.compiled.specs.declared.places.Read.{Read}
+use Rattle.compiled.specs.declared.texts.Span.{Span}
+use Rattle.compiled.specs.declared.components.Written.{Written}
+use Rattle.compiled.specs.declared.components.Written.TheVariants as written
+use Rattle.compiled.proofs.Answers.{got, answer_read, answer-fault}
+use Rattle.compiled.proofs.Following.{then-read, then-fault, mapped-read}
+use Rattle.compiled.proofs.Walking.{at_component, at-fault, Source, source}
 use Rattle.stepping.specs.Reading.{weight_at, weights_at}
-use Rattle.stepping.specs.declared.specificity.Weight.{Weight}
-use Rattle.stepping.specs.declared.specificity.Weight.TheVariants as weight
 
 -- as the code's constant has it
 abbrev nothing : Specificity
@@ -61,8 +65,8 @@ module _ (kind : ℕ) (x : List ℕ) where
       (λ _. rw (is-no kind element_kind no-element, is-no kind hash_kind no-hash) (unfold pick in refl))
 
 -- what is read of it
-weight-read : (code : List ℕ) (at n : ℕ) (c : Component) (s : Specificity) → component_at code at ≡ read n c → s ≡ added c → weight.Added n s ≡ weight_at code at
-unfolding weight_at on_decoded
+weight-read : (code : List ℕ) (at n : ℕ) (c : Component) (s : Specificity) → component_at code at ≡ read n c → s ≡ added c → got n s ≡ weight_at code at
+unfolding weight_at mapped read_answer
 weight-read code at n c s e p = rw (e, p)
 
 -- ---- the returns of `name_weight`
@@ -83,44 +87,62 @@ module _ (kind : ℕ) (s : Specificity) where
   pub class-weight : ¬ (kind ≡ element_kind) → ¬ (kind ≡ hash_kind) → s ≡ specificity_of 0 1 0 → Named
   class-weight no-element no-hash q = λ x. q ∙ class-adds kind x no-element no-hash
 
--- ---- the returns of `read_long_weight`
-module _ (code : List ℕ) (at : ℕ) (r : ComponentAnswer) (er : r ≡ component_answer (written_at code at)) where
-  -- what is to be returned
-  abbrev Is : Weight → Type 0
-  Is w = w ≡ weight_at code at
+-- ---- the returns of `written_weight`
+module _ (w : Written) (s : Specificity) where
+  -- whatever the bytes are
+  abbrev Adds : Type 0
+  Adds = (code : List ℕ) → s ≡ added (component_in code w)
 
   -- star and combinators add nothing to the weight
-  pub mark-weight : (n kind : ℕ) → r ≡ component.Mark n kind → Is (weight.Added n nothing)
-  mark-weight n kind p = weight-read code at n _ _ (at_mark code at r er n kind p) (mark-adds kind)
+  pub mark-weight : (kind : ℕ) → w ≡ written.Mark kind → s ≡ nothing → Adds
+  unfolding component_in
+  mark-weight kind e q = λ code. rw (e, q) (mark-adds kind)
 
   -- a component of one text adds what its kind adds
-  pub name-weight : (n kind start size : ℕ) → r ≡ component.Name n kind start size → (s : Specificity) → Named kind s → Is (weight.Added n s)
-  name-weight n kind start size p s q = weight-read code at n _ s (at_name code at r er n kind start size p) (q _)
+  pub name-weight : (kind : ℕ) (x : Span) → w ≡ written.Name kind x → Named kind s → Adds
+  unfolding component_in
+  name-weight kind x e q = λ code. rw e (q (text_in code x))
 
   -- an nth-child adds one to the classes
-  pub numbers-weight : (n a b : ℕ) → r ≡ component.Numbers n a b → (s : Specificity) → s ≡ specificity_of 0 1 0 → Is (weight.Added n s)
-  unfolding added
-  numbers-weight n a b p s q = weight-read code at n _ s (at-numbers code at r er n a b p) q
+  pub numbers-weight : (a b : ℕ) → w ≡ written.Numbers a b → s ≡ specificity_of 0 1 0 → Adds
+  unfolding component_in added
+  numbers-weight a b e q = λ code. rw e q
 
   -- an attribute of a value adds one to the classes
-  pub names-weight : (n a b f g : ℕ) → r ≡ component.Names n a b f g → (s : Specificity) → s ≡ specificity_of 0 1 0 → Is (weight.Added n s)
-  unfolding added
-  names-weight n a b f g p s q = weight-read code at n _ s (at_names code at r er n a b f g p) q
+  pub names-weight : (x y : Span) → w ≡ written.Names x y → s ≡ specificity_of 0 1 0 → Adds
+  unfolding component_in added
+  names-weight x y e q = λ code. rw e q
+
+-- ---- the returns of `read_long_weight`
+module _ (code : List ℕ) (at : ℕ) (r : Result (Read Written) Fault) (er : r ≡ read_answer (written_at code at)) where
+  -- what is read adds what its bytes say
+  pub long-weight : (x : Read Written) → r ≡ Ok x → (s : Specificity) → Adds x.value s → got x.next s ≡ weight_at code at
+  long-weight x p s q = weight-read code at x.next (component_in code x.value) s (at_component code at r er x p) (q code)
 
   -- where no component is read, the fault is at the same place
-  pub fault-weight : (p : ℕ) → r ≡ component.Fault p → Is (weight.Fault p)
-  unfolding weight_at on_decoded
-  fault-weight p q = rw (at-fault code at r er p q)
+  pub fault-weight : (f : Fault) → r ≡ Err f → Err f ≡ weight_at code at
+  unfolding weight_at mapped read_answer
+  fault-weight f p = rw (at-fault code at r er f p)
 
 -- ---- the returns of `read_weight`
 module _ (code : List ℕ) (at size : ℕ) (short : ShortSize code at size) where
+  -- what is read of it
+  short-read : (n : ℕ) (w : Written) → written_at code at ≡ read n w → component_at code at ≡ read n (component_in code w)
+  unfolding component_at
+  short-read n w e = mapped-read (component_in code) (written_at code at) n w e
+
   -- a kind alone adds nothing
-  pub short-alone : size ≡ 1 → weight.Added (at + size) nothing ≡ weight_at code at
-  short-alone e = ap (λ (n : ℕ). weight.Added (at + n) nothing) e ∙ mark-weight code at _ refl (at + 1) _ (short.alone e)
+  pub short-alone : size ≡ 1 → got (at + 1) nothing ≡ weight_at code at
+  unfolding component_in
+  short-alone e = weight-read code at (at + 1) _ nothing (short-read _ _ (short.alone e)) (mark-adds _)
 
   -- a kind and a text add what the kind says
-  pub short-named : 1 < size → (kind : ℕ) → kind ≡ get_or code at 0 → (s : Specificity) → Named kind s → weight.Added (at + size) s ≡ weight_at code at
-  short-named h kind e s q = name-weight code at _ refl (at + size) _ _ _ (short.named h) s (λ x. q x ∙ ap (λ (k : ℕ). added (named_of k x)) e)
+  pub short-named : ¬ (size ≡ 1) → (kind : ℕ) → kind ≡ get_or code at 0 → (s : Specificity) → Named kind s → got (at + size) s ≡ weight_at code at
+  unfolding component_in
+  short-named h kind e s q =
+      let more : 1 < size = let z = short.some in omega arith in
+      let x : Span = record { start = at + 2; size = size - 2 } in
+      weight-read code at (at + size) _ s (short-read _ _ (short.named more)) (q (text_in code x) ∙ ap (λ (k : ℕ). added (named_of k (text_in code x))) e)
 
 -- ---- sums
 -- brackets do not matter
@@ -153,26 +175,26 @@ added-few (attribute n) = (omega arith, (omega arith, omega arith))
 added-few (attribute_equal n v) = (omega arith, (omega arith, omega arith))
 
 -- ---- what was added, with what is left
-unfoldable pub weighing : Specificity → Decoded (List Component) → Weight
-weighing s d = on_decoded d (λ n cs. weight.Added n (sum s (specificity cs))) (λ p. weight.Fault p)
+unfoldable pub weighing : Specificity → Decoded (List Component) → Result (Read Specificity) Fault
+weighing s d = read_answer (mapped (λ cs. sum s (specificity cs)) d)
 
 -- nothing was added yet
-weighing-begin : (d : Decoded (List Component)) → weighing nothing d ≡ on_decoded d (λ n cs. weight.Added n (specificity cs)) (λ p. weight.Fault p)
-unfolding weighing on_decoded
-weighing-begin (read n cs) = ap (weight.Added n) (sum_first (specificity cs))
+weighing-begin : (d : Decoded (List Component)) → weighing nothing d ≡ read_answer (mapped specificity d)
+unfolding weighing mapped read_answer
+weighing-begin (read n cs) = ap (got n) (sum_first (specificity cs))
 weighing-begin (fault p) = refl
 
 -- a component before the others is added to what was added before
 weighing-more : (s : Specificity) (c : Component) (d : Decoded (List Component)) → weighing (sum s (added c)) d ≡ weighing s (mapped (λ r. c ∷ r) d)
-unfolding weighing on_decoded mapped specificity
-weighing-more s c (read n cs) = ap (weight.Added n) (sum-assoc s (added c) (specificity cs))
+unfolding weighing mapped read_answer specificity
+weighing-more s c (read n cs) = ap (got n) (sum-assoc s (added c) (specificity cs))
 weighing-more s c (fault p) = refl
 
 module _ (code : List ℕ) (s : Specificity) (i : ℕ) where
   -- where no component is left, what was added is the whole sum
-  weighing-end : (left : ℕ) → left ≤ 0 → weight.Added i s ≡ weighing s (counted (component_at code) left i)
-  unfolding weighing on_decoded counted specificity
-  weighing-end zero h = ap (weight.Added i) (sym (sum-last s))
+  weighing-end : (left : ℕ) → left ≤ 0 → got i s ≡ weighing s (counted (component_at code) left i)
+  unfolding weighing mapped read_answer counted specificity
+  weighing-end zero h = ap (got i) (sym (sum-last s))
   weighing-end (suc k) h = absurd (omega arith)
 
   -- the first of those that are left is read
@@ -185,29 +207,24 @@ module _ (code : List ℕ) (s : Specificity) (i : ℕ) where
       rw q (weighing-more s c (counted (component_at code) k n) ∙ sym (ap (weighing s) (then-read (component_at code i) _ n c e)))
 
   -- it is a fault
-  weighing-fault : (left p : ℕ) → 0 < left → component_at code i ≡ fault p → weight.Fault p ≡ weighing s (counted (component_at code) left i)
-  unfolding weighing on_decoded counted
-  weighing-fault zero p h e = absurd (omega arith)
-  weighing-fault (suc k) p h e = sym (ap (weighing s) (then-fault (component_at code i) (λ n c. mapped (λ r. c ∷ r) (counted (component_at code) k n)) p e))
+  weighing-fault : (left : ℕ) (f : Fault) → 0 < left → component_at code i ≡ fault f.place → Err f ≡ weighing s (counted (component_at code) left i)
+  unfolding weighing mapped read_answer counted
+  weighing-fault zero f h e = absurd (omega arith)
+  weighing-fault (suc k) f h e = sym (ap (weighing s) (then-fault (component_at code i) (λ n c. mapped (λ r. c ∷ r) (counted (component_at code) k n)) f.place e))
 
--- ---- what a weight says that was read
-module _ {A : Type 0} (f : A → Specificity) (d : Decoded A) (q : Weight) (eq : q ≡ on_decoded d (λ n a. weight.Added n (f a)) (λ p. weight.Fault p)) where
-  -- a weight was answered: a value was read up to that place, and the weight is its own
-  weight-of : (n : ℕ) (x : Specificity) → q ≡ weight.Added n x → (a : A) × (d ≡ read n a) × (x ≡ f a)
-  unfolding on_decoded
-  weight-of n x e = go d (sym eq ∙ e)
-    where
-      go : (d : Decoded A) → on_decoded d (λ n a. weight.Added n (f a)) (λ p. weight.Fault p) ≡ weight.Added n x → (a : A) × (d ≡ read n a) × (x ≡ f a)
-      go (read m a) z = let p : m ≡ n = cc in (a, ap (λ (k : ℕ). read k a) p, cc)
-      go (fault p) z = absurd (let w : ◌≡◌ {A = ℕ} 0 1 = cc in omega arith)
+-- ---- what an answer says of the reading
+module _ {A : Type 0} (f : A → Specificity) (d : Decoded A) (q : Result (Read Specificity) Fault) (eq : q ≡ read_answer (mapped f d)) where
+  -- what was read adds up to it
+  weight-of : (x : Read Specificity) → q ≡ Ok x → Source f d x.next x.value
+  weight-of x e = source f d x.next x.value (answer_read (mapped f d) q eq x e)
 
   -- a fault was answered: the reading failed at that place
-  fault-of : (p : ℕ) → q ≡ weight.Fault p → d ≡ fault p
-  unfolding on_decoded
-  fault-of p e = go d (sym eq ∙ e)
+  fault-of : (g : Fault) → q ≡ Err g → d ≡ fault g.place
+  unfolding mapped
+  fault-of g e = go d (answer-fault (mapped f d) q eq g e)
     where
-      go : (d : Decoded A) → on_decoded d (λ n a. weight.Added n (f a)) (λ p. weight.Fault p) ≡ weight.Fault p → d ≡ fault p
-      go (read m a) z = absurd (let w : ◌≡◌ {A = ℕ} 0 1 = cc in omega arith)
+      go : (d : Decoded A) → mapped f d ≡ fault g.place → d ≡ fault g.place
+      go (read m a) z = absurd (cc)
       go (fault r) z = cc
 
 -- ---- the loop of `read_weights`: what was added with what is left is the whole, and no count exceeds the components passed
@@ -230,27 +247,27 @@ add_begin code at count =
 
 module _ (code : List ℕ) (at count : ℕ) (s : Specificity) (i left : ℕ) (v : Adding code at count s i left) where
   -- where no component is left, the answer is the sum of all components
-  pub add-end : left ≤ 0 → weight.Added i s ≡ weights_at code count at
+  pub add-end : left ≤ 0 → got i s ≡ weights_at code count at
   add-end h = weighing-end code s i left h ∙ v.total
 
-  module _ (h : 0 < left) (q : Weight) (eq : q ≡ weight_at code i) where
+  module _ (h : 0 < left) (q : Result (Read Specificity) Fault) (eq : q ≡ weight_at code i) where
     -- a component that is not there ends it
-    pub add-fault : (p : ℕ) → q ≡ weight.Fault p → weight.Fault p ≡ weights_at code count at
+    pub add-fault : (f : Fault) → q ≡ Err f → Err f ≡ weights_at code count at
     unfolding weight_at
-    add-fault p e = weighing-fault code s i left p h (fault-of added (component_at code i) q eq p e) ∙ v.total
+    add-fault f e = weighing-fault code s i left f h (fault-of added (component_at code i) q eq f e) ∙ v.total
 
-    module _ (n : ℕ) (x : Specificity) (e : q ≡ weight.Added n x) where
+    module _ (x : Read Specificity) (e : q ≡ Ok x) where
       -- the component that is read
-      one : (c : Component) × (component_at code i ≡ read n c) × (x ≡ added c)
+      one : Source added (component_at code i) x.next x.value
       unfolding weight_at
-      one = weight-of added (component_at code i) q eq n x e
+      one = weight-of added (component_at code i) q eq x e
 
       -- it adds at most one to each count
-      few : (x.id ≤ 1) × ((x.class ≤ 1) × (x.typ ≤ 1))
-      few = rw one.2 (added-few one.0)
+      few : (x.value.id ≤ 1) × ((x.value.class ≤ 1) × (x.value.typ ≤ 1))
+      few = rw one.made (added-few one.value)
 
       -- the sum can be taken
-      pub add-fits : count < 2 ^ 32 → SumFits s x
+      pub add-fits : count < 2 ^ 32 → SumFits s x.value
       add-fits l =
           record {
             id-fits = omega (arith, few.0, v.ids);
@@ -259,29 +276,28 @@ module _ (code : List ℕ) (at count : ℕ) (s : Specificity) (i left : ℕ) (v 
           }
 
       -- with it added, what is left to add makes the same total
-      added-on : Adding code at count (sum s x) n (left - 1)
+      added-on : Adding code at count (sum s x.value) x.next (left - 1)
       unfolding sum
       added-on =
           record {
-            total = ap (λ (y : Specificity). weighing (sum s y) (counted (component_at code) (left - 1) n)) one.2 ∙ weighing-read code s i left n one.0 h one.1 ∙ v.total;
+            total = ap (λ (y : Specificity). weighing (sum s y) (counted (component_at code) (left - 1) x.next)) one.made ∙ weighing-read code s i left x.next one.value h one.first ∙ v.total;
             ids = omega (arith, few.0, v.ids);
             classes = omega (arith, few.1.0, v.classes);
             types = omega (arith, few.1.1, v.types);
           }
 
       -- the component that was read is added, and the loop goes on behind it with one fewer left
-      pub add-more : (t : Specificity) → t ≡ sum s x → Adding code at count t n (left - 1)
+      pub add-more : (t : Specificity) → t ≡ sum s x.value → Adding code at count t x.next (left - 1)
       add-more t p = rw p added-on
 
 -- ---- what is read of a selector by its weight
-module _ (code : List ℕ) (at count : ℕ) (q : Weight) (eq : q ≡ weights_at code count at) where
+module _ (code : List ℕ) (at count : ℕ) (q : Result (Read Specificity) Fault) (eq : q ≡ weights_at code count at) where
   -- its components, and how specific it is
-  pub weights-read : (n : ℕ) (x : Specificity) → q ≡ weight.Added n x
-      → (cs : List Component) × (counted (component_at code) count at ≡ read n cs) × (x ≡ specificity cs)
+  pub weights-read : (x : Read Specificity) → q ≡ Ok x → Source specificity (counted (component_at code) count at) x.next x.value
   unfolding weights_at
-  weights-read n x e = weight-of specificity (counted (component_at code) count at) q eq n x e
+  weights-read x e = weight-of specificity (counted (component_at code) count at) q eq x e
 
   -- a component is not there
-  pub weights-fault : (p : ℕ) → q ≡ weight.Fault p → counted (component_at code) count at ≡ fault p
+  pub weights-fault : (f : Fault) → q ≡ Err f → counted (component_at code) count at ≡ fault f.place
   unfolding weights_at
-  weights-fault p e = fault-of specificity (counted (component_at code) count at) q eq p e
+  weights-fault f e = fault-of specificity (counted (component_at code) count at) q eq f e

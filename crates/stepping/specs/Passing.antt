@@ -6,16 +6,18 @@ use Rattle.compiled.specs.Answer.{bytes_refusal}
 use Rattle.compiled.specs.Sheet.{compiled_limit}
 use Rattle.segments.specs.Down.{pass_at, fresh_in}
 use Rattle.sweeps.specs.Met.{place_limit}
+use Rattle.sweeps.specs.declared.elements.Handed.{Handed}
+use Rattle.sweeps.specs.declared.sweeping.Parts.{Parts}
 use Rattle.segments.specs.Parts.{Apart}
 use Rattle.runner.specs.State.{part_width, part_place, part_of}
 
 -- at an element: bytes that read as a sheet, and its part and its parent's apart from each other
-pub record SheetLent (code state : List ℕ) (above own width place : ℕ) : Type 0 where
+pub record SheetLent (code state : List ℕ) (parts : Parts) (element : Handed) : Type 0 where
   pub sheet : bytes_refusal code ≡ no_refusal
   pub few_bytes : length code ≤ compiled_limit
-  pub room : own + width ≤ length state
-  pub apart : Apart above own width
-  pub few : place ≤ place_limit
+  pub room : parts.own + parts.width ≤ length state
+  pub apart : Apart parts.above parts.own parts.width
+  pub few : element.place ≤ place_limit
 
 -- at the document: bytes that read as a sheet, and the parts of two depths
 pub record DocumentLent (code state : List ℕ) : Type 0 where

@@ -11,14 +11,13 @@ ghost use Rattle.runner.specs.Walked.{walked_styles_at};
 ghost use Rattle.stepping.specs.Reading.{listed};
 ghost use Rattle.stepping.specs.Merging.{walked_style_at, styles_declare, CountedLent};
 
-use crate::specificity::{Weight, read_weights};
+use crate::specificity::read_weights;
 use cascade::rows::merge_computed_style;
 use cascade::slots::Cascade;
 use cascade::specificity::Specificity;
-use compiled::numbers::{NumberAnswer, read_number};
-use compiled::places::PlaceAnswer;
-use compiled::sheets::{HeadAnswer, read_head};
-use compiled::styles::{StyleAnswer, read_style, skip_styles};
+use compiled::numbers::read_number;
+use compiled::sheets::{Head, read_head};
+use compiled::styles::{read_style, skip_styles};
 use syntax::rows::AGENT_ORIGIN;
 
 // Merges `count` styles from `at` on, as those of a selector.
@@ -35,19 +34,20 @@ fn merge_counted(
     requires counted_lent { CountedLent compiled.now at count }
     ensures { out.new ≡ merged_row Crate out.old (styles_declare origin pseudo spec (listed (counted (walked_style_at compiled.now) count at))) }
 {
-    let mut i = at;
-    let mut left = count;
-    while left > 0 {
-        match read_style(compiled, i) {
-            StyleAnswer::Style(next, style) => {
-                merge_computed_style(out, Cascade::Crate, pseudo as usize, origin, spec, style);
-                i = next;
-            }
-            StyleAnswer::Fault(_) => {
-                return;
-            }
-        }
-        left -= 1;
+    let mut next = at;
+    for _ in 0..count {
+        let Ok(style) = read_style(compiled, next) else {
+            return;
+        };
+        merge_computed_style(
+            out,
+            Cascade::Crate,
+            pseudo as usize,
+            origin,
+            spec,
+            style.value,
+        );
+        next = style.next;
     }
 }
 
@@ -64,14 +64,15 @@ fn merge_one(
     requires compiled_len_bound { length compiled.now ≤ compiled_limit }
     ensures { out.new ≡ merged_row Crate out.old (styles_declare origin pseudo spec (listed (counted (walked_style_at compiled.now) 1 at))) }
 {
-    match read_style(compiled, at) {
-        StyleAnswer::Style(_, style) => {
-            merge_computed_style(out, Cascade::Crate, pseudo as usize, origin, spec, style);
-            return;
-        }
-        StyleAnswer::Fault(_) => {
-            return;
-        }
+    if let Ok(style) = read_style(compiled, at) {
+        merge_computed_style(
+            out,
+            Cascade::Crate,
+            pseudo as usize,
+            origin,
+            spec,
+            style.value,
+        );
     }
 }
 
@@ -88,25 +89,13 @@ fn merge_styles(
     requires compiled_len_bound { length compiled.now ≤ compiled_limit }
     ensures { out.new ≡ merged_row Crate out.old (styles_declare origin pseudo spec (listed (walked_styles_at compiled.now at))) }
 {
-    match read_number(compiled, at) {
-        NumberAnswer::Number(next, count) => {
-            if count == 1 {
-                merge_one(compiled, next, origin, pseudo, spec, out);
-                return;
-            }
-            match skip_styles(compiled, at) {
-                PlaceAnswer::At(_) => {
-                    merge_counted(compiled, next, count, origin, pseudo, spec, out);
-                    return;
-                }
-                PlaceAnswer::Fault(_) => {
-                    return;
-                }
-            }
-        }
-        NumberAnswer::Fault(_) => {
-            return;
-        }
+    let Ok(count) = read_number(compiled, at) else {
+        return;
+    };
+    if count.value == 1 {
+        merge_one(compiled, count.next, origin, pseudo, spec, out);
+    } else if skip_styles(compiled, at).is_ok() {
+        merge_counted(compiled, count.next, count.value, origin, pseudo, spec, out);
     }
 }
 
@@ -116,23 +105,15 @@ pub fn merge_found(compiled: &[u8], p: usize, out: &mut [u32])
     requires compiled_len_bound { length compiled.now ≤ compiled_limit }
     ensures { out.new ≡ merged_row Crate out.old (selectors_declare (found_at compiled.now (p ∷ []))) }
 {
-    match read_head(compiled, p, AGENT_ORIGIN) {
-        HeadAnswer::Head {
-            next,
-            origin,
-            pseudo,
-            count,
-        } => match read_weights(compiled, next, count) {
-            Weight::Added(styles, spec) => {
-                merge_styles(compiled, styles, origin, pseudo, spec, out);
-                return;
-            }
-            Weight::Fault(_) => {
-                return;
-            }
-        },
-        HeadAnswer::Fault(_) => {
-            return;
-        }
+    let Ok(head) = read_head(compiled, p, AGENT_ORIGIN) else {
+        return;
+    };
+    let Head {
+        origin,
+        pseudo,
+        count,
+    } = head.value;
+    if let Ok(weights) = read_weights(compiled, head.next, count) {
+        merge_styles(compiled, weights.next, origin, pseudo, weights.value, out);
     }
 }

@@ -1,11 +1,11 @@
 // The selectors of a compiled sheet at a row: by the part of its parent into its own, and at an element the styles of those that match.
-ghost use Rattle.std.specs.Prelude.{◌≡◌, [], ◌∷◌, ◌<◌};
+ghost use Rattle.std.specs.Prelude.{◌≡◌, [], ◌∷◌, ◌<◌, Some};
 ghost use Rattle.std.proofs.lemmas.List.Edits.{sets};
 ghost use Rattle.combinators.specs.Part.{part};
 ghost use Rattle.cascade.specs.declared.slots.Cascade.TheVariants.{Crate};
 ghost use Rattle.cascade.specs.Row.{RowRoom};
 ghost use Rattle.styles.specs.Merged.{merged_row};
-ghost use Rattle.sweeps.specs.Met.{handed_element};
+ghost use Rattle.sweeps.specs.Met.{handed};
 ghost use Rattle.segments.specs.Visits.{visit_at};
 ghost use Rattle.visits.specs.Visiting.{VisitLent};
 ghost use Rattle.segments.specs.Pass.{matched_here, pass_from};
@@ -17,9 +17,11 @@ ghost use Rattle.runner.specs.Run.{found_at};
 ghost use Rattle.stepping.specs.Passing.{SheetLent, DocumentLent, document_passed};
 
 use crate::merging::merge_found;
-use compiled::numbers::{NumberAnswer, read_number};
+use compiled::numbers::read_number;
 use hints::hints::hint_of;
 use hints::skipping::skip_failing;
+use sweeps::elements::Handed;
+use sweeps::sweeping::Parts;
 use visits::document::{first_styled, tell_document};
 use visits::passing::{NO_PLACE, pass_blocks};
 use visits::visiting::visit;
@@ -28,30 +30,22 @@ use visits::visiting::visit;
 fn visit_found(
     compiled: &[u8],
     state: &mut [u8],
-    above: usize,
-    own: usize,
-    width: usize,
+    parts: Parts,
     p: usize,
-    name: &[u8],
-    attributes: &[u32],
-    text: &[u8],
-    place: usize,
+    element: Handed<'_>,
     out: &mut [u32],
 ) -> usize
     requires row_room { RowRoom out.old }
-    requires visit_lent { VisitLent compiled.now state.old above own width p place }
-    ensures state_after { state.new ≡ visit_stored compiled.now (handed_element name.now attributes.now text.now place ∷ []) above own width p state.old }
+    requires visit_lent { VisitLent compiled.now state.old parts p (Some element) }
+    ensures state_after { state.new ≡ visit_stored compiled.now (handed element.entry ∷ []) parts.above parts.own parts.width p state.old }
     ensures out_after { out.new ≡ merged_row Crate out.old (selectors_declare (found_at compiled.now
-        (matched_here (visit_at compiled.now (handed_element name.now attributes.now text.now place ∷ []) (part state.old above width) p) p))) }
-    ensures value { result ≡ next_from state.old above width p }
+        (matched_here (visit_at compiled.now (handed element.entry ∷ []) (part state.old parts.above parts.width) p) p))) }
+    ensures value { result ≡ next_from state.old parts.above parts.width p }
     ensures upper_bound { result < pair_limit }
 {
-    let answer = visit(
-        compiled, state, above, own, width, p, true, name, attributes, text, place,
-    );
+    let answer = visit(compiled, state, parts, p, Some(element));
     if answer.matched {
         merge_found(compiled, p, out);
-        return answer.next;
     }
     answer.next
 }
@@ -60,47 +54,28 @@ fn visit_found(
 fn pass_found(
     compiled: &[u8],
     state: &mut [u8],
-    above: usize,
-    own: usize,
-    width: usize,
+    parts: Parts,
     first: usize,
     count: u32,
-    name: &[u8],
-    attributes: &[u32],
-    text: &[u8],
-    place: usize,
+    element: Handed<'_>,
     out: &mut [u32],
 )
     requires row_room { RowRoom out.old }
-    requires visit_lent { VisitLent compiled.now state.old above own width first place }
-    ensures state_after { state.new ≡ pass_stored compiled.now (handed_element name.now attributes.now text.now place ∷ []) above own width count first state.old }
+    requires visit_lent { VisitLent compiled.now state.old parts first (Some element) }
+    ensures state_after { state.new ≡ pass_stored compiled.now (handed element.entry ∷ []) parts.above parts.own parts.width count first state.old }
     ensures out_after { out.new ≡ merged_row Crate out.old (selectors_declare (found_at compiled.now
-        (pass_from compiled.now (handed_element name.now attributes.now text.now place ∷ []) (part state.old above width) count first (part state.old own width)).matched)) }
+        (pass_from compiled.now (handed element.entry ∷ []) (part state.old parts.above parts.width) count first (part state.old parts.own parts.width)).matched)) }
 {
-    let hint = hint_of(name, attributes, text, count);
+    let hint = hint_of(element, count);
     let mut p = first;
     let mut left = count;
+    // a pass over some is no step of a range
     while left > 0 {
-        let skipped = skip_failing(compiled, state, above, own, width, p, left, hint);
-        if skipped.left == 0 {
+        let skipped = skip_failing(compiled, state, parts, p, left, hint);
+        if skipped.left == 0 || skipped.place == NO_PLACE {
             return;
         }
-        if skipped.place == NO_PLACE {
-            return;
-        }
-        p = visit_found(
-            compiled,
-            state,
-            above,
-            own,
-            width,
-            skipped.place,
-            name,
-            attributes,
-            text,
-            place,
-            out,
-        );
+        p = visit_found(compiled, state, parts, skipped.place, element, out);
         left = skipped.left - 1;
     }
 }
@@ -109,55 +84,39 @@ fn pass_found(
 pub fn pass_element(
     compiled: &[u8],
     state: &mut [u8],
-    above: usize,
-    own: usize,
-    width: usize,
-    name: &[u8],
-    attributes: &[u32],
-    text: &[u8],
-    place: usize,
+    parts: Parts,
+    element: Handed<'_>,
     out: &mut [u32],
 )
     requires row_room { RowRoom out.old }
-    requires sheet_lent { SheetLent compiled.now state.old above own width place }
-    ensures state_after { state.new ≡ sets state.old own (pass_at compiled.now (handed_element name.now attributes.now text.now place ∷ [])
-        (part state.old above width) (part state.old own width)).part }
+    requires sheet_lent { SheetLent compiled.now state.old parts element }
+    ensures state_after { state.new ≡ sets state.old parts.own (pass_at compiled.now (handed element.entry ∷ [])
+        (part state.old parts.above parts.width) (part state.old parts.own parts.width)).part }
     ensures out_after { out.new ≡ merged_row Crate out.old (selectors_declare (found_at compiled.now
-        (pass_at compiled.now (handed_element name.now attributes.now text.now place ∷ []) (part state.old above width) (part state.old own width)).matched)) }
+        (pass_at compiled.now (handed element.entry ∷ []) (part state.old parts.above parts.width) (part state.old parts.own parts.width)).matched)) }
 {
-    match read_number(compiled, 0) {
-        NumberAnswer::Number(at, count) => {
-            let first = first_styled(compiled, at, count);
-            pass_found(
-                compiled, state, above, own, width, first, count, name, attributes, text, place,
-                out,
-            );
-            return;
-        }
-        NumberAnswer::Fault(_) => {
-            return;
-        }
-    }
+    let Ok(count) = read_number(compiled, 0) else {
+        return;
+    };
+    let first = first_styled(compiled, count.next, count.value);
+    pass_found(compiled, state, parts, first, count.value, element, out);
 }
 
 // The same at the document, which has no style: what stands above all selectors is told in the part of the next depth, which is not open yet.
-pub fn pass_document(compiled: &[u8], state: &mut [u8], attributes: &[u32], text: &[u8])
+pub fn pass_document(compiled: &[u8], state: &mut [u8])
     requires { DocumentLent compiled.now state.old }
     ensures { state.new ≡ document_passed compiled.now state.old }
 {
     let width = compiled.len() + 1;
-    match read_number(compiled, 0) {
-        NumberAnswer::Number(at, count) => {
-            tell_document(compiled, state, width, width, at, count);
-            let first = first_styled(compiled, at, count);
-            // the document has no name, attributes or place
-            pass_blocks(
-                compiled, state, width, 0, width, first, count, false, text, attributes, text, 0,
-            );
-            return;
-        }
-        NumberAnswer::Fault(_) => {
-            return;
-        }
-    }
+    let Ok(count) = read_number(compiled, 0) else {
+        return;
+    };
+    tell_document(compiled, state, width, width, count.next, count.value);
+    let first = first_styled(compiled, count.next, count.value);
+    let parts = Parts {
+        above: width,
+        own: 0,
+        width,
+    };
+    pass_blocks(compiled, state, parts, first, count.value, None);
 }

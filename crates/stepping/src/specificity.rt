@@ -1,89 +1,75 @@
 // How specific a selector in compiled bytes is: what each of its components adds.
 ghost use Rattle.std.specs.Prelude.{◌≡◌, List, ℕ};
 ghost use Rattle.matching.specs.Specificity.{added};
-ghost use Rattle.compiled.specs.Component.{named_of};
+ghost use Rattle.compiled.specs.Component.{named_of, component_in};
 ghost use Rattle.stepping.specs.Reading.{weight_at, weights_at};
 
 use cascade::specificity::Specificity;
-use combinators::bytes::wide;
-use compiled::components::{ComponentAnswer, MARK_SIZE, read_component, short_size};
+use compiled::components::{MARK_SIZE, Written, read_component, short_size};
+use compiled::places::{Fault, Read};
 use syntax::rows::{ELEMENT, HASH};
-
-// What components add to the specificity of their selector, with the place behind them. Or the place of the fault.
-#[derive(Clone, Copy)]
-pub enum Weight {
-    Added(usize, Specificity),
-    Fault(usize),
-}
 
 // What a component of one text adds, by its kind.
 fn name_weight(kind: u32) -> Specificity
     ensures { (x : List ℕ) → result ≡ added (named_of kind x) }
 {
-    if kind == ELEMENT {
-        return Specificity::new(0, 0, 1);
+    match kind {
+        ELEMENT => Specificity::new(0, 0, 1),
+        HASH => Specificity::new(1, 0, 0),
+        _ => Specificity::new(0, 1, 0),
     }
-    if kind == HASH {
-        return Specificity::new(1, 0, 0);
+}
+
+// What a component adds, by what its bytes say.
+fn written_weight(written: Written) -> Specificity
+    ensures { (code : List ℕ) → result ≡ added (component_in code written) }
+{
+    match written {
+        Written::Mark(_) => Specificity::NONE,
+        Written::Name(kind, _) => name_weight(kind),
+        Written::Numbers(_, _) => Specificity::new(0, 1, 0),
+        Written::Names(_, _) => Specificity::new(0, 1, 0),
     }
-    Specificity::new(0, 1, 0)
 }
 
 // What the component at `at` adds, of whatever length.
-fn read_long_weight(compiled: &[u8], at: usize) -> Weight
+fn read_long_weight(compiled: &[u8], at: usize) -> Result<Read<Specificity>, Fault>
     ensures { result ≡ weight_at compiled.now at }
 {
-    match read_component(compiled, at) {
-        ComponentAnswer::Mark(next, _) => {
-            return Weight::Added(next, Specificity::NONE);
-        }
-        ComponentAnswer::Name { next, kind, .. } => {
-            return Weight::Added(next, name_weight(kind));
-        }
-        ComponentAnswer::Numbers { next, .. } => {
-            return Weight::Added(next, Specificity::new(0, 1, 0));
-        }
-        ComponentAnswer::Names { next, .. } => {
-            return Weight::Added(next, Specificity::new(0, 1, 0));
-        }
-        ComponentAnswer::Fault(fault) => {
-            return Weight::Fault(fault);
-        }
-    }
+    let component = read_component(compiled, at)?;
+    Ok(Read {
+        next: component.next,
+        value: written_weight(component.value),
+    })
 }
 
 // What the component at `at` adds. Of a short one, as most are, the size and the first byte tell it.
-fn read_weight(compiled: &[u8], at: usize) -> Weight
+fn read_weight(compiled: &[u8], at: usize) -> Result<Read<Specificity>, Fault>
     ensures { result ≡ weight_at compiled.now at }
 {
-    let size = short_size(compiled, at);
-    if size == MARK_SIZE {
-        return Weight::Added(at + size, Specificity::NONE);
+    match short_size(compiled, at) {
+        Some(MARK_SIZE) => Ok(Read {
+            next: at + MARK_SIZE,
+            value: Specificity::NONE,
+        }),
+        Some(size) => Ok(Read {
+            next: at + size,
+            value: name_weight(u32::from(compiled[at])),
+        }),
+        None => read_long_weight(compiled, at),
     }
-    if size > MARK_SIZE {
-        return Weight::Added(at + size, name_weight(wide(compiled[at])));
-    }
-    read_long_weight(compiled, at)
 }
 
 // How specific the selector of `count` components from `at` on is, with the place behind them.
-pub fn read_weights(compiled: &[u8], at: usize, count: u32) -> Weight
+pub fn read_weights(compiled: &[u8], at: usize, count: u32) -> Result<Read<Specificity>, Fault>
     ensures { result ≡ weights_at compiled.now count at }
 {
-    let mut result = Specificity::NONE;
-    let mut i = at;
-    let mut left = count;
-    while left > 0 {
-        match read_weight(compiled, i) {
-            Weight::Added(next, x) => {
-                result = result.add(x);
-                i = next;
-            }
-            Weight::Fault(fault) => {
-                return Weight::Fault(fault);
-            }
-        }
-        left -= 1;
+    let mut value = Specificity::NONE;
+    let mut next = at;
+    for _ in 0..count {
+        let weight = read_weight(compiled, next)?;
+        value = value.add(weight.value);
+        next = weight.next;
     }
-    Weight::Added(i, result)
+    Ok(Read { next, value })
 }

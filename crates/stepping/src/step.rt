@@ -20,25 +20,21 @@ use cascade::rows::{clear_row, inherit};
 use cascade::slots::Cascade;
 use page::rows::{OTHER, attribute_rows, kind_of, name_of};
 use styles::settings::Settings;
+use sweeps::elements::Handed;
 use sweeps::parts::{pair_at, put_pair};
+use sweeps::sweeping::Parts;
 
 // Where in a part the count of the element children stands.
 const TO_COUNT: usize = 0;
 
 // The document: its part of the state, and no style.
-fn open_document(
-    compiled: &[u8],
-    attributes: &[u32],
-    text: &[u8],
-    out: &mut [u32],
-    state: &mut [u8],
-)
+fn open_document(compiled: &[u8], out: &mut [u32], state: &mut [u8])
     requires { OpenLent compiled.now out.old state.old }
     ensures out_after { out.new ≡ no_style }
     ensures state_after { state.new ≡ (document_step compiled.now state.old []).state }
 {
     let width = compiled.len() + 1;
-    pass_document(compiled, state, attributes, text);
+    pass_document(compiled, state);
     put_pair(state, 0, width, TO_COUNT, 0);
     clear_row(out);
 }
@@ -61,15 +57,22 @@ fn open_element(
 {
     let width = compiled.len() + 1;
     let parent = (depth - 1) * width;
-    let own = parent + width;
+    let parts = Parts {
+        above: parent,
+        own: parent + width,
+        width,
+    };
     let place = pair_at(state, parent) + 1;
     put_pair(state, parent, width, TO_COUNT, place);
     inherit(out, Cascade::Crate);
-    let name = name_of(node, text, 0);
-    pass_element(
-        compiled, state, parent, own, width, name, attributes, text, place, out,
-    );
-    put_pair(state, own, width, TO_COUNT, 0);
+    let element = Handed {
+        name: name_of(node, text, 0),
+        attributes,
+        text,
+        place,
+    };
+    pass_element(compiled, state, parts, element, out);
+    put_pair(state, parts.own, width, TO_COUNT, 0);
 }
 
 // What the attributes of a row say, if document styles are on; the fill behind their contents, whose starts count from `base` on. What `rules`, `tokens` and
@@ -141,7 +144,7 @@ pub fn step(
         return fill;
     }
     if depth == 0 {
-        open_document(compiled, attributes, text, out, state);
+        open_document(compiled, out, state);
         return fill;
     }
     open_element(compiled, node, attributes, text, depth, out, state);

@@ -41,8 +41,8 @@ pub record Adding (attributes : List ℕ) (first count start total at left : ℕ
   pub most : total ≤ room_most
 
 -- before the first attribute all are left
-pub add_begin : (attributes : List ℕ) (first count start : ℕ) → Totals first count start → Adding attributes first count start start first count
-add_begin attributes first count start t = record { same = refl; counted = t.counted; most = t.most }
+pub add_begin : (attributes : List ℕ) (first count start : ℕ) → Totals first count start → (n : ℕ) → n ≡ count → Adding attributes first count start start first n
+add_begin attributes first count start t n e = rw e (record { same = refl; counted = t.counted; most = t.most })
 
 module _ (attributes : List ℕ) (first count start total at left : ℕ) (i : Adding attributes first count start total at left) where
   -- where none is left the total is that of all
@@ -63,18 +63,18 @@ module _ (attributes : List ℕ) (first count start total at left : ℕ) (i : Ad
         (e ∙ ap (λ (k : ℕ). attributes_room attributes k at total) (sym one_left) ∙ i.same, i.most)
 
     -- one attribute more
-    pub add-on : total ≤ room_limit → (n : ℕ) → n ≡ (attribute_at attributes at).value_length → n < number_bound → Adding attributes first count start (total + (n + attribute_more)) (at + 1) (left - 1)
+    pub add-on : total ≤ room_limit → (n : ℕ) → n ≡ (attribute_at attributes at).value_length → n < number_bound → (fewer : ℕ) → fewer ≡ left - 1 → Adding attributes first count start (total + (n + attribute_more)) (at + 1) fewer
     unfolding attributes_room
-    add-on l n en hn =
+    add-on l n en hn fewer q =
         let e : attributes_room attributes (suc (left - 1)) at total ≡ attributes_room attributes (left - 1) (at + 1) (total + ((attribute_at attributes at).value_length + attribute_more)) =
         sym (pick-false _ _ _ _ (le-ltb room_limit total l) refl) in
-        record {
+        rw q (record {
           same =
               ap (λ (k : ℕ). attributes_room attributes (left - 1) (at + 1) (total + (k + attribute_more))) en
               ∙ sym e ∙ ap (λ (k : ℕ). attributes_room attributes k at total) (sym one_left) ∙ i.same;
           counted = omega (arith, i.counted);
           most = omega arith;
-        }
+        })
 
 -- ---- `path_room`: what the rows from here up give is what all rows give
 pub record Climbing (nodes attributes : List ℕ) (row total above : ℕ) : Type 0 where

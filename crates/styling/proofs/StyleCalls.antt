@@ -1,6 +1,8 @@
 -- Returns of the style call: sheets that are read into stores that were cleared, the page and the row that is asked, and the refusals in their order.
 use mathlib.Core.Path.{◌≡◌, refl, ap, sym, ◌∙◌}
 use mathlib.Core.Bool.{Bool, true, false}
+use Rattle.std.proofs.Common.{Option, Some, None, Result, Ok, Err}
+use Rattle.std.specs.Result.{IsErrAnd}
 use mathlib.Core.List.{List, ◌++◌}
 use Prim.Native.Nat.{ℕ, zero, suc, ◌+◌, ◌-◌, ◌^◌, ◌≤◌, ◌<◌}
 use native.Mathlib.Omega.{arith}
@@ -10,7 +12,7 @@ use lib.ListN.{length, drop, replicate}
 use lib.Seq.{sets}
 use Rattle.combinators.specs.Choice.{and, is}
 use Rattle.combinators.specs.LeastLengths.{stores_suffice}
-use Rattle.combinators.specs.Refusal.{no_refusal, refused, refused_in, too_long, short_store, not_utf8, no_element, panic}
+use Rattle.combinators.specs.Refusal.{no_refusal, refused, refused_in, too_long, short_store, not_utf8, too_large, bad_row, bad_text, no_element, panic}
 use Rattle.combinators.specs.Store.{cleared}
 use Rattle.combinators.specs.declared.refusals.Refusal.{Refusal}
 use Rattle.combinators.proofs.Cleared.{length-cleared}
@@ -19,15 +21,16 @@ use Rattle.combinators.proofs.Rules.{pick_true, pick-false, pick-holds, is-yes, 
 use Rattle.syntax.specs.Selector.{RuleSet}
 use Rattle.sheets.specs.SheetAnswer.{sheet_limit, padded}
 use Rattle.origins.specs.Checks.{any_too_long, all_valid, Lent}
-use Rattle.origins.specs.Reading.{Sheets, rules, panicked, sheets_of, sheets_rows, sheets_texts, sheets_answer, SheetsRoom}
+use Rattle.origins.specs.Reading.{Sheets, panicked, sheets_of, sheets_rows, sheets_texts, sheets_answer, SheetsRoom}
 use Rattle.origins.specs.declared.reading.SheetsRules.{SheetsRules}
-use Rattle.origins.specs.declared.reading.SheetsRead.{SheetsRead}
-use Rattle.origins.specs.declared.reading.SheetsRead.TheVariants as all
+use Rattle.origins.specs.declared.reading.SheetPanic.{SheetPanic}
 use Rattle.origins.proofs.ChecksLaws.{none-long}
 use Rattle.origins.proofs.SheetsKnown.{zeros_of, room-cleared, panic-known}
 use Rattle.cascade.specs.declared.slots.Cascade.{Cascade}
 use Rattle.cascade.specs.Row.{style_row_width}
-use Rattle.page.specs.Accepted.{rows_refusal, page_refusal}
+use Rattle.page.specs.Accepted.{first_bad_row, first_bad_text, refused_row, error_refusal, refusal_of, rows_refusal, page_refusal}
+use Rattle.page.specs.declared.check.PageError.{PageError}
+use Rattle.page.specs.declared.check.PageError.TheVariants.{TooLarge, BadRow, BadText}
 use Rattle.page.specs.Path.{Path}
 use Rattle.page.specs.PathOf.{path_of}
 use Rattle.page.specs.Rows.{attribute_rows, number_bound, node_count, node_at, element_kind}
@@ -43,10 +46,43 @@ use Rattle.styles.proofs.Called.{call-row-long}
 use Rattle.styles.proofs.Room.{path-values, path-attributes}
 use Rattle.rule_styles.specs.Held.{sheets_from, SheetsHeld}
 use Rattle.styles.specs.Lent.{SheetTexts, Page}
-use Rattle.styling.specs.StyleAnswer.{call_bytes, is_element, StyleLeft, zeroed, unchanged, answered, styled_left, asked_left, style_of}
+use Rattle.styling.specs.declared.style.StyleError.{StyleError}
+use Rattle.styling.specs.declared.style.StyleError.TheVariants.{TooLong, ShortStore, NotUtf8, BadPage, NoElement, Panic}
+use Rattle.styling.specs.StyleAnswer.{call_bytes, is_element, StyleAnswer, style_refusal, numbers_of, StyleLeft, zeroed, unchanged, answered, styled_left, asked_left, style_of}
 use Rattle.styling.specs.Styling.{FewBytes, ReadRoom, CallLent, AskedLent}
-use Rattle.styling.specs.declared.style.StyleAnswer.{StyleAnswer}
 use Rattle.rule_styles.proofs.SheetsHeldLaws as held
+
+-- ---- answers in numbers
+-- those of an element that was styled
+pub styled-numbers : (texts : ℕ) → numbers_of (Ok texts) ≡ record { refusal = no_refusal; texts = texts }
+unfolding numbers_of
+styled-numbers texts = refl
+
+-- those of a refusal
+pub refused-numbers : (e : StyleError) → numbers_of (Err e) ≡ record { refusal = style_refusal e; texts = 0 }
+unfolding numbers_of
+refused-numbers e = refl
+
+-- what each error that is no page's stands for
+pub told-too-long : style_refusal TooLong ≡ refused too_long
+unfolding style_refusal
+told-too-long = refl
+
+pub told-short-store : style_refusal ShortStore ≡ refused short_store
+unfolding style_refusal
+told-short-store = refl
+
+pub told-not-utf8 : style_refusal NotUtf8 ≡ refused not_utf8
+unfolding style_refusal
+told-not-utf8 = refl
+
+pub told-no-element : style_refusal NoElement ≡ refused no_element
+unfolding style_refusal
+told-no-element = refl
+
+pub told-panic : (p : SheetPanic) → style_refusal (Panic p) ≡ refused_in panic p.text p.place
+unfolding style_refusal
+told-panic p = refl
 
 -- ---- what is left, by its parts
 -- what is left is the same where the answer and each of the five buffers are
@@ -74,19 +110,19 @@ module _ (c : Cascade) (settings : Settings) (p : Path) {agent user author rules
   Left a k t y x b =
       ◌≡◌ {A = StyleLeft} (record { answer = a; row = k; texts = t; rules = y; tokens = x; brackets = b }) (styled_left out₀ texts₀ rules₀ tokens₀ brackets₀ c settings p meant)
 
-  module _ {r : SheetsRead} {y₂ x₂ b₂ t₂ : List ℕ} (er : r ≡ sheets_answer meant) (ey : y₂ ≡ sets y₁ 0 (sheets_rows meant)) (ex : x₂ ≡ x₁) (eb : b₂ ≡ b₁) (et : t₂ ≡ sets t₁ 0 (sheets_texts meant)) where
+  module _ {r : Result SheetsRules SheetPanic} {y₂ x₂ b₂ t₂ : List ℕ} (er : r ≡ sheets_answer meant) (ey : y₂ ≡ sets y₁ 0 (sheets_rows meant)) (ex : x₂ ≡ x₁) (eb : b₂ ≡ b₁) (et : t₂ ≡ sets t₁ 0 (sheets_texts meant)) where
     -- where the crate panics all is zero
-    pub panics : {which byte : ℕ} → r ≡ all.Panic which byte → {a : StyleAnswer} {q : Refusal} → q ≡ refused_in panic which byte → a ≡ record { refusal = q; texts = 0 } → Left a o₁ t₂ y₂ x₂ b₂
+    pub panics : {at : SheetPanic} → r ≡ Err at → {a : StyleAnswer} {q : Refusal} → q ≡ refused_in panic at.text at.place → a ≡ record { refusal = q; texts = 0 } → Left a o₁ t₂ y₂ x₂ b₂
     unfolding styled_left zeroed sheets_rows sheets_texts
-    panics {which} {byte} g {a} {q} eq ea =
-        let k : meant ≡ panicked which byte = panic-known meant which byte (sym g ∙ er) in
+    panics {at} g {a} {q} eq ea =
+        let k : meant ≡ panicked at.text at.place = panic-known meant at (sym g ∙ er) in
         let ey' : y₂ ≡ y₁ = ey ∙ ap (λ (s : Sheets). sets y₁ 0 (sheets_rows s)) k in
         let et' : t₂ ≡ t₁ = et ∙ ap (λ (s : Sheets). sets t₁ 0 (sheets_texts s)) k in
         left_by (ea ∙ ap (λ (z : Refusal). record { refusal = z; texts = 0 }) eq) (co ∙ zeros_of out₀ out₀ refl) (et' ∙ ct ∙ zeros_of texts₀ texts₀ refl) (ey' ∙ cy ∙ zeros_of rules₀ rules₀ refl)
         (ex ∙ cx ∙ zeros_of tokens₀ tokens₀ refl) (eb ∙ cb ∙ zeros_of brackets₀ brackets₀ refl)
         ∙ ap (styled_left out₀ texts₀ rules₀ tokens₀ brackets₀ c settings p) (sym k)
 
-    module _ {s : SheetsRules} (g : r ≡ all.Rules s) where
+    module _ {s : SheetsRules} (g : r ≡ Ok s) where
       -- else the sheets lie in the stores
       lies : SheetsHeld s y₂ x₂ t₂
       lies =
@@ -164,6 +200,24 @@ module _ (c : Cascade) (settings : Settings) (p : Path) {agent user author rules
           (ey₃ ∙ ap (λ (i : ℕ). replicate i 0) long-y) (ex₃ ∙ ap (λ (i : ℕ). replicate i 0) long-x) (eb₃ ∙ ap (λ (i : ℕ). replicate i 0) long-b)
           ∙ ap (styled_left out₀ texts₀ rules₀ tokens₀ brackets₀ c settings p) (sym (held.m lies).is)
 
+-- ---- a page that is checked
+-- one that is accepted is not refused
+pub page-passed : {r : Result Unit PageError} {p : Refusal} → r ≡ Ok tt → refusal_of r ≡ p → no_refusal ≡ p
+unfolding refusal_of
+page-passed e f = ap refusal_of (sym e) ∙ f
+
+-- one that is not is refused by the error
+pub page-failed : {r : Result Unit PageError} {e : PageError} {q p : Refusal} → r ≡ Err e → q ≡ error_refusal e → refusal_of r ≡ p → q ≡ p
+unfolding refusal_of
+page-failed e d f = d ∙ ap refusal_of (sym e) ∙ f
+
+-- no error has the number 0
+pub error-loud : {q : Refusal} (e : PageError) → q ≡ error_refusal e → ¬ (q.number ≡ 0)
+unfolding error_refusal
+error-loud TooLarge d n = let m : too_large ≡ 0 = ap (λ (r : Refusal). r.number) (sym d) ∙ n in omega arith
+error-loud (BadRow row) d n = let m : bad_row ≡ 0 = ap (λ (r : Refusal). r.number) (sym d) ∙ n in omega arith
+error-loud (BadText row) d n = let m : bad_text ≡ 0 = ap (λ (r : Refusal). r.number) (sym d) ∙ n in omega arith
+
 -- ---- a page: a refusal whose number is 0 is none
 unfoldable pub Quiet : Refusal → Type 0
 Quiet r = r.number ≡ 0 → r ≡ no_refusal
@@ -173,12 +227,19 @@ loud : (n place : ℕ) → Quiet (record { number = suc n; text = 0; place = pla
 unfolding Quiet
 loud n place e = absurd (omega (arith, e))
 
+-- a refusal of a row has none either, and where there is no row, what comes behind decides
+row-quiet : (n : ℕ) (o : Option ℕ) (r : Refusal) → 0 < n → Quiet r → Quiet (refused_row n o r)
+unfolding refused_row Quiet
+row-quiet n (Some row) r h q = λ (e : n ≡ 0). absurd (omega arith)
+row-quiet n None r h q = q
+
 -- a page that is refused with the number 0 is not refused
 pub quiet : (nodes attributes text : List ℕ) → Quiet (page_refusal nodes attributes text)
 unfolding page_refusal rows_refusal Quiet
 quiet nodes attributes text =
     pick-holds Quiet _ _ _
-    (λ _. pick-holds Quiet _ _ _ (λ _. loud _ _) (λ _. pick-holds Quiet _ _ _ (λ _. loud _ _) (λ _. pick-holds Quiet _ _ _ (λ _. loud _ _) (λ _ e. refl))))
+    (λ _. pick-holds Quiet _ _ _ (λ _. loud _ _)
+    (λ _. row-quiet bad_row (first_bad_row nodes attributes) _ (omega arith) (row-quiet bad_text (first_bad_text nodes attributes text) _ (omega arith) (λ e. refl))))
     (λ _. loud _ _)
 
 module _ (c : Cascade) (settings : Settings) (s : SheetTexts) (g : Page) (row : ℕ) (out texts rules₀ tokens brackets : List ℕ) (l : AskedLent s g out rules₀ tokens brackets texts)
@@ -277,6 +338,19 @@ module _ (c : Cascade) (settings : Settings) (s : SheetTexts) (g : Page) (row : 
         pub asked : {z : StyleLeft} → z ≡ styled_left out texts rules₀ tokens brackets c settings path (sheets_of s.agent s.user s.author) → Asked z
         unfolding asked_left
         asked e = pick_true _ _ _ _ (is-yes _ _ no_number) (pick_true _ _ _ _ (sym et ∙ f) e)
+
+-- the return where the page is refused: the error becomes the refusal
+module _ (c : Cascade) (settings : Settings) (s : SheetTexts) (g : Page) (row : ℕ) (out texts rules₀ tokens brackets : List ℕ) (l : AskedLent s g out rules₀ tokens brackets texts)
+    {r : Result Unit PageError} {e : PageError} (was : r ≡ Err e) (er : refusal_of r ≡ page_refusal g.nodes g.attributes g.text) where
+  -- the error of the page is that of the call
+  told-page : (q : StyleError) → q ≡ BadPage e → style_refusal q ≡ error_refusal e
+  unfolding style_refusal
+  told-page q h = ap style_refusal h
+
+  pub page-answered : (o : Result ℕ StyleError) → IsErrAnd o (λ q. q ≡ BadPage e)
+      → record { answer = numbers_of o; row = out; texts = texts; rules = rules₀; tokens = tokens; brackets = brackets } ≡ asked_left out texts rules₀ tokens brackets c settings g row (sheets_of s.agent s.user s.author)
+  page-answered (Err q) h = page-refused c settings s g row out texts rules₀ tokens brackets l (page-failed was (told-page q h) er) (error-loud e (told-page q h)) (refused-numbers q)
+  page-answered (Ok n) h = absurd h
 
 -- ---- the call, in the order of the refusals
 module _ (c : Cascade) (settings : Settings) (s : SheetTexts) (g : Page) (row : ℕ) (out texts rules₀ tokens brackets : List ℕ) where

@@ -2,10 +2,10 @@
 use mathlib.Core.Path.{◌≡◌, refl, ap, sym, ◌∙◌}
 use mathlib.Core.Bool.{Bool, true, false}
 use mathlib.Core.List.{List, ◌++◌, append_assoc}
-use Prim.Native.Nat.{ℕ, ◌+◌, ◌-◌, ◌≤◌, ◌<◌}
+use Prim.Native.Nat.{ℕ, ◌+◌, ◌-◌, ◌^◌, ◌≤◌, ◌<◌}
 use native.Mathlib.Omega.{arith}
 use borrow.Author.Tests.{lt-ltb, le-ltb, le-leb, lt-leb}
-use lib.Dec.{leb, eqb}
+use lib.Dec.{leb, ltb, eqb}
 use lib.ListN.{length, take, drop, replicate, length-append, length-drop}
 use lib.Seq.{sets, sets-eq, length-sets, take_at, drop_at, take-add, length-take-le}
 use Rattle.combinators.specs.Choice.{and, is}
@@ -47,7 +47,7 @@ module _ (nodes : List ℕ) (row n : ℕ) (en : n ≡ node_count nodes) where
   element-there h k e = rw (← en, lt-ltb row n h, ← e) refl
 
   -- a row behind the last of the page is no element
-  pub element-beyond : n ≤ row → false ≡ is_element nodes row
+  pub element-beyond : n ≤ row → ltb row n ≡ is_element nodes row
   unfolding is_element and
   element-beyond h = rw (← en, le-ltb row n h) refl
 
@@ -65,7 +65,7 @@ suffices-not n rules tokens brackets texts h = rw (lt-leb (bracket_least n) brac
 
 module _ (n out rules tokens brackets texts : ℕ) where
   -- a row that is too short does not suffice, whatever the stores are
-  pub short_row : out < style_row_width → false ≡ and (leb style_row_width out) (stores_suffice n rules tokens brackets texts)
+  pub short_row : out < style_row_width → leb style_row_width out ≡ and (leb style_row_width out) (stores_suffice n rules tokens brackets texts)
   unfolding and
   short_row h = rw (lt-leb style_row_width out h) refl
 
@@ -74,9 +74,17 @@ module _ (n out rules tokens brackets texts : ℕ) where
   short-brackets h = rw (suffices-not n rules tokens brackets texts h) (sym (and-false (leb style_row_width out)))
 
   -- where the row is long enough, the stores decide
-  pub by-stores : style_row_width ≤ out → (r : Bool) → r ≡ stores_suffice n rules tokens brackets texts → r ≡ and (leb style_row_width out) (stores_suffice n rules tokens brackets texts)
+  by-stores : style_row_width ≤ out → (r : Bool) → r ≡ stores_suffice n rules tokens brackets texts → r ≡ and (leb style_row_width out) (stores_suffice n rules tokens brackets texts)
   unfolding and
   by-stores h r e = rw (le-leb style_row_width out h) e
+
+  -- by the count of the bytes
+  pub by-count : style_row_width ≤ out → (m : ℕ) → m ≡ n → (r : Bool) → r ≡ stores_suffice m rules tokens brackets texts → r ≡ and (leb style_row_width out) (stores_suffice n rules tokens brackets texts)
+  by-count h m e r f = by-stores h r (f ∙ ap (λ (k : ℕ). stores_suffice k rules tokens brackets texts) e)
+
+  -- more bytes than can be counted are more than the brackets
+  pub uncounted : ¬ (n < 2 ^ 64) → brackets < 2 ^ 64 → false ≡ and (leb style_row_width out) (stores_suffice n rules tokens brackets texts)
+  uncounted h b = short-brackets (omega (arith, h))
 
 -- ---- contents moved down, and zeros behind them
 -- the contents, moved down to the start and cleared behind, are the contents and zeros

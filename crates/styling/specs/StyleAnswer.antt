@@ -1,5 +1,5 @@
 -- What a style call answers and leaves: the refusals of document 01 in the order in which they are looked for, or the style row of the asked element.
-use Rattle.std.specs.Prelude.{ℕ, ◌+◌, ◌*◌, Bool, List, leb, ltb, length, replicate}
+use Rattle.std.specs.Prelude.{ℕ, ◌+◌, ◌*◌, Bool, Result, Ok, Err, List, leb, ltb, length, replicate}
 use Rattle.combinators.specs.Choice.{pick, and, is}
 use Rattle.combinators.specs.LeastLengths.{stores_suffice}
 use Rattle.combinators.specs.Refusal.{no_refusal, refused, refused_in, too_long, short_store, not_utf8, no_element, panic}
@@ -9,15 +9,16 @@ use Rattle.origins.specs.Checks.{any_too_long, all_valid}
 use Rattle.origins.specs.Reading.{Sheets, rules, panicked, sheets_of}
 use Rattle.cascade.specs.declared.slots.Cascade.{Cascade}
 use Rattle.cascade.specs.Row.{style_row_width}
-use Rattle.page.specs.Accepted.{page_refusal}
+use Rattle.page.specs.Accepted.{error_refusal, page_refusal}
 use Rattle.page.specs.Path.{Path}
 use Rattle.page.specs.PathOf.{path_of}
 use Rattle.page.specs.Rows.{node_count, node_at, element_kind, attribute_rows}
+use Rattle.styling.specs.declared.style.StyleError.{StyleError}
+use Rattle.styling.specs.declared.style.StyleError.TheVariants.{TooLong, ShortStore, NotUtf8, BadPage, NoElement, Panic}
 use Rattle.styles.specs.declared.settings.Settings.{Settings}
 use Rattle.styles.specs.Lent.{SheetTexts, Page}
 use Rattle.styles.specs.Said.{Rules}
 use Rattle.styles.specs.StyleCall.{call_row, call_store}
-use Rattle.styling.specs.declared.style.StyleAnswer.{StyleAnswer}
 
 -- "a style call takes that [name bytes plus twice the attributes] plus the bytes of its three sheets", as lent
 unfoldable pub call_bytes : SheetTexts → Page → ℕ
@@ -26,6 +27,24 @@ call_bytes s g = length s.agent + length s.user + length s.author + 2 * attribut
 -- "8 the asked row is no element or beyond the page", since "Styles are given for elements only."
 unfoldable pub is_element : List ℕ → ℕ → Bool
 is_element nodes row = and (ltb row (node_count nodes)) (is (node_at nodes row).kind element_kind)
+
+-- ---- an answer in numbers: the refusal; of an element that was styled the bytes of its texts. What does not apply is 0.
+pub record StyleAnswer : Type 0 where
+  pub refusal : Refusal
+  pub texts : ℕ
+
+-- why a call is refused, in numbers
+unfoldable pub style_refusal : StyleError → Refusal
+style_refusal TooLong = refused too_long
+style_refusal ShortStore = refused short_store
+style_refusal NotUtf8 = refused not_utf8
+style_refusal (BadPage e) = error_refusal e
+style_refusal NoElement = refused no_element
+style_refusal (Panic p) = refused_in panic p.text p.place
+
+unfoldable pub numbers_of : Result ℕ StyleError → StyleAnswer
+numbers_of (Ok texts) = record { refusal = no_refusal; texts = texts }
+numbers_of (Err e) = record { refusal = style_refusal e; texts = 0 }
 
 -- ---- what is left of the call: its answer and the five buffers
 pub record StyleLeft : Type 0 where

@@ -22,15 +22,11 @@ fn attributes_room(attributes: &[u32], first: usize, count: usize, start: usize)
     ensures upper_bound { result ≤ room_most }
 {
     let mut total = start;
-    let mut at = first;
-    let mut left = count;
-    while left > 0 {
+    for at in first..first + count {
         if total > ROOM_LIMIT {
             return total;
         }
         total += value_length(attributes, at) + ATTRIBUTE_MORE;
-        at += 1;
-        left -= 1;
     }
     total
 }
@@ -42,6 +38,7 @@ pub fn path_room(nodes: &[u32], attributes: &[u32], row: usize) -> usize
 {
     let mut total = 0;
     let mut above = row;
+    // The way up is by parents, which are no range.
     loop {
         let first = first_attribute(nodes, above);
         let count = attribute_count(nodes, above);

@@ -4,19 +4,18 @@ ghost use Rattle.std.specs.Prelude.{◌≡◌, ◌++◌, ◌+◌, ◌*◌, ◌/�
 ghost use Rattle.combinators.specs.Choice.{and};
 ghost use Rattle.combinators.specs.LeastLengths.{stores_suffice};
 ghost use Rattle.combinators.specs.Part.{part};
-ghost use Rattle.combinators.specs.Refusal.{no_refusal};
 ghost use Rattle.combinators.specs.Store.{cleared};
 ghost use Rattle.sheets.specs.SheetAnswer.{padded};
 ghost use Rattle.origins.specs.Checks.{Lent};
 ghost use Rattle.origins.specs.Reading.{sheets_of};
 ghost use Rattle.cascade.specs.declared.slots.Cascade.TheVariants.{Crate, Book};
 ghost use Rattle.cascade.specs.Row.{style_row_width};
-ghost use Rattle.page.specs.PathOf.{path_of};
 ghost use Rattle.page.specs.Rows.{attribute_width, number_bound};
 ghost use Rattle.matching.specs.Rows.{Rooted};
+ghost use Rattle.styles.specs.Lent.{sheets_in, page_in, path_in};
 ghost use Rattle.styles.specs.StyleCall.{call_row, call_store};
 ghost use Rattle.rule_styles.specs.Held.{sheets_from, SheetsHeld};
-ghost use Rattle.styling.specs.StyleAnswer.{is_element, styled_left, asked_left, style_of};
+ghost use Rattle.styling.specs.StyleAnswer.{is_element, numbers_of, styled_left, asked_left, style_of, style_refusal};
 ghost use Rattle.styling.specs.Fronts.{FrontLent};
 ghost use Rattle.styling.specs.Styling.{FewBytes, ContentsIn, ReadRoom, CallLent, AskedLent};
 
@@ -25,54 +24,67 @@ use cascade::rows::STYLE_ROW_WIDTH;
 use cascade::slots::Cascade;
 use combinators::least::{NUMBER_MORE, NUMBER_WIDTH, TEXT_MORE, TEXT_WIDTH, stores_suffice};
 use combinators::refusals::{
-    NO_ELEMENT, NO_REFUSAL, NOT_UTF8, PANIC, Refusal, SHORT_STORE, TOO_LONG, no_refusal, refused,
-    refused_in,
+    NO_ELEMENT, NOT_UTF8, PANIC, Refusal, SHORT_STORE, TOO_LONG, refused, refused_in,
 };
 use combinators::stores::{clear_bytes, clear_numbers};
 use declarations::texts::move_down;
 use origins::checks::{all_valid, any_too_long};
-use origins::reading::{SheetsRead, SheetsRules, read_sheets};
-use page::check::{check_page, refusal_of};
+use origins::reading::{SheetPanic, SheetsRules, read_sheets};
+use page::check::{PageError, check_page};
 use page::rows::{ATTRIBUTE_WIDTH, ELEMENT, kind_of, node_count};
 use path_styles::path::style_path;
 use path_styles::tops::find_tops;
 use rule_styles::styled::style_sheets;
 use sheets::sheet::clear_stores;
+use styles::lent::{Page, SheetTexts};
 use styles::settings::Settings;
 
-// The refusal; of an element that was styled the bytes of its texts. What does not apply is 0.
-#[derive(Clone, Copy)]
-pub struct StyleAnswer {
-    pub refusal: Refusal,
-    pub texts: usize,
+// Why an element is not styled: for its sheets, the stores, the page or the row that is asked; of a panic the sheet and the byte where the crate panics.
+#[derive(Clone, Copy, Debug, PartialEq, Eq)]
+pub enum StyleError {
+    TooLong,
+    ShortStore,
+    NotUtf8,
+    BadPage(PageError),
+    NoElement,
+    Panic(SheetPanic),
 }
 
-fn refused_style(refusal: Refusal) -> StyleAnswer
-    ensures { result ≡ record { refusal = refusal; texts = 0 } }
-{
-    StyleAnswer { refusal, texts: 0 }
+impl From<PageError> for StyleError {
+    ghost use Rattle.styling.specs.declared.style.StyleError.{StyleError};
+
+    ghost from_gives = { λ page error. error ≡ StyleError.BadPage page };
+
+    fn from(page: PageError) -> StyleError {
+        StyleError::BadPage(page)
+    }
 }
 
-// An element that was styled, with so many bytes of texts.
-fn styled_answer(texts: usize) -> StyleAnswer
-    ensures { result ≡ record { refusal = no_refusal; texts = texts } }
-{
-    let refusal = no_refusal();
-    StyleAnswer { refusal, texts }
+impl From<StyleError> for Refusal {
+    ghost from_gives = { λ error refusal. refusal ≡ style_refusal error };
+
+    #[tactic(auto, unfolding(crate::specs::StyleAnswer::style_refusal))]
+    fn from(error: StyleError) -> Refusal {
+        match error {
+            StyleError::TooLong => refused(TOO_LONG),
+            StyleError::ShortStore => refused(SHORT_STORE),
+            StyleError::NotUtf8 => refused(NOT_UTF8),
+            StyleError::BadPage(page) => Refusal::from(page),
+            StyleError::NoElement => refused(NO_ELEMENT),
+            StyleError::Panic(panic) => refused_in(PANIC, panic.text, panic.place),
+        }
+    }
 }
 
 // Whether a row is an element of the page.
-fn is_element(nodes: &[u32], row: usize) -> bool
+pub fn is_element(nodes: &[u32], row: usize) -> bool
     ensures { result ≡ is_element nodes.now row }
 {
-    if row < node_count(nodes) {
-        return kind_of(nodes, row) == ELEMENT;
-    }
-    false
+    row < node_count(nodes) && kind_of(nodes, row) == ELEMENT
 }
 
 // Whether what is lent suffices for sheets of so many bytes together, for so many numbers of attributes and for a text of so many bytes. The last
-// two may be of any length, so the brackets, which need a byte for each of all these, are asked before they are added up.
+// two may be of any length; where they cannot be added up, no brackets suffice, which need a byte for each.
 fn lent_suffices(
     sheets: usize,
     attributes: usize,
@@ -86,17 +98,11 @@ fn lent_suffices(
     requires { FewBytes sheets }
     ensures { result ≡ and (leb style_row_width out) (stores_suffice (sheets + 2 * (attributes / attribute_width) + text) rules tokens brackets texts) }
 {
-    if out < STYLE_ROW_WIDTH {
-        return false;
-    }
     let beside = sheets + 2 * (attributes / ATTRIBUTE_WIDTH);
-    if brackets < text {
+    let Some(bytes) = beside.checked_add(text) else {
         return false;
-    }
-    if brackets - text < beside {
-        return false;
-    }
-    stores_suffice(beside + text, rules, tokens, brackets, texts)
+    };
+    out >= STYLE_ROW_WIDTH && stores_suffice(bytes, rules, tokens, brackets, texts)
 }
 
 // Moves the contents down over the texts of the rules; zeros behind them.
@@ -142,9 +148,7 @@ fn style_read(
     cascade: Cascade,
     settings: Settings,
     sheets: SheetsRules,
-    nodes: &[u32],
-    attributes: &[u32],
-    text: &[u8],
+    page: Page<'_>,
     row: usize,
     out: &mut [u32],
     texts: &mut [u8],
@@ -152,25 +156,23 @@ fn style_read(
     tokens: &mut [u32],
     brackets: &mut [u8],
 ) -> usize
-    requires rooted { Rooted nodes.now row }
+    requires rooted { Rooted page.nodes.now row }
     requires row_lt_number_bound { row < number_bound }
-    requires read_room { ReadRoom sheets (path_of nodes.now attributes.now text.now row) out.old rules.old tokens.old brackets.old texts.old }
-    ensures out_after { out.new ≡ call_row cascade (sheets_from rules.old texts.old sheets) settings (path_of nodes.now attributes.now text.now row) ++ drop style_row_width out.old }
-    ensures value { result ≡ length (call_store (sheets_from rules.old texts.old sheets) settings (path_of nodes.now attributes.now text.now row)) }
-    ensures texts_after { texts.new ≡ padded (call_store (sheets_from rules.old texts.old sheets) settings (path_of nodes.now attributes.now text.now row)) (length texts.old) }
+    requires read_room { ReadRoom sheets (path_in page row) out.old rules.old tokens.old brackets.old texts.old }
+    ensures out_after { out.new ≡ call_row cascade (sheets_from rules.old texts.old sheets) settings (path_in page.entry row) ++ drop style_row_width out.old }
+    ensures value { result ≡ length (call_store (sheets_from rules.old texts.old sheets) settings (path_in page.entry row)) }
+    ensures texts_after { texts.new ≡ padded (call_store (sheets_from rules.old texts.old sheets) settings (path_in page.entry row)) (length texts.old) }
     ensures rules_after { rules.new ≡ replicate (length rules.old) 0 }
     ensures tokens_after { tokens.new ≡ replicate (length tokens.old) 0 }
     ensures brackets_after { brackets.new ≡ replicate (length brackets.old) 0 }
 {
     let styled = style_sheets(rules, sheets, tokens, texts);
-    let ready = find_tops(styled, rules, texts, nodes, attributes, text, row, tokens);
+    let ready = find_tops(styled, rules, texts, page, row, tokens);
     let fill = style_path(
         cascade,
         settings,
         ready,
-        nodes,
-        attributes,
-        text,
+        page,
         row,
         &mut out[..STYLE_ROW_WIDTH],
         rules,
@@ -187,38 +189,36 @@ fn style_read(
 fn style_texts(
     cascade: Cascade,
     settings: Settings,
-    agent: &[u8],
-    user: &[u8],
-    author: &[u8],
-    nodes: &[u32],
-    attributes: &[u32],
-    text: &[u8],
+    sheets: SheetTexts<'_>,
+    page: Page<'_>,
     row: usize,
     out: &mut [u32],
     texts: &mut [u8],
     rules: &mut [u32],
     tokens: &mut [u32],
     brackets: &mut [u8],
-) -> StyleAnswer
-    requires rooted { Rooted nodes.now row }
+) -> Result<usize, StyleError>
+    requires rooted { Rooted page.nodes.now row }
     requires row_lt_number_bound { row < number_bound }
-    requires lent { Lent agent.now user.now author.now rules.old tokens.old brackets.old texts.old }
-    requires call_lent { CallLent (length agent.now + length user.now + length author.now) (path_of nodes.now attributes.now text.now row) out.old rules.old tokens.old brackets.old texts.old }
-    ensures { record { answer = result; row = out.new; texts = texts.new; rules = rules.new; tokens = tokens.new; brackets = brackets.new }
-        ≡ styled_left out.old texts.old rules.old tokens.old brackets.old cascade settings (path_of nodes.now attributes.now text.now row) (sheets_of agent.now user.now author.now) }
+    requires lent { Lent sheets.agent.now sheets.user.now sheets.author.now rules.old tokens.old brackets.old texts.old }
+    requires call_lent { CallLent (length sheets.agent.now + length sheets.user.now + length sheets.author.now) (path_in page row) out.old rules.old tokens.old brackets.old texts.old }
+    ensures { record { answer = numbers_of result; row = out.new; texts = texts.new; rules = rules.new; tokens = tokens.new; brackets = brackets.new }
+        ≡ styled_left out.old texts.old rules.old tokens.old brackets.old cascade settings (path_in page.entry row) (sheets_of sheets.entry.agent.now sheets.entry.user.now sheets.entry.author.now) }
 {
     clear_all(out, texts, rules, tokens, brackets);
-    match read_sheets(agent, user, author, rules, tokens, brackets, texts) {
-        SheetsRead::Panic(which, byte) => {
-            return refused_style(refused_in(PANIC, which, byte));
-        }
-        SheetsRead::Rules(sheets) => {
-            let filled = style_read(
-                cascade, settings, sheets, nodes, attributes, text, row, out, texts, rules, tokens,
-                brackets,
-            );
-            return styled_answer(filled);
-        }
+    match read_sheets(
+        sheets.agent,
+        sheets.user,
+        sheets.author,
+        rules,
+        tokens,
+        brackets,
+        texts,
+    ) {
+        Ok(read) => Ok(style_read(
+            cascade, settings, read, page, row, out, texts, rules, tokens, brackets,
+        )),
+        Err(panic) => Err(StyleError::Panic(panic)),
     }
 }
 
@@ -226,12 +226,8 @@ fn style_texts(
 fn style_front(
     cascade: Cascade,
     settings: Settings,
-    agent: &[u8],
-    user: &[u8],
-    author: &[u8],
-    nodes: &[u32],
-    attributes: &[u32],
-    text: &[u8],
+    sheets: SheetTexts<'_>,
+    page: Page<'_>,
     row: usize,
     out: &mut [u32],
     texts: &mut [u8],
@@ -239,12 +235,12 @@ fn style_front(
     tokens: &mut [u32],
     brackets: &mut [u8],
     room: usize,
-) -> StyleAnswer
-    requires rooted { Rooted nodes.now row }
+) -> Result<usize, StyleError>
+    requires rooted { Rooted page.nodes.now row }
     requires row_lt_number_bound { row < number_bound }
-    requires front_lent { FrontLent agent.now user.now author.now (path_of nodes.now attributes.now text.now row) room out.old rules.old tokens.old brackets.old texts.old }
-    ensures { record { answer = result; row = out.new; texts = texts.new; rules = rules.new; tokens = tokens.new; brackets = brackets.new }
-        ≡ styled_left out.old texts.old rules.old tokens.old brackets.old cascade settings (path_of nodes.now attributes.now text.now row) (sheets_of agent.now user.now author.now) }
+    requires front_lent { FrontLent sheets.agent.now sheets.user.now sheets.author.now (path_in page row) room out.old rules.old tokens.old brackets.old texts.old }
+    ensures { record { answer = numbers_of result; row = out.new; texts = texts.new; rules = rules.new; tokens = tokens.new; brackets = brackets.new }
+        ≡ styled_left out.old texts.old rules.old tokens.old brackets.old cascade settings (path_in page.entry row) (sheets_of sheets.entry.agent.now sheets.entry.user.now sheets.entry.author.now) }
 {
     let bytes = TEXT_WIDTH * room + TEXT_MORE;
     let numbers = NUMBER_WIDTH * room + NUMBER_MORE;
@@ -252,12 +248,8 @@ fn style_front(
     style_texts(
         cascade,
         settings,
-        agent,
-        user,
-        author,
-        nodes,
-        attributes,
-        text,
+        sheets,
+        page,
         row,
         out,
         &mut texts[..bytes],
@@ -272,146 +264,120 @@ fn style_front(
 fn style_in_front(
     cascade: Cascade,
     settings: Settings,
-    agent: &[u8],
-    user: &[u8],
-    author: &[u8],
-    nodes: &[u32],
-    attributes: &[u32],
-    text: &[u8],
+    sheets: SheetTexts<'_>,
+    page: Page<'_>,
     row: usize,
     out: &mut [u32],
     texts: &mut [u8],
     rules: &mut [u32],
     tokens: &mut [u32],
     brackets: &mut [u8],
-) -> StyleAnswer
-    requires rooted { Rooted nodes.now row }
+) -> Result<usize, StyleError>
+    requires rooted { Rooted page.nodes.now row }
     requires row_lt_number_bound { row < number_bound }
-    requires lent { Lent agent.now user.now author.now rules.old tokens.old brackets.old texts.old }
-    requires call_lent { CallLent (length agent.now + length user.now + length author.now) (path_of nodes.now attributes.now text.now row) out.old rules.old tokens.old brackets.old texts.old }
-    ensures { record { answer = result; row = out.new; texts = texts.new; rules = rules.new; tokens = tokens.new; brackets = brackets.new }
-        ≡ styled_left out.old texts.old rules.old tokens.old brackets.old cascade settings (path_of nodes.now attributes.now text.now row) (sheets_of agent.now user.now author.now) }
+    requires lent { Lent sheets.agent.now sheets.user.now sheets.author.now rules.old tokens.old brackets.old texts.old }
+    requires call_lent { CallLent (length sheets.agent.now + length sheets.user.now + length sheets.author.now) (path_in page row) out.old rules.old tokens.old brackets.old texts.old }
+    ensures { record { answer = numbers_of result; row = out.new; texts = texts.new; rules = rules.new; tokens = tokens.new; brackets = brackets.new }
+        ≡ styled_left out.old texts.old rules.old tokens.old brackets.old cascade settings (path_in page.entry row) (sheets_of sheets.entry.agent.now sheets.entry.user.now sheets.entry.author.now) }
 {
-    let sheets = agent.len() + user.len() + author.len();
-    let room = sheets + path_room(nodes, attributes, row);
+    let bytes = sheets.agent.len() + sheets.user.len() + sheets.author.len();
+    let room = bytes + path_room(page.nodes, page.attributes, row);
     if stores_suffice(room, rules.len(), tokens.len(), brackets.len(), texts.len()) {
-        return style_front(
-            cascade, settings, agent, user, author, nodes, attributes, text, row, out, texts,
-            rules, tokens, brackets, room,
-        );
+        style_front(
+            cascade, settings, sheets, page, row, out, texts, rules, tokens, brackets, room,
+        )
+    } else {
+        style_texts(
+            cascade, settings, sheets, page, row, out, texts, rules, tokens, brackets,
+        )
     }
-    style_texts(
-        cascade, settings, agent, user, author, nodes, attributes, text, row, out, texts, rules,
-        tokens, brackets,
-    )
 }
 
 // Styles an element of a page that is accepted or not, by sheets for which the stores suffice.
 fn style_asked(
     cascade: Cascade,
     settings: Settings,
-    agent: &[u8],
-    user: &[u8],
-    author: &[u8],
-    nodes: &[u32],
-    attributes: &[u32],
-    text: &[u8],
+    sheets: SheetTexts<'_>,
+    page: Page<'_>,
     row: usize,
     out: &mut [u32],
     texts: &mut [u8],
     rules: &mut [u32],
     tokens: &mut [u32],
     brackets: &mut [u8],
-) -> StyleAnswer
-    requires { AskedLent (record { agent = agent.now; user = user.now; author = author.now }) (record { nodes = nodes.now; attributes = attributes.now; text = text.now }) out.old rules.old tokens.old brackets.old texts.old }
-    ensures { record { answer = result; row = out.new; texts = texts.new; rules = rules.new; tokens = tokens.new; brackets = brackets.new }
-        ≡ asked_left out.old texts.old rules.old tokens.old brackets.old cascade settings (record { nodes = nodes.now; attributes = attributes.now; text = text.now }) row (sheets_of agent.now user.now author.now) }
+) -> Result<usize, StyleError>
+    requires { AskedLent (sheets_in sheets) (page_in page) out.old rules.old tokens.old brackets.old texts.old }
+    ensures { record { answer = numbers_of result; row = out.new; texts = texts.new; rules = rules.new; tokens = tokens.new; brackets = brackets.new }
+        ≡ asked_left out.old texts.old rules.old tokens.old brackets.old cascade settings (page_in page.entry) row (sheets_of sheets.entry.agent.now sheets.entry.user.now sheets.entry.author.now) }
 {
-    let refusal = refusal_of(check_page(nodes, attributes, text));
-    if refusal.number == NO_REFUSAL {
-        if is_element(nodes, row) {
-            return style_in_front(
-                cascade, settings, agent, user, author, nodes, attributes, text, row, out, texts,
-                rules, tokens, brackets,
-            );
-        }
-        return refused_style(refused(NO_ELEMENT));
+    check_page(page.nodes, page.attributes, page.text)?;
+    if !is_element(page.nodes, row) {
+        return Err(StyleError::NoElement);
     }
-    refused_style(refusal)
+    style_in_front(
+        cascade, settings, sheets, page, row, out, texts, rules, tokens, brackets,
+    )
 }
 
 // The style of an element in either cascade.
 fn style_by(
     cascade: Cascade,
     settings: Settings,
-    agent: &[u8],
-    user: &[u8],
-    author: &[u8],
-    nodes: &[u32],
-    attributes: &[u32],
-    text: &[u8],
+    sheets: SheetTexts<'_>,
+    page: Page<'_>,
     row: usize,
     out: &mut [u32],
     texts: &mut [u8],
     rules: &mut [u32],
     tokens: &mut [u32],
     brackets: &mut [u8],
-) -> StyleAnswer
-    ensures { record { answer = result; row = out.new; texts = texts.new; rules = rules.new; tokens = tokens.new; brackets = brackets.new }
-        ≡ style_of cascade settings (record { agent = agent.now; user = user.now; author = author.now }) (record { nodes = nodes.now; attributes = attributes.now; text = text.now }) row out.old texts.old rules.old tokens.old brackets.old }
+) -> Result<usize, StyleError>
+    ensures { record { answer = numbers_of result; row = out.new; texts = texts.new; rules = rules.new; tokens = tokens.new; brackets = brackets.new }
+        ≡ style_of cascade settings (sheets_in sheets.entry) (page_in page.entry) row out.old texts.old rules.old tokens.old brackets.old }
 {
-    if any_too_long(agent.len(), user.len(), author.len()) {
-        return refused_style(refused(TOO_LONG));
+    if any_too_long(sheets.agent.len(), sheets.user.len(), sheets.author.len()) {
+        return Err(StyleError::TooLong);
     }
-    if lent_suffices(
-        agent.len() + user.len() + author.len(),
-        attributes.len(),
-        text.len(),
+    if !lent_suffices(
+        sheets.agent.len() + sheets.user.len() + sheets.author.len(),
+        page.attributes.len(),
+        page.text.len(),
         out.len(),
         rules.len(),
         tokens.len(),
         brackets.len(),
         texts.len(),
     ) {
-        if all_valid(agent, user, author) {
-            return style_asked(
-                cascade, settings, agent, user, author, nodes, attributes, text, row, out, texts,
-                rules, tokens, brackets,
-            );
-        }
-        return refused_style(refused(NOT_UTF8));
+        return Err(StyleError::ShortStore);
     }
-    refused_style(refused(SHORT_STORE))
+    if !all_valid(sheets.agent, sheets.user, sheets.author) {
+        return Err(StyleError::NotUtf8);
+    }
+    style_asked(
+        cascade, settings, sheets, page, row, out, texts, rules, tokens, brackets,
+    )
 }
 
 // The style of an element in the crate's cascade: its row to `out`, its contents to `texts`; the others are work stores.
 pub fn style(
     settings: Settings,
-    agent: &[u8],
-    user: &[u8],
-    author: &[u8],
-    nodes: &[u32],
-    attributes: &[u32],
-    text: &[u8],
+    sheets: SheetTexts<'_>,
+    page: Page<'_>,
     row: usize,
     out: &mut [u32],
     texts: &mut [u8],
     rules: &mut [u32],
     tokens: &mut [u32],
     brackets: &mut [u8],
-) -> StyleAnswer
-    ensures { record { answer = result; row = out.new; texts = texts.new; rules = rules.new; tokens = tokens.new; brackets = brackets.new }
-        ≡ style_of Crate settings (record { agent = agent.now; user = user.now; author = author.now }) (record { nodes = nodes.now; attributes = attributes.now; text = text.now }) row out.old texts.old rules.old tokens.old brackets.old }
+) -> Result<usize, StyleError>
+    ensures { record { answer = numbers_of result; row = out.new; texts = texts.new; rules = rules.new; tokens = tokens.new; brackets = brackets.new }
+        ≡ style_of Crate settings (sheets_in sheets.entry) (page_in page.entry) row out.old texts.old rules.old tokens.old brackets.old }
 {
     style_by(
         Cascade::Crate,
         settings,
-        agent,
-        user,
-        author,
-        nodes,
-        attributes,
-        text,
+        sheets,
+        page,
         row,
         out,
         texts,
@@ -421,34 +387,26 @@ pub fn style(
     )
 }
 
-// The same in the book order.
+// The same in the book order. Both are entry points of document 01, so neither is told its cascade.
 pub fn style_book(
     settings: Settings,
-    agent: &[u8],
-    user: &[u8],
-    author: &[u8],
-    nodes: &[u32],
-    attributes: &[u32],
-    text: &[u8],
+    sheets: SheetTexts<'_>,
+    page: Page<'_>,
     row: usize,
     out: &mut [u32],
     texts: &mut [u8],
     rules: &mut [u32],
     tokens: &mut [u32],
     brackets: &mut [u8],
-) -> StyleAnswer
-    ensures { record { answer = result; row = out.new; texts = texts.new; rules = rules.new; tokens = tokens.new; brackets = brackets.new }
-        ≡ style_of Book settings (record { agent = agent.now; user = user.now; author = author.now }) (record { nodes = nodes.now; attributes = attributes.now; text = text.now }) row out.old texts.old rules.old tokens.old brackets.old }
+) -> Result<usize, StyleError>
+    ensures { record { answer = numbers_of result; row = out.new; texts = texts.new; rules = rules.new; tokens = tokens.new; brackets = brackets.new }
+        ≡ style_of Book settings (sheets_in sheets.entry) (page_in page.entry) row out.old texts.old rules.old tokens.old brackets.old }
 {
     style_by(
         Cascade::Book,
         settings,
-        agent,
-        user,
-        author,
-        nodes,
-        attributes,
-        text,
+        sheets,
+        page,
         row,
         out,
         texts,

@@ -12,23 +12,21 @@ use Rattle.combinators.specs.Part.{part}
 use Rattle.syntax.specs.Layout.{flag, flag_of}
 use Rattle.page.specs.Path.{Path}
 use Rattle.segments.specs.Sweep.{tests_pass, Ended, compound_at, without_tests, mark_bytes, marked_tests, sweep_at}
-use Rattle.sweeps.specs.Met.{place_limit}
 use Rattle.segments.specs.Parts.{part_set, part_sets, Apart, flags_limit}
 use Rattle.sweeps.specs.Swept.{swept_one, swept_behind, SweepLent}
 use Rattle.sweeps.specs.declared.sweeping.Swept.{Swept}
+use Rattle.sweeps.specs.declared.sweeping.Parts.{Parts}
+use Rattle.sweeps.specs.declared.elements.Handed.{Handed}
+use Rattle.std.proofs.Common.{Option}
+use mir.Val.{bool_byte}
 use Rattle.segments.proofs.PartSetLaws.{length-part-set}
 use Rattle.sweeps.proofs.CodePartLaws.{stored-first, part-above}
 
--- ---- the returns of `flag_byte`
--- what is true has the flag 1
-pub flag-yes : (b : Bool) → b ≡ true → 1 ≡ flag b
+-- a flag as a byte
+pub flag-byte : (b : Bool) → bool_byte b ≡ flag b
 unfolding flag
-flag-yes b e = rw e
-
--- what is false has the flag 0
-pub flag-no : (b : Bool) → b ≡ false → 0 ≡ flag b
-unfolding flag
-flag-no b e = rw e
+flag-byte true = refl
+flag-byte false = refl
 
 -- ---- the returns of `sweep_one`
 module _ (code : List ℕ) (row : Path) (part : List ℕ) (j i b : ℕ) (eb : b ≡ get_or part j 0) where
@@ -63,7 +61,7 @@ sweep-step code row part k j i =
     (compound_at code row (length code) (flag_of (get_or part j 0)) i) (λ p. sweep_at code row part k (j + 1) p)
 
 -- ---- the loop of `sweep_rest`
-pub record Sweeping (code : List ℕ) (row : Path) (state₀ : List ℕ) (above own width at first limit place : ℕ) (state : List ℕ) (to i left : ℕ) : Type 0 where
+pub record Sweeping (code : List ℕ) (row : Path) (state₀ : List ℕ) (above own width at first limit : ℕ) (state : List ℕ) (to i left : ℕ) : Type 0 where
   pub whole : part_sets state own width to (sweep_at code row (part state₀ above width) left (to + 1) i)
       ≡ part_sets state₀ own width at (sweep_at code row (part state₀ above width) limit (at + 1) first)
   pub same : part state above width ≡ part state₀ above width
@@ -71,16 +69,15 @@ pub record Sweeping (code : List ℕ) (row : Path) (state₀ : List ℕ) (above 
   pub room : own + width ≤ length state
   pub apart : Apart above own width
   pub few-flags : to + left < flags_limit
-  pub few : place ≤ place_limit
 
 -- before the first compound the state is as it was lent
-pub sweep-begin : (code : List ℕ) (row : Path) (state : List ℕ) (above own width at first limit place : ℕ) → SweepLent state above own width at limit place
-    → Sweeping code row state above own width at first limit place state at first limit
-sweep-begin code row state above own width at first limit place l =
-    record { whole = refl; same = refl; long = refl; room = l.room; apart = l.apart; few-flags = l.few-flags; few = l.few }
+pub sweep-begin : (code : List ℕ) (row : Path) (state : List ℕ) (parts : Parts) (at first limit : ℕ) (element : Option Handed) → SweepLent state parts at limit element
+    → Sweeping code row state parts.above parts.own parts.width at first limit state at first limit
+sweep-begin code row state parts at first limit element l =
+    record { whole = refl; same = refl; long = refl; room = l.room; apart = l.apart; few-flags = l.few-flags }
 
-module _ (code : List ℕ) (row : Path) (state₀ : List ℕ) (above own width at first limit place : ℕ) (state : List ℕ) (to i left : ℕ)
-    (v : Sweeping code row state₀ above own width at first limit place state to i left) where
+module _ (code : List ℕ) (row : Path) (state₀ : List ℕ) (above own width at first limit : ℕ) (state : List ℕ) (to i left : ℕ)
+    (v : Sweeping code row state₀ above own width at first limit state to i left) where
   -- what is left in the end
   abbrev Left : List ℕ → Type 0
   Left s = s ≡ part_sets state₀ own width at (sweep_at code row (part state₀ above width) limit (at + 1) first)
@@ -114,7 +111,7 @@ module _ (code : List ℕ) (row : Path) (state₀ : List ℕ) (above own width a
         e₂ ∙ ap (part_sets s₁ own width (to + 1)) w ∙ swept
 
     -- behind a compound that is not the leftmost the loop goes on, at its left neighbour
-    pub sweep-more : s.marked ≡ false → Sweeping code row state₀ above own width at first limit place s₁ (to + 1) s.place (left - 1)
+    pub sweep-more : s.marked ≡ false → Sweeping code row state₀ above own width at first limit s₁ (to + 1) s.place (left - 1)
     sweep-more m =
         let w : sweep_at code row (part state₀ above width) (left - 1) (to + 1 + 1) s.place ≡ swept_behind code row (part state₀ above width) (left - 1) (to + 1) s = unfold swept_behind pick in rw m in
         let l : length s₁ ≡ length state = ap length e₁ ∙ length-part-set state own width to b in
@@ -125,5 +122,4 @@ module _ (code : List ℕ) (row : Path) (state₀ : List ℕ) (above own width a
           room = omega (arith, l, v.room);
           apart = v.apart;
           few-flags = omega (arith, v.few-flags);
-          few = v.few;
         }

@@ -1,7 +1,7 @@
 // Bytes and numbers of two bytes in a part of the state. What lies behind the part reads as 0, and is not written.
 ghost use Rattle.std.specs.Prelude.{◌≡◌, ◌∷◌, ◌+◌, ◌≤◌, ◌<◌, length, replicate};
 ghost use Rattle.std.proofs.lemmas.List.Edits.{sets};
-ghost use Rattle.segments.specs.Sweep.{byte_values, pair_at, pair_bytes, with_tests, mark_bytes, marked_tests};
+ghost use Rattle.segments.specs.Sweep.{pair_at, pair_bytes, with_tests, mark_bytes, marked_tests};
 ghost use Rattle.segments.specs.Before.{fresh_bytes};
 ghost use Rattle.segments.specs.Parts.{part_set, part_sets, flags_limit, pair_limit};
 
@@ -15,23 +15,13 @@ pub const WITHOUT_TESTS: u8 = 2;
 
 pub const WITH_TESTS: u8 = 3;
 
-// The byte as a number of a place's width.
-pub fn wide(b: u8) -> usize
-    ensures value { result ≡ b }
-    ensures upper_bound { result < byte_values }
-{
-    b as usize
-}
-
 // The number at `j`, the lower byte first, of two bytes that are there.
 pub fn pair_there(part: &[u8], j: usize) -> usize
     requires { j + 1 < length part.now }
     ensures value { result ≡ pair_at part.now j }
     ensures upper_bound { result < pair_limit }
 {
-    let low = wide(part[j]);
-    let high = wide(part[j + 1]);
-    low + BYTE_VALUES * high
+    usize::from(part[j]) + BYTE_VALUES * usize::from(part[j + 1])
 }
 
 // The number at `j`, the lower byte first. The end is tested once where both bytes are there.
@@ -43,9 +33,7 @@ pub fn pair_at(part: &[u8], j: usize) -> usize
     if j + 1 < part.len() {
         return pair_there(part, j);
     }
-    let low = peek(part, j) as usize;
-    let high = peek(part, j + 1) as usize;
-    low + BYTE_VALUES * high
+    usize::from(peek(part, j)) + BYTE_VALUES * usize::from(peek(part, j + 1))
 }
 
 // How many tests the mark at `j` says.
@@ -128,12 +116,8 @@ fn put_zeros(state: &mut [u8], own: usize, width: usize, at: usize, count: usize
     requires count_bound { at + count < flags_limit }
     ensures { state.new ≡ part_sets state.old own width at (replicate count 0) }
 {
-    let mut j = at;
-    let mut left = count;
-    while left > 0 {
+    for j in at..at + count {
         put_byte(state, own, width, j, 0);
-        j += 1;
-        left -= 1;
     }
 }
 

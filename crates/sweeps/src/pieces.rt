@@ -1,64 +1,48 @@
 // One component in compiled bytes, at one row of a page.
-ghost use Rattle.std.specs.Prelude.{◌≡◌, true, false, ◌∷◌, [], ℕ, ◌≤◌};
-ghost use Rattle.combinators.specs.Choice.{and};
+ghost use Rattle.std.specs.Prelude.{◌≡◌, true, ◌∷◌, [], ◌≤◌};
 ghost use Rattle.syntax.specs.Signed.{signed_of};
 ghost use Rattle.matching.specs.Nth.{nth_matches};
 ghost use Rattle.compiled.specs.Component.{named_of};
 ghost use Rattle.segments.specs.Segments.{tested};
-ghost use Rattle.sweeps.specs.Met.{row_alone, handed_element, place_limit, mark_met, met_at, NamedAt, Nameless};
+ghost use Rattle.sweeps.specs.Met.{handed, row_alone, place_limit, Near, mark_met, met_at, NamedAt, Nameless};
 
-use combinators::bytes::wide;
+use crate::elements::Handed;
 use combinators::texts::{part_of, same_text};
-use compiled::components::{ComponentAnswer, MARK_SIZE, TO_TEXT, read_component, short_size};
+use compiled::components::{MARK_SIZE, TO_TEXT, Written, read_component, short_size};
+use compiled::texts::Span;
 use matching::elements::{attribute_is, has_attribute, has_class, has_id};
 use matching::nth::{nth, signed_of};
 use page::rows::ATTRIBUTE_WIDTH;
 use syntax::rows::{CHILD, CLASS, ELEMENT, HASH, STAR};
 
-// What a component is for a row, each with the place behind it: a test, with whether the tests up to it pass; a child step; a descendant step. Or a fault.
-#[derive(Clone, Copy)]
+// What a component is for a row, each with the place behind it: a test, with whether the tests up to it pass; a child step; a descendant step.
+#[derive(Clone, Copy, PartialEq, Eq)]
 pub enum Met {
     Test(usize, bool),
     Child(usize),
     Descendant(usize),
-    Fault,
 }
 
-// A component of one text: the place behind it, its kind, where its text starts and how long it is. Or that it is none.
-#[derive(Clone, Copy)]
+// A component of one text: the place behind it, its kind, and where its text lies.
+#[derive(Clone, Copy, PartialEq, Eq)]
 pub struct NameAt {
-    pub there: bool,
     pub next: usize,
     pub kind: u32,
-    pub start: usize,
-    pub size: usize,
-}
-
-// Whether both hold.
-fn both(a: bool, b: bool) -> bool
-    ensures { result ≡ and a b }
-{
-    if a {
-        return b;
-    }
-    false
+    pub text: Span,
 }
 
 // Whether an element passes a component of one text, which is told with its kind.
-fn name_passes(kind: u32, asked: &[u8], name: &[u8], attributes: &[u32], text: &[u8]) -> bool
-    ensures { (place : ℕ) → result ≡ tested (handed_element name.now attributes.now text.now place ∷ []) (named_of kind asked.now) }
+fn name_passes(kind: u32, asked: &[u8], element: Handed<'_>) -> bool
+    ensures { result ≡ tested (handed element.entry ∷ []) (named_of kind asked.now) }
 {
-    if kind == ELEMENT {
-        return same_text(name, asked);
-    }
+    let attributes = element.attributes;
     let count = attributes.len() / ATTRIBUTE_WIDTH;
-    if kind == CLASS {
-        return has_class(attributes, text, 0, count, asked);
+    match kind {
+        ELEMENT => same_text(element.name, asked),
+        CLASS => has_class(attributes, element.text, 0, count, asked),
+        HASH => has_id(attributes, element.text, 0, count, asked),
+        _ => has_attribute(attributes, element.text, 0, count, asked),
     }
-    if kind == HASH {
-        return has_id(attributes, text, 0, count, asked);
-    }
-    has_attribute(attributes, text, 0, count, asked)
 }
 
 // Whether an nth-child of two numbers holds of a place.
@@ -75,193 +59,115 @@ fn nth_passes(first: u32, second: u32, place: usize) -> bool
 fn mark_met(next: usize, kind: u32, ok: bool) -> Met
     ensures { result ≡ mark_met next kind ok }
 {
-    if kind == STAR {
-        return Met::Test(next, ok);
+    match kind {
+        STAR => Met::Test(next, ok),
+        CHILD => Met::Child(next),
+        _ => Met::Descendant(next),
     }
-    if kind == CHILD {
-        return Met::Child(next);
-    }
-    Met::Descendant(next)
 }
 
-// The component at `at`, of whatever length, for the document, which passes star alone: a test is only read past.
-fn pass_long(compiled: &[u8], at: usize, ok: bool) -> Met
+// The component at `at`, of whatever length, for the document, which passes star alone: a test is only read past. None where the bytes are at fault.
+fn pass_long(compiled: &[u8], at: usize, ok: bool) -> Option<Met>
     ensures { result ≡ met_at compiled.now [] ok at }
 {
-    match read_component(compiled, at) {
-        ComponentAnswer::Mark(next, kind) => {
-            return mark_met(next, kind, ok);
-        }
-        ComponentAnswer::Name { next, .. } => {
-            return Met::Test(next, false);
-        }
-        ComponentAnswer::Numbers { next, .. } => {
-            return Met::Test(next, false);
-        }
-        ComponentAnswer::Names { next, .. } => {
-            return Met::Test(next, false);
-        }
-        ComponentAnswer::Fault(_) => {
-            return Met::Fault;
-        }
+    let Ok(component) = read_component(compiled, at) else {
+        return None;
+    };
+    match component.value {
+        Written::Mark(kind) => Some(mark_met(component.next, kind, ok)),
+        _ => Some(Met::Test(component.next, false)),
     }
 }
 
 // The same. Of a short component, as most are, the size and the first byte tell it.
-pub fn pass_met(compiled: &[u8], at: usize, ok: bool) -> Met
+pub fn pass_met(compiled: &[u8], at: usize, ok: bool) -> Option<Met>
     ensures { result ≡ met_at compiled.now [] ok at }
 {
-    let size = short_size(compiled, at);
-    if size > MARK_SIZE {
-        return Met::Test(at + size, false);
-    }
-    if size == MARK_SIZE {
-        return mark_met(at + size, wide(compiled[at]), ok);
-    }
-    pass_long(compiled, at, ok)
-}
-
-// No component of one text.
-fn no_name() -> NameAt
-    ensures { result.there ≡ false }
-{
-    NameAt {
-        there: false,
-        next: 0,
-        kind: 0,
-        start: 0,
-        size: 0,
+    match short_size(compiled, at) {
+        Some(MARK_SIZE) => Some(mark_met(at + MARK_SIZE, u32::from(compiled[at]), ok)),
+        Some(size) => Some(Met::Test(at + size, false)),
+        None => pass_long(compiled, at, ok),
     }
 }
 
 // The component at `at`, if it has one text. Of a short one, as most are, the size tells where it lies.
-fn name_at(compiled: &[u8], at: usize) -> NameAt
-    ensures { NamedAt compiled.now at result.there result.next result.kind result.start result.size }
+fn name_at(compiled: &[u8], at: usize) -> Option<NameAt>
+    ensures { NamedAt compiled.now at result }
 {
-    let short = short_size(compiled, at);
-    if short > MARK_SIZE {
-        return NameAt {
-            there: true,
+    if let Some(short) = short_size(compiled, at)
+        && short > MARK_SIZE
+    {
+        return Some(NameAt {
             next: at + short,
-            kind: wide(compiled[at]),
-            start: at + TO_TEXT,
-            size: short - TO_TEXT,
-        };
+            kind: u32::from(compiled[at]),
+            text: Span {
+                start: at + TO_TEXT,
+                size: short - TO_TEXT,
+            },
+        });
     }
-    match read_component(compiled, at) {
-        ComponentAnswer::Name {
-            next,
+    let Ok(component) = read_component(compiled, at) else {
+        return None;
+    };
+    match component.value {
+        Written::Name(kind, text) => Some(NameAt {
+            next: component.next,
             kind,
-            start,
-            size,
-        } => {
-            return NameAt {
-                there: true,
-                next,
-                kind,
-                start,
-                size,
-            };
-        }
-        ComponentAnswer::Mark(_, _) => {
-            return no_name();
-        }
-        ComponentAnswer::Numbers { .. } => {
-            return no_name();
-        }
-        ComponentAnswer::Names { .. } => {
-            return no_name();
-        }
-        ComponentAnswer::Fault(_) => {
-            return no_name();
-        }
+            text,
+        }),
+        _ => None,
     }
 }
 
 // The component at `at`, which has not one text, for an element that has passed so far.
-fn test_other(
-    compiled: &[u8],
-    at: usize,
-    name: &[u8],
-    attributes: &[u32],
-    text: &[u8],
-    place: usize,
-) -> Met
-    requires place_le_place_limit { place ≤ place_limit }
+fn test_other(compiled: &[u8], at: usize, element: Handed<'_>) -> Option<Met>
+    requires place_le_place_limit { element.place ≤ place_limit }
     requires nameless { Nameless compiled.now at }
-    ensures { result ≡ met_at compiled.now (handed_element name.now attributes.now text.now place ∷ []) true at }
+    ensures { result ≡ met_at compiled.now (handed element.entry ∷ []) true at }
 {
-    match read_component(compiled, at) {
-        ComponentAnswer::Mark(next, kind) => {
-            return mark_met(next, kind, true);
+    let Ok(component) = read_component(compiled, at) else {
+        return None;
+    };
+    let next = component.next;
+    match component.value {
+        Written::Mark(kind) => Some(mark_met(next, kind, true)),
+        Written::Name(_, _) => None,
+        Written::Numbers(first, second) => {
+            Some(Met::Test(next, nth_passes(first, second, element.place)))
         }
-        ComponentAnswer::Name { .. } => {
-            return Met::Fault;
-        }
-        ComponentAnswer::Numbers {
-            next,
-            first,
-            second,
-        } => {
-            return Met::Test(next, nth_passes(first, second, place));
-        }
-        ComponentAnswer::Names {
-            next,
-            start,
-            size,
-            second_start,
-            second_size,
-        } => {
-            let word = part_of(compiled, start, size);
-            let value = part_of(compiled, second_start, second_size);
+        Written::Names(first, second) => {
+            let word = part_of(compiled, first.start, first.size);
+            let value = part_of(compiled, second.start, second.size);
+            let attributes = element.attributes;
             let count = attributes.len() / ATTRIBUTE_WIDTH;
-            return Met::Test(next, attribute_is(attributes, text, 0, count, word, value));
-        }
-        ComponentAnswer::Fault(_) => {
-            return Met::Fault;
+            let passes = attribute_is(attributes, element.text, 0, count, word, value);
+            Some(Met::Test(next, passes))
         }
     }
 }
 
 // The component at `at` for an element that has passed so far. Most have one text.
-fn test_met(
-    compiled: &[u8],
-    at: usize,
-    name: &[u8],
-    attributes: &[u32],
-    text: &[u8],
-    place: usize,
-) -> Met
-    requires { place ≤ place_limit }
-    ensures { result ≡ met_at compiled.now (handed_element name.now attributes.now text.now place ∷ []) true at }
+fn test_met(compiled: &[u8], at: usize, element: Handed<'_>) -> Option<Met>
+    requires { element.place ≤ place_limit }
+    ensures { result ≡ met_at compiled.now (handed element.entry ∷ []) true at }
 {
-    let found = name_at(compiled, at);
-    if found.there {
-        let word = part_of(compiled, found.start, found.size);
-        return Met::Test(
-            found.next,
-            name_passes(found.kind, word, name, attributes, text),
-        );
+    match name_at(compiled, at) {
+        Some(found) => {
+            let word = part_of(compiled, found.text.start, found.text.size);
+            let passes = name_passes(found.kind, word, element);
+            Some(Met::Test(found.next, passes))
+        }
+        None => test_other(compiled, at, element),
     }
-    test_other(compiled, at, name, attributes, text, place)
 }
 
-// The component at `at` for a row. Where the tests so far have failed, a test need not be carried out.
-pub fn read_met(
-    compiled: &[u8],
-    at: usize,
-    ok: bool,
-    element: bool,
-    name: &[u8],
-    attributes: &[u32],
-    text: &[u8],
-    place: usize,
-) -> Met
-    requires { place ≤ place_limit }
-    ensures { result ≡ met_at compiled.now (row_alone element (handed_element name.now attributes.now text.now place)) ok at }
+// The component at `at` for an element, or for the document. Where the tests so far have failed, a test need not be carried out.
+pub fn read_met(compiled: &[u8], at: usize, ok: bool, element: Option<Handed<'_>>) -> Option<Met>
+    requires { Near element }
+    ensures { result ≡ met_at compiled.now (row_alone element.entry) ok at }
 {
-    if both(ok, element) {
-        return test_met(compiled, at, name, attributes, text, place);
+    match element {
+        Some(element) if ok => test_met(compiled, at, element),
+        _ => pass_met(compiled, at, ok),
     }
-    pass_met(compiled, at, ok)
 }

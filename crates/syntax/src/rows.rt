@@ -42,10 +42,11 @@ pub const FLAG_FALSE: u32 = 0;
 pub const FLAG_TRUE: u32 = 1;
 
 // The number of a flag.
+#[tactic(auto, unfolding(crate::specs::Layout::flag))]
 pub fn flag_of(b: bool) -> u32
     ensures { result ≡ flag b }
 {
-    if b { FLAG_TRUE } else { FLAG_FALSE }
+    u32::from(b)
 }
 
 // The words of `overflow` and of `white-space`.

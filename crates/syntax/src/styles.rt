@@ -28,19 +28,13 @@ pub struct StyleNumbers {
 pub fn style_at(rows: &[u32], at: usize) -> StyleNumbers
     ensures { result ≡ numbers_at (drop at rows.now) }
 {
-    let number = number_at(rows, at, STYLE_NUMBER);
-    let second = number_at(rows, at, STYLE_SECOND);
-    let start = number_at(rows, at, STYLE_START);
-    let value = Value {
-        number,
-        second,
-        start,
-    };
-    let slot = number_at(rows, at, STYLE_SLOT);
-    let important = number_at(rows, at, STYLE_IMPORTANT) == FLAG_TRUE;
     StyleNumbers {
-        slot,
-        important,
-        value,
+        slot: number_at(rows, at, STYLE_SLOT),
+        important: number_at(rows, at, STYLE_IMPORTANT) == FLAG_TRUE,
+        value: Value {
+            number: number_at(rows, at, STYLE_NUMBER),
+            second: number_at(rows, at, STYLE_SECOND),
+            start: number_at(rows, at, STYLE_START),
+        },
     }
 }

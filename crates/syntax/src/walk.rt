@@ -8,11 +8,5 @@ pub fn forward(rows: &[u32], at: usize, k: usize) -> usize
     ensures rows_value { drop result rows.now ≡ drop (at + k) rows.now }
     ensures upper_bound { result ≤ length rows.now }
 {
-    if at < rows.len() {
-        if k < rows.len() - at {
-            return at + k;
-        }
-        return rows.len();
-    }
-    rows.len()
+    at.saturating_add(k).min(rows.len())
 }

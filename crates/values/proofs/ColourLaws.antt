@@ -1,5 +1,5 @@
 -- Numbers in a base, and colours.
-use Prim.Native.Nat.{ℕ, ◌+◌, ◌-◌, ◌*◌, ◌<◌, ◌≤◌}
+use Prim.Native.Nat.{ℕ, ◌+◌, ◌*◌, ◌<◌, ◌≤◌}
 use mathlib.Core.Path.{◌≡◌, refl, sym, ap, ◌∙◌}
 use mathlib.Core.Bool.{Bool, true, false}
 use mathlib.Core.List.{List, [], ◌∷◌}
@@ -12,8 +12,7 @@ use lib.ListN.{length, get_or, take, drop, drop_of_length-le}
 use lib.Seq.{drop-cons}
 use Rattle.combinators.specs.Ascii.{plus_sign, digit_zero, digit_nine}
 use Rattle.combinators.specs.Choice.{or, and, is}
-use Rattle.combinators.proofs.Lists.{rest, there}
-use Rattle.combinators.proofs.Rules.{never, pick_true, pick-false, pick-holds, is-yes, is-no, is_true, and-gives, and-gives-false, and_left, and_both, and-true, or_left, same_test, within-true, told}
+use Rattle.combinators.proofs.Rules.{never, pick_true, pick-false, pick-holds, is-yes, is-no, and-gives, and-gives-false, and_left, and_both, and-true, or_left, same_test, within-true, told}
 use Rattle.lexer.specs.Name.{is_hex_digit, hex_digit}
 use Rattle.lexer.specs.Number.{is_digit}
 use Rattle.lexer.proofs.Escapes.{digit-le}
@@ -22,50 +21,59 @@ use Rattle.syntax.specs.Layout.{colour_number}
 use Rattle.values.specs.Words.{Found, found, missing, on_found}
 use Rattle.values.specs.Colour.{rgb, all_of, numeral, without_plus, digits_in, parse_u8, parse_hex, three_digits, six_digits, hash_colour, three_numbers}
 use Rattle.values.specs.ColourAnswer.{is_digit_in, number_answer, colour_answer}
-use Rattle.values.specs.declared.colours.ColourAnswer as answer
-use Rattle.values.specs.declared.colours.ColourAnswer.TheVariants.{NoColour}
-use Rattle.values.specs.declared.colours.NumberAnswer.{NumberAnswer}
-use Rattle.values.specs.declared.colours.NumberAnswer.TheVariants.{Number, NoNumber}
+use Rattle.std.specs.Prelude.{Option, Some, None, MatchOption}
+use lib.Pointwise.{pointwise}
+use lib.Dec.{eqb}
+use Rattle.std.specs.Prelude.{unwrap_or, ◌&&◌}
+use Rattle.std.specs.Borrow.{Bor}
+use Rattle.values.proofs.WordLaws.{mapped, on-found-as, lookup-mapped}
+use Rattle.values.specs.Words.{lookup}
+use Rattle.values.specs.Colour.{colours}
 
 -- ---- answers
 
 -- what the code answers, from what was found: no number
-no_number : (f : Found ℕ) → missing ≡ f → NoNumber ≡ number_answer f
+no_number : (f : Found ℕ) → missing ≡ f → None ≡ number_answer f
 unfolding number_answer on_found
 no_number f e = ap number_answer e
 
 -- a number that was found is answered as it is
-a-number : (f : Found ℕ) (v : ℕ) → found v ≡ f → Number v ≡ number_answer f
+a-number : (f : Found ℕ) (v : ℕ) → found v ≡ f → Some v ≡ number_answer f
 unfolding number_answer on_found
 a-number f v e = ap number_answer e
 
 -- where no colour is found the answer says so
-pub no-colour : (f : Found Colour) → missing ≡ f → NoColour ≡ colour_answer f
+pub no-colour : (f : Found Colour) → missing ≡ f → None ≡ colour_answer f
 unfolding colour_answer on_found
 no-colour f e = ap colour_answer e
 
 -- a colour, as one number
-pub a-colour : (f : Found Colour) (c : Colour) (w : ℕ) → w ≡ colour_number c → found c ≡ f → answer.TheVariants.Colour w ≡ colour_answer f
+pub a-colour : (f : Found Colour) (c : Colour) (w : ℕ) → w ≡ colour_number c → found c ≡ f → Some w ≡ colour_answer f
 unfolding colour_answer on_found
 a-colour f c w ew e = rw ew (ap colour_answer e)
 
 -- what was found, from the answer
-module _ (x : NumberAnswer) (f : Found ℕ) (e : x ≡ number_answer f) where
+module _ (x : Option ℕ) (f : Found ℕ) (e : x ≡ number_answer f) where
   -- an answer with a number says that it was found
-  pub number-found : (v : ℕ) → x ≡ Number v → f ≡ found v
+  pub number-found : (v : ℕ) → x ≡ Some v → f ≡ found v
   number-found v h = go f (sym e ∙ h)
     where
-      go : (f : Found ℕ) → number_answer f ≡ Number v → f ≡ found v
+      go : (f : Found ℕ) → number_answer f ≡ Some v → f ≡ found v
       go (found w) k = unfold number_answer on_found in cc
       go missing k = absurd (let z : ◌≡◌ {A = ℕ} 0 1 = unfold number_answer on_found in cc in omega arith)
 
   -- an answer without one says that none was found
-  pub number-missing : x ≡ NoNumber → f ≡ missing
+  pub number-missing : x ≡ None → f ≡ missing
   number-missing h = go f (sym e ∙ h)
     where
-      go : (f : Found ℕ) → number_answer f ≡ NoNumber → f ≡ missing
+      go : (f : Found ℕ) → number_answer f ≡ None → f ≡ missing
       go (found w) k = absurd (let z : ◌≡◌ {A = ℕ} 0 1 = unfold number_answer on_found in cc in omega arith)
       go missing k = refl
+
+-- a name is looked up with the number of its colour
+pub named-told : (s : List ℕ) → on_found (lookup s (mapped colour_number colours)) Some None ≡ colour_answer (lookup s colours)
+unfolding colour_answer
+named-told s = ap (λ f. on_found f Some None) (lookup-mapped colour_number s colours) ∙ on-found-as colour_number (lookup s colours) Some None
 
 -- ---- digits of a base
 
@@ -183,7 +191,7 @@ module _ (p : ℕ → Bool) (base : ℕ) (d : ℕ → ℕ) (most : ℕ) where
         something l e = let q : numeral base d 0 t ≡ v = cc in omega (arith, leb-true (numeral base d 0 t) most l)
 
     -- an empty text is no number
-    pub digits-none : length t ≡ 0 → NoNumber ≡ number_answer (digits_in p base d most t)
+    pub digits-none : length t ≡ 0 → None ≡ number_answer (digits_in p base d most t)
     digits-none e = no_number _ (none_read e)
 
   -- the loop: the digits from i on, behind the number v, say what the whole says
@@ -198,7 +206,7 @@ module _ (p : ℕ → Bool) (base : ℕ) (d : ℕ → ℕ) (most : ℕ) where
 
   module _ (t : List ℕ) (v i : ℕ) (c : Summing t v i) where
     -- behind the last digit the sum is the number
-    pub summing-done : ¬ (length t ≡ 0) → length t ≤ i → Number v ≡ number_answer (digits_in p base d most t)
+    pub summing-done : ¬ (length t ≡ 0) → length t ≤ i → Some v ≡ number_answer (digits_in p base d most t)
     unfolding all_of numeral
     summing-done n h =
         let e = drop_of_length-le t h in
@@ -206,7 +214,7 @@ module _ (p : ℕ → Bool) (base : ℕ) (d : ℕ → ℕ) (most : ℕ) where
 
     module _ (h : i < length t) (r : Bool) (er : r ≡ p (get_or t i 0)) where
       -- a byte that is no digit makes the whole no number
-      pub summing-stop : r ≡ false → NoNumber ≡ number_answer (digits_in p base d most t)
+      pub summing-stop : r ≡ false → None ≡ number_answer (digits_in p base d most t)
       unfolding all_of
       summing-stop e = no_number _ (bad-read t (λ z. omega arith) (c.digits ∙ rw (drop-cons t i 0 h) (and_left _ _ (told _ _ _ er e))))
 
@@ -218,7 +226,7 @@ module _ (p : ℕ → Bool) (base : ℕ) (d : ℕ → ℕ) (most : ℕ) where
         next = c.value ∙ rw (drop-cons t i 0 h, add-one i, ew)
 
         -- the number grew above the bound, which it will not come below again
-        pub summing-over : 0 < base → most < v * base + w → NoNumber ≡ number_answer (digits_in p base d most t)
+        pub summing-over : 0 < base → most < v * base + w → None ≡ number_answer (digits_in p base d most t)
         summing-over b l = no_number _ (over-read t (omega (arith, next, numeral-ge b (v * base + w) (drop (i + 1) t))))
 
         -- it stayed within the bound
@@ -243,30 +251,29 @@ module _ (v base : ℕ) (h : v ≤ 0xffffffff) (l : base ≤ 0xffffffff) where
 
 -- ---- a '+' or none
 module _ (s : List ℕ) (r : Bool) (er : r ≡ is (get_or s 0 0) plus_sign) where
-  -- a '+' that is found stands before the end of the text
-  pub plus-there : r ≡ true → 1 ≤ length s
-  plus-there e = let z = is_true _ _ (told _ _ _ er e) in there s 0 (omega arith)
-
-  -- what is lent behind it is the text without it
-  behind-plus : r ≡ true → take (length s - 1) (drop 1 s) ≡ without_plus s
-  unfolding without_plus
-  behind-plus e = rest s 1 ∙ ap (λ n. drop n s) (pick_true _ _ _ _ (told _ _ _ er e) refl)
-
-  -- a text without one is lent whole
+  -- a text without one is whole
   pub no_plus : r ≡ false → s ≡ without_plus s
   unfolding without_plus
   no_plus e = ap (λ n. drop n s) (pick-false 0 _ _ _ (told _ _ _ er e) refl)
 
-  -- so the number x that was read there is the one that is asked for
-  module _ (p : ℕ → Bool) (base : ℕ) (d : ℕ → ℕ) (most : ℕ) (x : NumberAnswer) where
-    -- behind a `+` the digits are read
-    pub plus-read : r ≡ true → x ≡ number_answer (digits_in p base d most (take (length s - 1) (drop 1 s)))
-        → x ≡ number_answer (digits_in p base d most (without_plus s))
-    plus-read e h = h ∙ ap (λ t. number_answer (digits_in p base d most t)) (behind-plus e)
+-- the code's test of the first byte
+plus-told : (s : List ℕ) → pointwise eqb (take 1 s) (plus_sign ∷ []) ≡ is (get_or s 0 0) plus_sign
+unfolding is
+plus-told [] = refl
+plus-told (x ∷ s) = go (eqb x plus_sign)
+  where
+    go : (b : Bool) → (b && true) ≡ b
+    go true = refl
+    go false = refl
 
-    -- without a `+` the digits are read from the start
-    pub no-plus-read : r ≡ false → x ≡ number_answer (digits_in p base d most s) → x ≡ number_answer (digits_in p base d most (without_plus s))
-    no-plus-read e h = h ∙ ap (λ t. number_answer (digits_in p base d most t)) (no_plus e)
+-- what is left where a '+' is stripped, or the whole
+pub plus-stripped : (s : Bor (List ℕ)) (o : Option (Bor (List ℕ)))
+    → MatchOption o (pointwise eqb (take 1 s.now) (plus_sign ∷ []) ≡ false)
+    (λ x. (pointwise eqb (take 1 s.now) (plus_sign ∷ []) ≡ true) × (x.now ≡ drop 1 s.now) × (length x.now + 1 ≡ length s.now))
+    → (unwrap_or o s).now ≡ without_plus s.now
+unfolding without_plus
+plus-stripped s None h = no_plus s.now _ refl (sym (plus-told s.now) ∙ h)
+plus-stripped s (Some x) h = h.1 ∙ ap (λ n. drop n s.now) (pick_true _ _ _ _ (sym (plus-told s.now) ∙ h.0) refl)
 
 -- ---- `hash_colour`: three or six hexadecimal digits
 module _ (s : List ℕ) where
@@ -294,49 +301,49 @@ module _ (s : List ℕ) where
   other-missing n m = pick-false _ _ _ _ (is-no _ _ n) (pick-false _ _ _ _ (is-no _ _ m) refl)
 
   -- the return where there are neither three nor six digits: no colour
-  pub hash-other : ¬ (length s ≡ 3) → ¬ (length s ≡ 6) → NoColour ≡ colour_answer (hash_colour s)
+  pub hash-other : ¬ (length s ≡ 3) → ¬ (length s ≡ 6) → None ≡ colour_answer (hash_colour s)
   hash-other n m = no-colour _ (other-missing n m)
 
-  module _ (x : NumberAnswer) (ex : x ≡ number_answer (parse_hex 0xffffffff s)) where
+  module _ (x : Option ℕ) (ex : x ≡ number_answer (parse_hex 0xffffffff s)) where
     -- a text that is no hexadecimal number is no colour
-    pub hash-none : x ≡ NoNumber → NoColour ≡ colour_answer (hash_colour s)
+    pub hash-none : x ≡ None → None ≡ colour_answer (hash_colour s)
     hash-none h = no-colour _ (hash-missing (number-missing x _ ex h))
 
-    module _ (v : ℕ) (h : x ≡ Number v) (w : ℕ) where
+    module _ (v : ℕ) (h : x ≡ Some v) (w : ℕ) where
       -- the answer for three digits
-      pub hash-three : length s ≡ 3 → w ≡ colour_number (three_digits v) → answer.TheVariants.Colour w ≡ colour_answer (hash_colour s)
+      pub hash-three : length s ≡ 3 → w ≡ colour_number (three_digits v) → Some w ≡ colour_answer (hash_colour s)
       hash-three l ew = a-colour _ _ w ew (three-found v (number-found x _ ex v h) l)
 
       -- the answer for six digits
-      pub hash-six : length s ≡ 6 → w ≡ colour_number (six_digits v) → answer.TheVariants.Colour w ≡ colour_answer (hash_colour s)
+      pub hash-six : length s ≡ 6 → w ≡ colour_number (six_digits v) → Some w ≡ colour_answer (hash_colour s)
       hash-six l ew = a-colour _ _ w ew (six-found v (number-found x _ ex v h) l)
 
 -- ---- `rgb_colour`
 
 -- a number that is read is a byte
-pub byte_le : (s : List ℕ) (x : NumberAnswer) (v : ℕ) → x ≡ number_answer (parse_u8 s) → x ≡ Number v → v ≤ 255
+pub byte_le : (s : List ℕ) (x : Option ℕ) (v : ℕ) → x ≡ number_answer (parse_u8 s) → x ≡ Some v → v ≤ 255
 unfolding parse_u8
 byte_le s x v e h = read-le is_digit 10 hex_digit 255 (without_plus s) v (number-found x _ e v h)
 
-module _ (r g b : List ℕ) (x : NumberAnswer) (ex : x ≡ number_answer (parse_u8 r)) where
+module _ (r g b : List ℕ) (x : Option ℕ) (ex : x ≡ number_answer (parse_u8 r)) where
   -- the first is no number
-  pub red-none : x ≡ NoNumber → NoColour ≡ colour_answer (three_numbers r g b)
+  pub red-none : x ≡ None → None ≡ colour_answer (three_numbers r g b)
   unfolding colour_answer on_found three_numbers
   red-none h = rw (number-missing x _ ex h)
 
-  module _ (i : ℕ) (hx : x ≡ Number i) (y : NumberAnswer) (ey : y ≡ number_answer (parse_u8 g)) where
+  module _ (i : ℕ) (hx : x ≡ Some i) (y : Option ℕ) (ey : y ≡ number_answer (parse_u8 g)) where
     -- where the second is no byte there is no colour
-    pub green-none : y ≡ NoNumber → NoColour ≡ colour_answer (three_numbers r g b)
+    pub green-none : y ≡ None → None ≡ colour_answer (three_numbers r g b)
     unfolding colour_answer on_found three_numbers
     green-none h = rw (number-found x _ ex i hx, number-missing y _ ey h)
 
-    module _ (j : ℕ) (hy : y ≡ Number j) (z : NumberAnswer) (ez : z ≡ number_answer (parse_u8 b)) where
+    module _ (j : ℕ) (hy : y ≡ Some j) (z : Option ℕ) (ez : z ≡ number_answer (parse_u8 b)) where
       -- where the third is no byte there is no colour
-      pub blue-none : z ≡ NoNumber → NoColour ≡ colour_answer (three_numbers r g b)
+      pub blue-none : z ≡ None → None ≡ colour_answer (three_numbers r g b)
       unfolding colour_answer on_found three_numbers
       blue-none h = rw (number-found x _ ex i hx, number-found y _ ey j hy, number-missing z _ ez h)
 
       -- three bytes are a colour
-      pub three-numbers : (k : ℕ) → z ≡ Number k → (w : ℕ) → w ≡ colour_number (rgb i j k) → answer.TheVariants.Colour w ≡ colour_answer (three_numbers r g b)
+      pub three-numbers : (k : ℕ) → z ≡ Some k → (w : ℕ) → w ≡ colour_number (rgb i j k) → Some w ≡ colour_answer (three_numbers r g b)
       unfolding colour_answer on_found three_numbers
       three-numbers k hz w ew = rw (number-found x _ ex i hx, number-found y _ ey j hy, number-found z _ ez k hz, ew)

@@ -6,13 +6,16 @@ use mathlib.Core.List.{List, [], ◌∷◌}
 use native.Mathlib.Nat.{zero-add}
 use native.Mathlib.Omega.{arith}
 use lib.ListN.{length, take, drop, drop_of_length-le}
+use lib.Dec.{eqb}
+use lib.Pointwise.{pointwise}
+use Rattle.values.proofs.WordLaws.{same_bytes}
+use native.Mathlib.Numerals.{add-one}
 use lib.Seq.{drop-drop}
 use Rattle.combinators.specs.Choice.{pick, and}
 use Rattle.combinators.specs.Word.{same_text}
 use Rattle.combinators.proofs.Lists.{rest}
 use Rattle.combinators.proofs.Rules.{pick_true, pick-false, pick-holds, and-gives, and-gives-false, and-true, told}
 use Rattle.characters.specs.Literal.{text}
-use Rattle.characters.specs.Utf8.{utf8, continuation}
 use Rattle.lexer.specs.Token.{Token, text_of}
 use Rattle.lexer.specs.TokenRow.{token_width, ident_kind, function_kind, hash_kind, number_kind, comma_kind, close_round_kind}
 use Rattle.syntax.specs.Declaration.{Colour}
@@ -22,8 +25,7 @@ use Rattle.values.specs.Colour.{colours, hash_colour, three_numbers, rgb_colour,
 use Rattle.values.specs.ColourAnswer.{colour_answer}
 use Rattle.values.specs.ColourRows.{kind_at, rgb_count, rgb_name, number_before, rgb_kinds, rgb_here, last_part}
 use Rattle.values.specs.View.{read_token, token_here, first_text, tokens_at}
-use Rattle.values.specs.declared.colours.ColourAnswer.{ColourAnswer}
-use Rattle.values.specs.declared.colours.ColourAnswer.TheVariants.{NoColour}
+use Rattle.std.specs.Prelude.{Option, None}
 use Rattle.values.proofs.ColourLaws.{no-colour}
 use Rattle.values.proofs.TokenViews.{Kind, ident-text, function-text, hash-text, number-text, comma-kind, close-round-kind, here-kind, kind-told, here-text, tokens-here, tokens_none}
 
@@ -64,7 +66,7 @@ tokens-length rows store (suc n) = ap suc (tokens-length (drop token_width rows)
 module _ (rows store : List ℕ) where
   module _ (r : Bool) (er : r ≡ kind_at rows 0 ident_kind) where
     -- a name is the colour that the table gives it
-    pub one-named : r ≡ true → (t : List ℕ) → t ≡ first_text rows store 0 → (x : ColourAnswer) → x ≡ colour_answer (lookup t colours)
+    pub one-named : r ≡ true → (t : List ℕ) → t ≡ first_text rows store 0 → (x : Option ℕ) → x ≡ colour_answer (lookup t colours)
         → x ≡ colour_answer (one_token (token_here rows store 0))
     unfolding one_token
     one-named h t et x ex =
@@ -73,7 +75,7 @@ module _ (rows store : List ℕ) where
 
     module _ (h : r ≡ false) (l : Bool) (el : l ≡ kind_at rows 0 hash_kind) where
       -- the return where the only token is a hash: the colour of what stands behind '#'
-      pub one-hash : l ≡ true → (t : List ℕ) → t ≡ first_text rows store 0 → (x : ColourAnswer) → x ≡ colour_answer (hash_colour t)
+      pub one-hash : l ≡ true → (t : List ℕ) → t ≡ first_text rows store 0 → (x : Option ℕ) → x ≡ colour_answer (hash_colour t)
           → x ≡ colour_answer (one_token (token_here rows store 0))
       unfolding one_token
       one-hash g t et x ex =
@@ -84,7 +86,7 @@ module _ (rows store : List ℕ) where
           (pick_true _ _ _ _ (kind-told rows store 0 hash_kind hash-text.kind l true el g) (ap hash_colour s)))
 
       -- a token that is neither a name nor a hash is no colour
-      pub one-other : l ≡ false → NoColour ≡ colour_answer (one_token (token_here rows store 0))
+      pub one-other : l ≡ false → None ≡ colour_answer (one_token (token_here rows store 0))
       unfolding one_token
       one-other g =
           no-colour _
@@ -109,22 +111,16 @@ and-pairs true true true d e f = refl
 
 -- ---- `is_rgb`, `is_number_before`, `is_rgb_list`
 
--- the bytes of the name
-pub rgb-bytes : 0x72 ∷ 0x67 ∷ 0x62 ∷ [] ≡ text "rgb"
-unfolding text utf8 continuation pick
-rgb-bytes = refl
-
 module _ (rows store : List ℕ) (r : Bool) (er : r ≡ kind_at rows 0 function_kind) where
   -- a function's name decides
-  pub name-there : r ≡ true → (s w : List ℕ) → s ≡ first_text rows store 0 → w ≡ text "rgb" → (x : Bool) → x ≡ same_text s w
-      → x ≡ rgb_name rows store
+  pub name-there : r ≡ true → (s : List ℕ) → s ≡ first_text rows store 0 → (x : Bool) → x ≡ pointwise eqb s (text "rgb") → x ≡ rgb_name rows store
   unfolding rgb_name
-  name-there h s w es ew x ex = and-gives _ _ _ (told _ _ _ er h) (ex ∙ rw (es, ew))
+  name-there h s es x ex = and-gives _ _ _ (told _ _ _ er h) (ex ∙ same_bytes s (text "rgb") ∙ ap (λ t. same_text t (text "rgb")) es)
 
   -- any other token is not `rgb(`
-  pub name-none : r ≡ false → false ≡ rgb_name rows store
+  pub name-none : r ≡ false → r ≡ rgb_name rows store
   unfolding rgb_name
-  name-none h = and-gives-false _ _ (told _ _ _ er h)
+  name-none h = h ∙ and-gives-false _ _ (told _ _ _ er h)
 
 module _ (rows : List ℕ) (p q n : ℕ) (r : Bool) (er : r ≡ kind_at rows p number_kind) where
   -- behind a number the other token decides
@@ -133,32 +129,54 @@ module _ (rows : List ℕ) (p q n : ℕ) (r : Bool) (er : r ≡ kind_at rows p n
   before-there h x ex = and-gives _ _ _ (told _ _ _ er h) ex
 
   -- where no number stands, there is none before a mark
-  pub before-none : r ≡ false → false ≡ number_before rows p q n
+  pub before-none : r ≡ false → r ≡ number_before rows p q n
   unfolding number_before
-  before-none h = and-gives-false _ _ (told _ _ _ er h)
+  before-none h = h ∙ and-gives-false _ _ (told _ _ _ er h)
 
-module _ (rows : List ℕ) (r : Bool) (er : r ≡ number_before rows token_width (2 * token_width) comma_kind) where
-  -- no number and comma first
-  pub list-first : r ≡ false → false ≡ rgb_kinds rows
-  unfolding rgb_kinds
-  list-first h = and-gives-false _ _ (told _ _ _ er h)
+-- two tests in turn, and a third where both hold
+two-tests : (a b c v : Bool) → v ≡ and a b → v ≡ false → v ≡ and a (and b c)
+unfolding and
+two-tests true true c v e h = absurd (let z : true ≡ false = sym e ∙ h in cc)
+two-tests true false c v e h = e
+two-tests false b c v e h = e
 
-  module _ (h : r ≡ true) (l : Bool) (el : l ≡ number_before rows (3 * token_width) (4 * token_width) comma_kind) where
-    -- where no number and comma stand behind the first, it is no list of three
-    pub list-second : l ≡ false → false ≡ rgb_kinds rows
+third-test : (a b c v : Bool) → v ≡ and a b → v ≡ true → c ≡ and a (and b c)
+unfolding and
+third-test true true c v e h = refl
+third-test true false c v e h = absurd (let z : false ≡ true = sym e ∙ h in cc)
+third-test false b c v e h = absurd (let z : false ≡ true = sym e ∙ h in cc)
+
+module _ (rows : List ℕ) (v : Bool) where
+  abbrev pub first : Bool
+  first = number_before rows token_width (2 * token_width) comma_kind
+
+  abbrev pub second : Bool
+  second = number_before rows (3 * token_width) (4 * token_width) comma_kind
+
+  -- the first number and comma are not there
+  pub list-first : (r : Bool) → r ≡ first → r ≡ false → v ≡ false → v ≡ and first second
+  list-first r e h ev = ev ∙ and-gives-false _ _ (told _ _ _ e h)
+
+  -- they are, and the second decide
+  pub list-second : (r : Bool) → r ≡ first → r ≡ true → v ≡ second → v ≡ and first second
+  list-second r e h ev = and-gives _ _ _ (told _ _ _ e h) ev
+
+  module _ (e : v ≡ and first second) where
+    -- where the two are not there, it is no list of three
+    pub list-none : v ≡ false → v ≡ rgb_kinds rows
     unfolding rgb_kinds
-    list-second g = and-gives _ _ _ (told _ _ _ er h) (and-gives-false _ _ (told _ _ _ el g))
+    list-none h = two-tests _ _ _ v e h
 
     -- behind both the number and the bracket decide
-    pub list-third : l ≡ true → (x : Bool) → x ≡ number_before rows (5 * token_width) (6 * token_width) close_round_kind → x ≡ rgb_kinds rows
+    pub list-third : v ≡ true → (x : Bool) → x ≡ number_before rows (5 * token_width) (6 * token_width) close_round_kind → x ≡ rgb_kinds rows
     unfolding rgb_kinds
-    list-third g x ex = and-gives _ _ _ (told _ _ _ er h) (and-gives _ _ _ (told _ _ _ el g) ex)
+    list-third h x ex = ex ∙ third-test _ _ _ v e h
 
 -- ---- `rgb_value`
 
 -- three texts of the rows are the colour's numbers
 pub value-here : (rows store r g b : List ℕ) → r ≡ first_text rows store token_width → g ≡ first_text rows store (3 * token_width)
-    → b ≡ first_text rows store (5 * token_width) → (x : ColourAnswer) → x ≡ colour_answer (three_numbers r g b)
+    → b ≡ first_text rows store (5 * token_width) → (x : Option ℕ) → x ≡ colour_answer (three_numbers r g b)
     → x ≡ colour_answer (rgb_here rows store)
 unfolding rgb_here
 value-here rows store r g b er eg eb x ex = ex ∙ rw (er, eg, eb)
@@ -223,16 +241,16 @@ module _ (rows store : List ℕ) where
 
   module _ (r : Bool) (er : r ≡ rgb_name rows store) where
     -- a function of another name is no colour
-    pub rgb-unnamed : r ≡ false → NoColour ≡ colour_answer (colour_of (tokens_at rows store rgb_count))
+    pub rgb-unnamed : r ≡ false → None ≡ colour_answer (colour_of (tokens_at rows store rgb_count))
     rgb-unnamed h = no-colour _ (pick-false _ _ _ _ (told _ _ _ er h) refl ∙ seven-colour)
 
     module _ (h : r ≡ true) (l : Bool) (el : l ≡ rgb_kinds rows) where
       -- the return where other tokens stand in the brackets: no colour
-      pub rgb-unlisted : l ≡ false → NoColour ≡ colour_answer (colour_of (tokens_at rows store rgb_count))
+      pub rgb-unlisted : l ≡ false → None ≡ colour_answer (colour_of (tokens_at rows store rgb_count))
       rgb-unlisted g = no-colour _ (pick_true _ _ _ _ (told _ _ _ er h) (pick-false _ _ _ _ (told _ _ _ el g) refl) ∙ seven-colour)
 
       -- the colour of the three numbers
-      pub rgb-listed : l ≡ true → (x : ColourAnswer) → x ≡ colour_answer (rgb_here rows store)
+      pub rgb-listed : l ≡ true → (x : Option ℕ) → x ≡ colour_answer (rgb_here rows store)
           → x ≡ colour_answer (colour_of (tokens_at rows store rgb_count))
       rgb-listed g x ex =
           let k = told _ _ _ el g in
@@ -261,18 +279,18 @@ colour-other (k ∷ a ∷ r) n m = pick-holds (λ (f : Found Colour). missing �
 
 module _ (rows store : List ℕ) (n : ℕ) where
   -- a value of one token is asked as one token
-  pub count-one : n ≡ 1 → (x : ColourAnswer) → x ≡ colour_answer (one_token (token_here rows store 0))
+  pub count-one : n ≡ 1 → (x : Option ℕ) → x ≡ colour_answer (one_token (token_here rows store 0))
       → x ≡ colour_answer (colour_of (tokens_at rows store n))
   unfolding colour_of
   count-one e x ex = ex ∙ ap (λ ks. colour_answer (colour_of ks)) (sym (ap (tokens_at rows store) e ∙ more rows store 0 0 [] (tokens_none _ store)))
 
   -- a value of seven tokens is asked as `rgb`
-  pub count-rgb : n ≡ rgb_count → (x : ColourAnswer) → x ≡ colour_answer (colour_of (tokens_at rows store rgb_count))
+  pub count-rgb : n ≡ rgb_count → (x : Option ℕ) → x ≡ colour_answer (colour_of (tokens_at rows store rgb_count))
       → x ≡ colour_answer (colour_of (tokens_at rows store n))
   count-rgb e x ex = ex ∙ ap (λ k. colour_answer (colour_of (tokens_at rows store k))) (sym e)
 
   -- a value of any other count is no colour
-  pub count-other : ¬ (n ≡ 1) → ¬ (n ≡ rgb_count) → NoColour ≡ colour_answer (colour_of (tokens_at rows store n))
+  pub count-other : ¬ (n ≡ 1) → ¬ (n ≡ rgb_count) → None ≡ colour_answer (colour_of (tokens_at rows store n))
   count-other a b =
       let l = tokens-length rows store n in
       no-colour _ (colour-other (tokens_at rows store n) (λ e. a (sym l ∙ e)) (λ e. b (sym l ∙ e)))
@@ -326,41 +344,16 @@ module _ (rows store : List ℕ) (n : ℕ) where
   pub last-part : drop (last_part rows n) all ≡ behind_comma all all
   last-part = last-from n (omega arith) quiet-end
 
--- the loop: no comma stands from the i-th token on
-pub record Seeking (rows : List ℕ) (n i : ℕ) : Type 0 where
-  pub left : last_part rows n ≡ last_part rows i
-  pub inside : i ≤ n
-
--- before the last token is asked no comma is found, and all tokens are left
-pub seeking-begin : (rows : List ℕ) (n : ℕ) → Seeking rows n n
-seeking-begin rows n = record { left = refl; inside = omega arith }
-
-module _ (rows : List ℕ) (n i : ℕ) (c : Seeking rows n i) where
-  -- with no token left there is no comma, and the part behind the last one is all tokens
-  pub seeking-done : i ≤ 0 → (0 ≡ last_part rows n) × (0 ≤ n)
-  unfolding last_part
-  seeking-done h = let e : i ≡ 0 = omega arith in (sym (c.left ∙ ap (last_part rows) e), omega arith)
-
-  module _ (h : 0 < i) (r : Bool) (er : r ≡ kind_at rows ((i - 1) * token_width) comma_kind) where
-    -- what the next token says
-    turn : last_part rows n ≡ pick (kind_at rows ((i - 1) * token_width) comma_kind) i (last_part rows (i - 1))
-    unfolding last_part
-    turn =
-        let e : i ≡ suc (i - 1) = omega arith in
-        c.left ∙ ap (last_part rows) e ∙ ap (λ k. pick (kind_at rows ((i - 1) * token_width) comma_kind) k (last_part rows (i - 1))) (sym e)
-
-    -- a comma stands before them
-    pub seeking-hit : r ≡ true → (i ≡ last_part rows n) × (i ≤ n)
-    seeking-hit p = (pick_true _ _ _ _ (told _ _ _ er p) refl ∙ sym turn, c.inside)
-
-    -- a token that is no comma is passed, towards the start
-    pub seeking-more : r ≡ false → Seeking rows n (i - 1)
-    seeking-more p = record { left = turn ∙ sym (pick-false _ _ _ _ (told _ _ _ er p) refl); inside = let l = c.inside in omega arith }
+-- behind the i-th token
+pub last-next : (rows : List ℕ) (i : ℕ) (r : Bool) → r ≡ kind_at rows (i * token_width) comma_kind
+    → last_part rows (i + 1) ≡ pick r (i + 1) (last_part rows i)
+unfolding last_part
+last-next rows i r e = rw (add-one i, e)
 
 -- ---- `parse_background_color`: the colour behind the last comma
 module _ (rows store : List ℕ) (n i : ℕ) (h : i ≤ n) where
   -- the colour of the rows that are lent is that of what stands behind the last comma
-  pub background : i ≡ last_part rows n → (x : ColourAnswer)
+  pub background : i ≡ last_part rows n → (x : Option ℕ)
       → x ≡ colour_answer (colour_of (tokens_at (take (length rows - i * token_width) (drop (i * token_width) rows)) store (n - i)))
       → x ≡ colour_answer (background_of (tokens_at rows store n))
   unfolding background_of

@@ -1,196 +1,126 @@
 -- The declaration of a property with a value: by the code's answers, its range and its text.
-use Prim.Native.Nat.{ℕ, ◌≤◌}
-use mathlib.Core.Path.{◌≡◌, refl, sym, ap, ◌∙◌}
+use Prim.Native.Nat.{ℕ}
+use mathlib.Core.Path.{◌≡◌, refl, sym, ap, subst, ◌∙◌}
 use mathlib.Core.Bool.{Bool}
 use mathlib.Core.List.{List, [], ◌∷◌, ◌++◌}
-use native.Mathlib.Omega.{arith}
 use lib.ListN.{length}
 use Rattle.combinators.proofs.Rules.{pick-holds}
 use Rattle.lexer.specs.Token.{Token, text_of}
 use Rattle.lexer.specs.TokenRow.{string_kind}
-use Rattle.syntax.specs.Declaration.{Colour, Overflow, Decl, color, background_color, height, max_height, overflow, overflow_y, display, white_space, content, unknown}
-use Rattle.syntax.specs.Layout.{color_kind, background_color_kind, height_kind, max_height_kind, overflow_kind, overflow_yKind, display_kind, white_space_kind, content_kind, flag, overflow_number, white_space_number, colour_number, decl_text}
+use Rattle.syntax.specs.Declaration.{Decl, color, background_color, height, max_height, overflow, overflow_y, display, white_space, content, unknown}
+use Rattle.syntax.specs.Layout.{overflow_number, white_space_number, colour_number, decl_text}
 use Rattle.syntax.specs.Stream.{texts_many}
 use Rattle.syntax.proofs.Back.{DeclFits}
-use Rattle.values.specs.Words.{Found, found, missing, on_found, row_at, is_kind, split, place_of}
+use Rattle.values.specs.Words.{Entry, Found, found, missing, lookup, on_found, row_at, is_kind}
 use Rattle.values.specs.Colour.{colour_of, background_of}
 use Rattle.values.specs.ColourAnswer.{colour_answer}
 use Rattle.values.specs.Property.{height_of, overflow_of, display_of, white_space_of, content_of, properties, decl_of}
 use Rattle.values.specs.ValueAnswer.{height_answer, overflow_answer, content_answer}
-use Rattle.values.specs.DeclAnswer.{decl_of_numbers, decl_answer, unknown_decl, colour_decl, height_decl, word_decl, content_decl, background_color_place, background_place, color_place, height_place, max_height_place, overflow_place, overflow_yPlace, display_place, white_space_place, content_place, decl_at, Among}
+use Rattle.values.specs.DeclAnswer.{decl_answer, text_length, place_of, decl_at}
 use Rattle.values.specs.declared.properties.Decl as declared
-use Rattle.values.specs.declared.colours.ColourAnswer as colours
-use Rattle.values.specs.declared.colours.ColourAnswer.TheVariants.{NoColour}
-use Rattle.values.specs.declared.heights.HeightAnswer.{HeightAnswer}
-use Rattle.values.specs.declared.heights.HeightAnswer.TheVariants.{Height, NoHeight}
-use Rattle.values.specs.declared.keywords.WordAnswer.{WordAnswer}
-use Rattle.values.specs.declared.keywords.WordAnswer.TheVariants.{Word, NoWord}
-use Rattle.values.specs.declared.contents.ContentAnswer.{ContentAnswer}
-use Rattle.values.specs.declared.contents.ContentAnswer.TheVariants.{Content, NoContent}
-use Rattle.values.proofs.WordLaws.{found-holds, lookup-holds, words_of, row-none, joined_of, lengths_of, table-place}
+use Rattle.values.specs.declared.properties.Decl.TheVariants as code
+use Rattle.values.specs.declared.properties.Property.{Property}
+use Rattle.values.specs.declared.properties.Property.TheVariants as property
+use Rattle.std.specs.Prelude.{Option, Some, None, MatchOption, IsSomeAnd, unwrap_or}
+use Rattle.values.proofs.WordLaws.{found-holds, lookup-holds, mapped, on-found-as, lookup-mapped}
 use Rattle.values.proofs.ColourRange.{colour-bytes, background-bytes}
 
--- ---- `with_colour` and its like: the arms of an answer a
-module _ (k n : ℕ) where
-  -- a property whose colour was found
-  pub colour-there : (a : colours.ColourAnswer) (v : ℕ) → a ≡ colours.TheVariants.Colour v → record { kind = k; value = v; text = 0 } ≡ colour_decl k a n
-  unfolding colour_decl decl_of_numbers
-  colour-there a v e = rw e
-
-  -- a property whose colour was not found is unknown
-  pub colour-none : (a : colours.ColourAnswer) → a ≡ NoColour → (r : declared.Decl) → r ≡ unknown_decl n → r ≡ colour_decl k a n
-  unfolding colour_decl
-  colour-none a e r er = rw e er
-
-  -- a property whose height was found
-  pub height-there : (a : HeightAnswer) (z : Bool) → a ≡ Height z → (v : ℕ) → v ≡ flag z → record { kind = k; value = v; text = 0 } ≡ height_decl k a n
-  unfolding height_decl decl_of_numbers
-  height-there a z e v ev = rw (e, ev)
-
-  -- a property whose height was not found is unknown
-  pub height-none : (a : HeightAnswer) → a ≡ NoHeight → (r : declared.Decl) → r ≡ unknown_decl n → r ≡ height_decl k a n
-  unfolding height_decl
-  height-none a e r er = rw e er
-
-  -- a property whose keyword was found
-  pub word-there : (a : WordAnswer) (v : ℕ) → a ≡ Word v → record { kind = k; value = v; text = 0 } ≡ word_decl k a n
-  unfolding word_decl decl_of_numbers
-  word-there a v e = rw e
-
-  -- a property whose keyword was not found is unknown
-  pub word_none : (a : WordAnswer) → a ≡ NoWord → (r : declared.Decl) → r ≡ unknown_decl n → r ≡ word_decl k a n
-  unfolding word_decl
-  word_none a e r er = rw e er
-
-module _ (n : ℕ) (a : ContentAnswer) where
-  -- a property whose content was found
-  pub content-there : (l : ℕ) → a ≡ Content l → record { kind = content_kind; value = 0; text = l } ≡ content_decl a n
-  unfolding content_decl decl_of_numbers
-  content-there l e = rw e
-
-  -- a property whose content was not found is unknown
-  pub content-none : a ≡ NoContent → (r : declared.Decl) → r ≡ unknown_decl n → r ≡ content_decl a n
-  unfolding content_decl
-  content-none e r er = rw e er
-
--- ---- the declaration by an answer is the answer for the declaration
+-- ---- `decl_at`: the declaration by the answer for a value
 module _ (name : List ℕ) where
-  -- the code's answer on a colour is the declaration that the colour makes
-  colour-told : (k : ℕ) (f : Colour → Decl) → ((c : Colour) → decl_answer (f c) ≡ decl_of_numbers k (colour_number c) 0) → (x : Found Colour)
-      → colour_decl k (colour_answer x) (length name) ≡ decl_answer (on_found x f (unknown name))
-  unfolding colour_decl colour_answer on_found unknown_decl decl_answer
-  colour-told k f h (found c) = sym (h c)
-  colour-told k f h missing = refl
+  -- the declaration that the code makes of its answer, or the unknown one
+  abbrev or_unknown : Option declared.Decl → declared.Decl
+  or_unknown r = unwrap_or r (code.Unknown (length name))
 
-  -- the code's answer on a height is the declaration that the height makes
-  height-told : (k : ℕ) (f : Bool → Decl) → ((z : Bool) → decl_answer (f z) ≡ decl_of_numbers k (flag z) 0) → (x : Found Bool)
-      → height_decl k (height_answer x) (length name) ≡ decl_answer (on_found x f (unknown name))
-  unfolding height_decl height_answer on_found unknown_decl decl_answer
-  height-told k f h (found z) = sym (h z)
-  height-told k f h missing = refl
+  -- what was found makes a declaration; where nothing was, the property is unknown
+  made : {A B : Type 0} (f : A → Decl) (n : A → B) (g : B → declared.Decl) → ((a : A) → g (n a) ≡ decl_answer (f a)) → (x : Found A) (a : Option B)
+      → a ≡ on_found x (λ y. Some (n y)) None → (r : Option declared.Decl) → MatchOption a (r ≡ None) (λ y. IsSomeAnd r (λ d. d ≡ g y))
+      → or_unknown r ≡ decl_answer (on_found x f (unknown name))
+  unfolding on_found decl_answer
+  made {A} {B} f n g h (found y) a e r m = go r (subst (λ (b : Option B). MatchOption b (r ≡ None) (λ z. IsSomeAnd r (λ d. d ≡ g z))) e m)
+    where
+      go : (r : Option declared.Decl) → IsSomeAnd r (λ d. d ≡ g (n y)) → or_unknown r ≡ decl_answer (f y)
+      go (Some d) k = k ∙ h y
+      go None k = absurd k
+  made {A} {B} f n g h missing a e r m = ap or_unknown (subst (λ (b : Option B). MatchOption b (r ≡ None) (λ z. IsSomeAnd r (λ d. d ≡ g z))) e m)
 
-  -- the code's answer on an overflow is the declaration that it makes
-  overflow-told : (k : ℕ) (f : Overflow → Decl) → ((o : Overflow) → decl_answer (f o) ≡ decl_of_numbers k (overflow_number o) 0) → (x : Found Overflow)
-      → word_decl k (overflow_answer x) (length name) ≡ decl_answer (on_found x f (unknown name))
-  unfolding word_decl overflow_answer on_found unknown_decl decl_answer
-  overflow-told k f h (found o) = sym (h o)
-  overflow-told k f h missing = refl
+  -- a display, by whether it is none
+  pub display-made : (ks : List Token) (b : Bool) → b ≡ display_of ks → code.Display b ≡ decl_answer (decl_at (place_of property.Display) name ks)
+  unfolding decl_at row_at on_found place_of decl_answer
+  display-made ks b e = ap code.Display e
 
-  -- the code's answer on a content is the declaration that it makes
-  content-told : (x : Found (List ℕ)) → content_decl (content_answer x) (length name) ≡ decl_answer (on_found x content (unknown name))
-  unfolding content_decl content_answer on_found unknown_decl decl_answer
-  content-told (found t) = refl
-  content-told missing = refl
+  -- a white space, by the number of its word
+  pub white-space-made : (ks : List Token) (n : ℕ) → n ≡ white_space_number (white_space_of ks) → code.WhiteSpace n ≡ decl_answer (decl_at (place_of property.WhiteSpace) name ks)
+  unfolding decl_at row_at on_found place_of decl_answer
+  white-space-made ks n e = ap code.WhiteSpace e
 
--- ---- the property at a place p, and the declaration r by the answer a for the value
-module _ (p : ℕ) (name : List ℕ) (ks : List Token) where
-  abbrev whole : declared.Decl
-  whole = decl_answer (decl_at p name ks)
+  module _ (ks : List Token) (r : Option declared.Decl) where
+    -- a colour
+    pub background-color-made : (a : Option ℕ) → a ≡ colour_answer (colour_of ks) → MatchOption a (r ≡ None) (λ v. IsSomeAnd r (λ d. d ≡ code.BackgroundColor v))
+        → or_unknown r ≡ decl_answer (decl_at (place_of property.BackgroundColor) name ks)
+    unfolding decl_at row_at on_found place_of decl_answer colour_answer
+    background-color-made a e m = made background_color colour_number code.BackgroundColor (λ c. refl) (colour_of ks) a e r m
 
-  -- by the declaration at the place that p is
-  here : (q : ℕ) (r : declared.Decl) → p ≡ q → r ≡ decl_answer (decl_at q name ks) → r ≡ whole
-  here q r h e = e ∙ ap (λ n. decl_answer (decl_at n name ks)) (sym h)
+    -- a colour behind the last comma
+    pub background-made : (a : Option ℕ) → a ≡ colour_answer (background_of ks) → MatchOption a (r ≡ None) (λ v. IsSomeAnd r (λ d. d ≡ code.BackgroundColor v))
+        → or_unknown r ≡ decl_answer (decl_at (place_of property.Background) name ks)
+    unfolding decl_at row_at on_found place_of decl_answer colour_answer
+    background-made a e m = made background_color colour_number code.BackgroundColor (λ c. refl) (background_of ks) a e r m
 
-  module _ (a : colours.ColourAnswer) (r : declared.Decl) where
-    -- at its place in the table `background-color` reads a colour
-    pub background-color-at : p ≡ background_color_place → a ≡ colour_answer (colour_of ks) → r ≡ colour_decl background_color_kind a (length name) → r ≡ whole
-    unfolding decl_at row_at on_found decl_answer
-    background-color-at h ea er =
-        here background_color_place r h
-        (er ∙ ap (λ x. colour_decl background_color_kind x (length name)) ea ∙ colour-told name background_color_kind background_color (λ c. refl) (colour_of ks))
+    -- a colour
+    pub color-made : (a : Option ℕ) → a ≡ colour_answer (colour_of ks) → MatchOption a (r ≡ None) (λ v. IsSomeAnd r (λ d. d ≡ code.Color v))
+        → or_unknown r ≡ decl_answer (decl_at (place_of property.Color) name ks)
+    unfolding decl_at row_at on_found place_of decl_answer colour_answer
+    color-made a e m = made color colour_number code.Color (λ c. refl) (colour_of ks) a e r m
 
-    -- at its place in the table `background` reads a colour among its tokens
-    pub background-at : p ≡ background_place → a ≡ colour_answer (background_of ks) → r ≡ colour_decl background_color_kind a (length name) → r ≡ whole
-    unfolding decl_at row_at on_found decl_answer
-    background-at h ea er =
-        here background_place r h
-        (er ∙ ap (λ x. colour_decl background_color_kind x (length name)) ea ∙ colour-told name background_color_kind background_color (λ c. refl) (background_of ks))
+    -- a height
+    pub height-made : (a : Option Bool) → a ≡ height_answer (height_of ks) → MatchOption a (r ≡ None) (λ v. IsSomeAnd r (λ d. d ≡ code.Height v))
+        → or_unknown r ≡ decl_answer (decl_at (place_of property.Height) name ks)
+    unfolding decl_at row_at on_found place_of decl_answer height_answer
+    height-made a e m = made height (λ z. z) code.Height (λ c. refl) (height_of ks) a e r m
 
-    -- color, which is the last of the three
-    pub color-at : Among background_color_place color_place p → ¬ (p ≡ background_color_place) → ¬ (p ≡ background_place)
-        → a ≡ colour_answer (colour_of ks) → r ≡ colour_decl color_kind a (length name) → r ≡ whole
-    unfolding decl_at row_at on_found decl_answer
-    color-at m h i ea er =
-        here color_place r (omega (arith, m.upto))
-        (er ∙ ap (λ x. colour_decl color_kind x (length name)) ea ∙ colour-told name color_kind color (λ c. refl) (colour_of ks))
+    -- a height
+    pub max-height-made : (a : Option Bool) → a ≡ height_answer (height_of ks) → MatchOption a (r ≡ None) (λ v. IsSomeAnd r (λ d. d ≡ code.MaxHeight v))
+        → or_unknown r ≡ decl_answer (decl_at (place_of property.MaxHeight) name ks)
+    unfolding decl_at row_at on_found place_of decl_answer height_answer
+    max-height-made a e m = made max_height (λ z. z) code.MaxHeight (λ c. refl) (height_of ks) a e r m
 
-  module _ (a : HeightAnswer) (ea : a ≡ height_answer (height_of ks)) (r : declared.Decl) where
-    -- at its place in the table `height` reads a height
-    pub height-at : p ≡ height_place → r ≡ height_decl height_kind a (length name) → r ≡ whole
-    unfolding decl_at row_at on_found decl_answer
-    height-at h er =
-        here height_place r h
-        (er ∙ ap (λ x. height_decl height_kind x (length name)) ea ∙ height-told name height_kind height (λ z. refl) (height_of ks))
+    -- an overflow
+    pub overflow-made : (a : Option ℕ) → a ≡ overflow_answer (overflow_of ks) → MatchOption a (r ≡ None) (λ v. IsSomeAnd r (λ d. d ≡ code.Overflow v))
+        → or_unknown r ≡ decl_answer (decl_at (place_of property.Overflow) name ks)
+    unfolding decl_at row_at on_found place_of decl_answer overflow_answer
+    overflow-made a e m = made overflow overflow_number code.Overflow (λ c. refl) (overflow_of ks) a e r m
 
-    -- max-height, the other of the two
-    pub max-height-at : Among height_place max_height_place p → ¬ (p ≡ height_place) → r ≡ height_decl max_height_kind a (length name) → r ≡ whole
-    unfolding decl_at row_at on_found decl_answer
-    max-height-at m h er =
-        here max_height_place r (omega (arith, m.from, m.upto))
-        (er ∙ ap (λ x. height_decl max_height_kind x (length name)) ea ∙ height-told name max_height_kind max_height (λ z. refl) (height_of ks))
+    -- an overflow
+    pub overflow-y-made : (a : Option ℕ) → a ≡ overflow_answer (overflow_of ks) → MatchOption a (r ≡ None) (λ v. IsSomeAnd r (λ d. d ≡ code.OverflowY v))
+        → or_unknown r ≡ decl_answer (decl_at (place_of property.OverflowY) name ks)
+    unfolding decl_at row_at on_found place_of decl_answer overflow_answer
+    overflow-y-made a e m = made overflow_y overflow_number code.OverflowY (λ c. refl) (overflow_of ks) a e r m
 
-  module _ (a : WordAnswer) (ea : a ≡ overflow_answer (overflow_of ks)) (r : declared.Decl) where
-    -- at its place in the table `overflow` reads a keyword
-    pub overflow-at : p ≡ overflow_place → r ≡ word_decl overflow_kind a (length name) → r ≡ whole
-    unfolding decl_at row_at on_found decl_answer
-    overflow-at h er =
-        here overflow_place r h
-        (er ∙ ap (λ x. word_decl overflow_kind x (length name)) ea ∙ overflow-told name overflow_kind overflow (λ o. refl) (overflow_of ks))
+    -- a content
+    pub content-made : (a : Option ℕ) → a ≡ content_answer (content_of ks) → MatchOption a (r ≡ None) (λ v. IsSomeAnd r (λ d. d ≡ code.Content v))
+        → or_unknown r ≡ decl_answer (decl_at (place_of property.Content) name ks)
+    unfolding decl_at row_at on_found place_of decl_answer content_answer
+    content-made a e m = made content (λ (t : List ℕ). length t) code.Content (λ c. refl) (content_of ks) a e r m
 
-    -- overflow-y, the other of the two
-    pub overflow-y-at : Among overflow_place overflow_yPlace p → ¬ (p ≡ overflow_place) → r ≡ word_decl overflow_yKind a (length name) → r ≡ whole
-    unfolding decl_at row_at on_found decl_answer
-    overflow-y-at m h er =
-        here overflow_yPlace r (omega (arith, m.from, m.upto))
-        (er ∙ ap (λ x. word_decl overflow_yKind x (length name)) ea ∙ overflow-told name overflow_yKind overflow_y (λ o. refl) (overflow_of ks))
+-- ---- `decl_of`: the table of properties
+-- a row of the code's table reads what the row of the property's place does
+abbrev pub reads : Property → List ℕ → List Token → Decl
+reads p = decl_at (place_of p)
 
-  -- display, by whether it is none
-  pub display-at : p ≡ display_place → (b : Bool) → b ≡ display_of ks → (v : ℕ) → v ≡ flag b → record { kind = display_kind; value = v; text = 0 } ≡ whole
-  unfolding decl_at row_at on_found decl_answer decl_of_numbers
-  display-at h b eb v ev = here display_place _ h (ap (λ n. decl_of_numbers display_kind n 0) (ev ∙ ap flag eb))
-
-  -- at its place in the table `white-space` has the number of its word
-  pub white-space-at : p ≡ white_space_place → (v : ℕ) → v ≡ white_space_number (white_space_of ks) → record { kind = white_space_kind; value = v; text = 0 } ≡ whole
-  unfolding decl_at row_at on_found decl_answer decl_of_numbers
-  white-space-at h v ev = here white_space_place _ h (ap (λ n. decl_of_numbers white_space_kind n 0) ev)
-
-  -- at its place in the table `content` reads strings
-  pub content-at : p ≡ content_place → (a : ContentAnswer) → a ≡ content_answer (content_of ks) → (r : declared.Decl) → r ≡ content_decl a (length name) → r ≡ whole
-  unfolding decl_at row_at on_found
-  content-at h a ea r er = here content_place r h (er ∙ ap (λ x. content_decl x (length name)) ea ∙ content-told name (content_of ks))
-
-  -- at no place of the table the declaration is unknown
-  pub unknown-at : display_place ≤ p → ¬ (p ≡ display_place) → ¬ (p ≡ white_space_place) → ¬ (p ≡ content_place) → (r : declared.Decl)
-      → r ≡ unknown_decl (length name) → r ≡ whole
-  unfolding decl_at on_found decl_answer unknown_decl words_of
-  unknown-at l h i j r er = er ∙ ap (λ f. decl_answer (on_found f (λ read. read name ks) (unknown name))) (sym (row-none properties p (omega arith)))
-
--- ---- `decl_of`: at the place p that the code finds
--- the declaration at the place of the name in the table of properties is the declaration of the property
-pub decl-placed : (name : List ℕ) (ks : List Token) (p : ℕ) → p ≡ place_of name (split (joined_of properties) (lengths_of properties))
-    → (r : declared.Decl) → r ≡ decl_answer (decl_at p name ks) → r ≡ decl_answer (decl_of name ks)
-unfolding decl_at decl_of
-decl-placed name ks p e r er = er ∙ ap (λ f. decl_answer (on_found f (λ read. read name ks) (unknown name))) (table-place properties name p e)
+-- so the declaration of a property is that of the one that the code finds
+pub decl-told : (es : List (Entry Property)) → mapped reads es ≡ properties → (name : List ℕ) (ks : List Token) (l : Option Property)
+    → l ≡ on_found (lookup name es) Some None → (r : Option declared.Decl)
+    → MatchOption l (r ≡ None) (λ p. unwrap_or r (code.Unknown (length name)) ≡ decl_answer (decl_at (place_of p) name ks))
+    → unwrap_or r (code.Unknown (length name)) ≡ decl_answer (decl_of name ks)
+unfolding decl_of
+decl-told es e name ks l el r m =
+    go (lookup name es) el
+    ∙ ap decl_answer (sym (on-found-as reads (lookup name es) (λ read. read name ks) (unknown name)) ∙ ap (λ f. on_found f (λ read. read name ks) (unknown name)) (sym (lookup-mapped reads name es) ∙ ap (lookup name) e))
+  where
+    go : (x : Found Property) → l ≡ on_found x Some None
+        → unwrap_or r (code.Unknown (length name)) ≡ decl_answer (on_found x (λ p. decl_at (place_of p) name ks) (unknown name))
+    go (found p) q = unfold on_found in subst (λ (b : Option Property). MatchOption b (r ≡ None) (λ p. unwrap_or r (code.Unknown (length name)) ≡ decl_answer (decl_at (place_of p) name ks))) q m
+    go missing q = unfold on_found decl_answer in ap (λ (o : Option declared.Decl). unwrap_or o (code.Unknown (length name))) (subst (λ (b : Option Property). MatchOption b (r ≡ None) (λ p. unwrap_or r (code.Unknown (length name)) ≡ decl_answer (decl_at (place_of p) name ks))) q m)
 
 -- ---- what holds of every declaration
 
@@ -266,8 +196,8 @@ module _ (P : Decl → Type 0) (name : List ℕ) (ks : List Token) (h : (d : Dec
       u
 
 -- the answer has the text's length
-pub decl-length : (d : Decl) → (decl_answer d).text ≡ length (decl_text d)
-unfolding decl_answer decl_of_numbers decl_text
+pub decl-length : (d : Decl) → text_length (decl_answer d) ≡ length (decl_text d)
+unfolding decl_answer text_length decl_text
 decl-length (color c) = refl
 decl-length (background_color c) = refl
 decl-length (height z) = refl

@@ -1,13 +1,15 @@
 -- Numbers that are zero: the parts that the code lends, and what the answer says of the number as an f32. Heights, by their one token.
-use Prim.Native.Nat.{ℕ, zero, suc, ◌+◌, ◌-◌, ◌≤◌}
+use Prim.Native.Nat.{ℕ, zero, suc, ◌+◌, ◌-◌, ◌<◌, ◌≤◌}
+use Rattle.std.specs.Prelude.{Some, MatchOption, unwrap_or}
+use Rattle.std.specs.Borrow.{Bor}
+use Rattle.std.specs.List.{slice_range}
+use mathlib.Core.Logic.{◌⊎◌, inl, inr}
 use mathlib.Core.Path.{◌≡◌, refl, sym, ap, ◌∙◌}
 use mathlib.Core.Bool.{Bool, true, false}
 use mathlib.Core.List.{List, [], ◌∷◌}
 use native.Mathlib.Omega.{arith}
-use lib.Dec.{ltb, leb-zero, leb-suc-suc}
 use lib.ListN.{length, get_or, take, drop, drop_of_length-le}
-use Rattle.combinators.specs.Choice.{pick, is}
-use Rattle.combinators.specs.Word.{same_text}
+use Rattle.combinators.specs.Choice.{is}
 use Rattle.combinators.proofs.Lists.{rest}
 use Rattle.combinators.proofs.Rules.{pick_true, pick-false, told}
 use Rattle.decimal.specs.Decimal.{rounds_to_zero}
@@ -17,9 +19,9 @@ use Rattle.lexer.specs.Number.{digits, sign}
 use Rattle.lexer.specs.Whitespace.{skip_whitespace}
 use Rattle.lexer.specs.Token.{Token, text_of}
 use Rattle.lexer.specs.TokenRow.{token_width, kind_column, number_kind, dimension_kind}
-use Rattle.values.specs.declared.heights.HeightAnswer.{HeightAnswer}
-use Rattle.values.specs.declared.heights.HeightAnswer.TheVariants.{Height, NoHeight}
-use Rattle.values.specs.Words.{Found, found, missing, on_found, is_kind, unit_of, place_of}
+use Rattle.std.specs.Prelude.{Option, None}
+use Rattle.std.specs.Bool.{then_some}
+use Rattle.values.specs.Words.{Found, found, missing, on_found, is_kind, unit_of}
 use Rattle.values.specs.View.{token_here, first_text, second_text, tokens_at}
 use Rattle.values.specs.Property.{unsigned_zero, number_zero, units, any_of, height_of}
 use Rattle.values.specs.ValueAnswer.{height_answer}
@@ -32,16 +34,13 @@ module _ (t : List ℕ) (n : ℕ) (e : n ≡ digits t) (r : Bool) where
   unfolding unsigned_zero
   parts f p q = q ∙ ap (rounds_to_zero (take n t)) p ∙ ap (λ k. rounds_to_zero (take k t) (drop (k + 1) t)) e
 
-  -- the digits are all of the text
-  pub zero-integer : n ≡ length t → r ≡ rounds_to_zero (take n t) (take (length t - n) (drop n t)) → r ≡ unsigned_zero t
-  zero-integer h q = parts _ (rest t n ∙ none n (omega arith) ∙ sym (none (n + 1) (omega arith))) q
-    where
-      none : (i : ℕ) → length t ≤ i → drop i t ≡ []
-      none i l = drop_of_length-le t l
-
-  -- where a point follows the digits, those behind it are asked too
-  pub zero-decimal : r ≡ rounds_to_zero (take n t) (take (length t - (n + 1)) (drop (n + 1) t)) → r ≡ unsigned_zero t
-  zero-decimal q = parts _ (rest t (n + 1)) q
+  -- by the text that the code finds behind the point, or none
+  pub zero-parts : (o : Option (Bor (List ℕ))) → MatchOption o ((length t < n + 1) ⊎ (length t < length t))
+      (λ x. (n + 1 ≤ length t) × (length t ≤ length t) × (x.now ≡ slice_range t (n + 1) (length t)) × (length x.now + (n + 1) ≡ length t))
+      → (b : Bor (List ℕ)) → b.now ≡ [] → (x : Bor (List ℕ)) → x ≡ unwrap_or o b → r ≡ rounds_to_zero (take n t) x.now → r ≡ unsigned_zero t
+  zero-parts None (inl l) b eb x ex q = parts x.now (ap (λ (y : Bor (List ℕ)). y.now) ex ∙ eb ∙ sym (drop_of_length-le t {i = n + 1} (omega arith))) q
+  zero-parts None (inr l) b eb x ex q = absurd (omega arith)
+  zero-parts (Some y) m b eb x ex q = parts x.now (ap (λ (y : Bor (List ℕ)). y.now) ex ∙ m.2 ∙ rest t (n + 1)) q
 
 -- ---- a number with a sign or none
 -- it stands behind w bytes of white space, and its sign has k
@@ -72,24 +71,9 @@ pub number-zero : (negative : Bool) (n : List ℕ) → number_zero n ≡ is_zero
 unfolding number_zero unsigned_zero unsigned_of integer_of fraction_of
 number-zero negative n = sym (zero-test negative (integer_of n) (fraction_of n))
 
--- ---- units
--- a word is one of a list where its place is below the list's length
-pub any_place : (w : List ℕ) (xs : List (List ℕ)) → any_of w xs ≡ ltb (place_of w xs) (length xs)
-unfolding any_of place_of pick
-any_place w [] = refl
-any_place w (x ∷ xs) = ap (pick (same_text w x) true) (any_place w xs) ∙ go (same_text w x) (place_of w xs) (length xs)
-  where
-    go : (t : Bool) (p n : ℕ) → pick t true (ltb p n) ≡ ltb (pick t 0 (suc p)) (suc n)
-    go true p n = sym (leb-suc-suc 0 n ∙ leb-zero n)
-    go false p n = sym (leb-suc-suc (suc p) n)
-
--- the code's test of the place that it found for a word
-pub any_told : (w u : List ℕ) (xs : List (List ℕ)) (i : ℕ) → w ≡ u → i ≡ place_of w xs → ltb i (length xs) ≡ any_of u xs
-any_told w u xs i ew ei = ap (λ k. ltb k (length xs)) ei ∙ sym (any_place w xs) ∙ ap (λ x. any_of x xs) ew
-
 -- ---- heights
 -- a value of no token, or of two and more
-pub height-none : (rows store : List ℕ) (n : ℕ) → ¬ (n ≡ 1) → NoHeight ≡ height_answer (height_of (tokens_at rows store n))
+pub height-none : (rows store : List ℕ) (n : ℕ) → ¬ (n ≡ 1) → None ≡ height_answer (height_of (tokens_at rows store n))
 unfolding height_answer height_of on_found
 height-none rows store zero d = rw (tokens_none rows store)
 height-none rows store (suc zero) d = absurd (d refl)
@@ -100,7 +84,7 @@ module _ (rows store : List ℕ) (n : ℕ) (e : n ≡ 1) (d : Bool) (ed : d ≡ 
   abbrev token : Token
   token = token_here rows store 0
 
-  abbrev whole : HeightAnswer
+  abbrev whole : Option Bool
   whole = height_answer (height_of (tokens_at rows store n))
 
   -- a value of one token has that token alone
@@ -125,17 +109,16 @@ module _ (rows store : List ℕ) (n : ℕ) (e : n ≡ 1) (d : Bool) (ed : d ≡ 
     unit : (v : Bool) → u ≡ v → any_of (unit_of token) units ≡ v
     unit v q = ap (λ w. any_of w units) (here-unit rows store 0 dimension-row) ∙ told _ _ _ eu q
 
-    -- it is; z that the number is zero
-    pub height-length : u ≡ true → (z : Bool) → z ≡ number_zero (first_text rows store 0) → Height z ≡ whole
+    -- where it is, the height is zero or not as the number z is
+    pub height-length : (z : Bool) → z ≡ number_zero (first_text rows store 0) → then_some u z ≡ whole
     unfolding height_answer on_found height_of
-    height-length q z ez =
-        let f = ap found (ez ∙ sym (ap number_zero (here-number rows store 0 dimension-row))) in
-        height-as (found z) (pick_true _ _ _ _ (kind true p) (pick_true _ _ _ _ (unit true q) f))
-
-    -- a dimension of another unit is no height
-    pub height-other : u ≡ false → NoHeight ≡ whole
-    unfolding height_answer on_found height_of
-    height-other q = height-as missing (pick_true _ _ _ _ (kind true p) (pick-false _ _ _ _ (unit false q) refl))
+    height-length z ez = go u refl
+      where
+        go : (v : Bool) → u ≡ v → then_some v z ≡ whole
+        go true q =
+            let f = ap found (ez ∙ sym (ap number_zero (here-number rows store 0 dimension-row))) in
+            height-as (found z) (pick_true _ _ _ _ (kind true p) (pick_true _ _ _ _ (unit true q) f))
+        go false q = height-as missing (pick_true _ _ _ _ (kind true p) (pick-false _ _ _ _ (unit false q) refl))
 
   -- no dimension; k that it is a number
   module _ (p : d ≡ false) (k : Bool) (ek : k ≡ is (get_or rows kind_column 0) number_kind) where
@@ -149,21 +132,20 @@ module _ (rows store : List ℕ) (n : ℕ) (e : n ≡ 1) (d : Bool) (ed : d ≡ 
       zero-told : (v : Bool) → z ≡ v → number_zero (text_of token) ≡ v
       zero-told v o = ap number_zero (here-text rows store 0 number_kind number-text (told _ _ _ ek q)) ∙ told _ _ _ ez o
 
-      -- a number that is zero is a height, without a unit
-      pub height-zero : z ≡ true → Height true ≡ whole
+      -- a number is a height without a unit where it is zero
+      pub height-bare : then_some z true ≡ whole
       unfolding height_answer on_found height_of
-      height-zero o =
-          height-as (found true)
-          (pick-false _ _ _ _ (kind false p) (pick_true _ _ _ _ (number-kind true q) (pick_true _ _ _ _ (zero-told true o) refl)))
-
-      -- a number that is not zero is no height without a unit
-      pub height-bare : z ≡ false → NoHeight ≡ whole
-      unfolding height_answer on_found height_of
-      height-bare o =
-          height-as missing
-          (pick-false _ _ _ _ (kind false p) (pick_true _ _ _ _ (number-kind true q) (pick-false _ _ _ _ (zero-told false o) refl)))
+      height-bare = go z refl
+        where
+          go : (v : Bool) → z ≡ v → then_some v true ≡ whole
+          go true o =
+              height-as (found true)
+              (pick-false _ _ _ _ (kind false p) (pick_true _ _ _ _ (number-kind true q) (pick_true _ _ _ _ (zero-told true o) refl)))
+          go false o =
+              height-as missing
+              (pick-false _ _ _ _ (kind false p) (pick_true _ _ _ _ (number-kind true q) (pick-false _ _ _ _ (zero-told false o) refl)))
 
     -- a token that is neither a dimension nor a number is no height
-    pub height-neither : k ≡ false → NoHeight ≡ whole
+    pub height-neither : k ≡ false → None ≡ whole
     unfolding height_answer on_found height_of
     height-neither q = height-as missing (pick-false _ _ _ _ (kind false p) (pick-false _ _ _ _ (number-kind false q) refl))

@@ -1,20 +1,18 @@
 -- The mark `!important`, found in the last two of a value's token rows.
-use mathlib.Core.Path.{◌≡◌, refl, sym, ap, ◌∙◌}
+use mathlib.Core.Path.{◌≡◌, sym, ap, ◌∙◌}
 use mathlib.Core.Bool.{Bool, true, false}
 use mathlib.Core.List.{List, ◌∷◌}
 use Prim.Native.Nat.{ℕ, zero, suc, ◌+◌, ◌-◌, ◌*◌, ◌≤◌, ◌<◌}
 use native.Mathlib.Omega.{arith}
-use lib.ListN.{get_or, drop}
+use lib.ListN.{drop}
 use Rattle.combinators.specs.Ascii.{exclamation_mark}
-use Rattle.combinators.specs.Choice.{is}
-use Rattle.combinators.specs.Word.{same_text}
-use Rattle.combinators.proofs.Rules.{and_both, and_left, and_right, and-gives, is-yes, is-no, told}
+use Rattle.combinators.proofs.Rules.{and-gives, and-gives-false, told}
 use Rattle.characters.specs.Literal.{text}
-use Rattle.lexer.specs.TokenRow.{token_width, kind_column, first_column, ident_kind, delim_kind}
-use Rattle.values.specs.Words.{token_first, is_word, is_delim}
+use Rattle.lexer.specs.TokenRow.{token_width}
+use Rattle.values.specs.Words.{is_word, is_delim}
 use Rattle.values.specs.Value.{is_mark, is_important}
-use Rattle.values.specs.View.{token_here, first_text, tokens_at}
-use Rattle.values.proofs.TokenViews.{kind-told, here-text, here-delim, tokens-here, tokens_none, ident-text, delim-kind}
+use Rattle.values.specs.View.{token_here, tokens_at}
+use Rattle.values.proofs.TokenViews.{tokens-here, tokens_none}
 
 module _ (rows store : List ℕ) where
   -- the last two of two tokens and more, from p on
@@ -48,38 +46,14 @@ module _ (rows store : List ℕ) where
         let z : 0 + m ≡ m = omega arith in
         ap (λ k. is_important (tokens_at rows store k)) e ∙ last-two (n - 2) 0 ∙ rw z
 
-    -- the tests as the code makes them: the first is a delimiter
-    module _ (d : Bool) (ed : d ≡ is (get_or rows (m + kind_column) 0) delim_kind) where
-      -- where the last but one is no delimiter, there is no mark
-      pub mark-no-delim : d ≡ false → false ≡ is_important (tokens_at rows store n)
-      unfolding is_mark is_delim
-      mark-no-delim e = sym (mark-is ∙ and_left _ _ (and_left _ _ (kind-told rows store m delim_kind delim-kind d false ed e)))
+    -- two tests as the code makes them, d of the last but one and r of the last
+    module _ (d : Bool) (ed : d ≡ is_delim exclamation_mark (token_here rows store m)) where
+      -- where the last but one is no '!', there is no mark
+      pub mark-no-sign : d ≡ false → d ≡ is_important (tokens_at rows store n)
+      unfolding is_mark
+      mark-no-sign e = e ∙ and-gives-false _ _ (told _ _ _ ed e) ∙ sym mark-is
 
-      -- of this scalar value
-      module _ (e : d ≡ true) (x : ℕ) (ex : x ≡ get_or rows (m + first_column) 0) where
-        -- the scalar value of the last but one is the number in its row
-        sign-is : token_first (token_here rows store m) ≡ x
-        sign-is = here-delim rows store m (told _ _ _ ed e) ∙ sym ex
-
-        -- where that delimiter is no '!', there is no mark
-        pub mark-no-sign : ¬ (x ≡ exclamation_mark) → false ≡ is_important (tokens_at rows store n)
-        unfolding is_mark is_delim
-        mark-no-sign k = sym (mark-is ∙ and_left _ _ (and_right _ _ (is-no _ _ (λ z. k (sym sign-is ∙ z)))))
-
-        -- and the second is a name
-        module _ (k : x ≡ exclamation_mark) (i : Bool) (ei : i ≡ is (get_or rows (m + token_width + kind_column) 0) ident_kind) where
-          -- where no name stands behind the '!', there is no mark
-          pub mark-no-name : i ≡ false → false ≡ is_important (tokens_at rows store n)
-          unfolding is_mark is_word
-          mark-no-name f = sym (mark-is ∙ and_right _ _ (and_left _ _ (kind-told rows store (m + token_width) ident_kind ident-text.kind i false ei f)))
-
-          -- behind the exclamation mark a name decides by its text
-          pub mark-name : i ≡ true → (r : Bool) (v : List ℕ) → v ≡ first_text rows store (m + token_width) → r ≡ same_text v (text "important")
-              → r ≡ is_important (tokens_at rows store n)
-          unfolding is_mark is_delim is_word
-          mark-name f r v ev er =
-              let w = m + token_width in
-              let t = kind-told rows store w ident_kind ident-text.kind i true ei f in
-              let x = here-text rows store w ident_kind ident-text (told _ _ _ ei f) in
-              let g = and_both _ _ (kind-told rows store m delim_kind delim-kind d true ed e) (is-yes _ _ (sign-is ∙ k)) in
-              er ∙ rw (ev, ← x) (and-gives _ _ _ g (and-gives _ _ _ t refl)) ∙ sym mark-is
+      -- behind it the name decides
+      pub mark-name : d ≡ true → (r : Bool) → r ≡ is_word (text "important") (token_here rows store (m + token_width)) → r ≡ is_important (tokens_at rows store n)
+      unfolding is_mark
+      mark-name e r er = and-gives _ _ _ (told _ _ _ ed e) er ∙ sym mark-is

@@ -191,11 +191,11 @@ module _ (c : ℕ) (b : List ℕ) where
   closed-behind (suc zero) z e o h = (pick_true _ _ _ _ (is-yes _ _ (sym e)) (pick_true _ _ _ _ (is-yes _ _ h) refl), refl)
   closed-behind (suc (suc d)) z e o h = absurd (omega arith)
 
-  -- the last one awaited, where it is no '}': the statement goes on with none awaited
-  pub closed-last : (d : ℕ) → ¬ (d ≡ 0) → get_or b (d - 1) 0 ≡ c → d - 1 ≡ 0 → ¬ (c ≡ right_curly_bracket) → Closed c b d (Next 0)
+  -- the last one awaited, where it is no '}': the statement goes on
+  pub closed-last : (d : ℕ) → ¬ (d ≡ 0) → get_or b (d - 1) 0 ≡ c → d - 1 ≡ 0 → ¬ (c ≡ right_curly_bracket) → Closed c b d (Next (d - 1))
   unfolding closing awaited step_to deep
   closed-last zero z e o h = absurd (z refl)
-  closed-last (suc zero) z e o h = (pick_true _ _ _ _ (is-yes _ _ (sym e)) (pick-false _ _ _ _ (is-no _ _ h) refl), refl)
+  closed-last (suc zero) z e o h = (rw o (pick_true _ _ _ _ (is-yes _ _ (sym e)) (pick-false _ _ _ _ (is-no _ _ h) refl)), refl)
   closed-last (suc (suc d)) z e o h = absurd (omega arith)
 
   -- one inside another: the statement goes on with one fewer awaited

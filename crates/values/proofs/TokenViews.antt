@@ -1,20 +1,24 @@
 -- What the code reads off a token's row: its kind, its texts, and the rows behind it.
 use mathlib.Core.Path.{◌≡◌, refl, sym, ap, ◌∙◌}
-use mathlib.Core.Bool.{Bool, true}
+use mathlib.Core.Bool.{Bool, true, false}
 use mathlib.Core.List.{List, [], ◌∷◌}
-use Prim.Native.Nat.{ℕ, suc, ◌+◌}
+use Prim.Native.Nat.{ℕ, suc, ◌+◌, ◌-◌, ◌*◌, ◌<◌, ◌≤◌}
 use native.Mathlib.Omega.{arith}
+use lib.Dec.{eqb}
 use lib.ListN.{get_or, drop}
+use lib.Pointwise.{pointwise}
 use lib.Seq.{get_or-drop, drop-drop, take-append_seam, drop-append_seam}
 use Rattle.combinators.specs.Choice.{pick, is}
+use Rattle.combinators.specs.Word.{same_text}
 use Rattle.combinators.specs.Part.{part}
-use Rattle.combinators.proofs.Rules.{pick-holds, is-yes, is_true, same_test, told}
+use Rattle.combinators.proofs.Rules.{pick-holds, is-yes, is_true, same_test, and-gives, and-gives-false, told}
 use Rattle.lexer.specs.Token.{coded, text_of}
 use Rattle.lexer.specs.TokenRow.{token_width, kind_column, start_column, first_column, second_column, ident_kind, function_kind, hash_kind, string_kind, bad_string_kind, delim_kind, number_kind, dimension_kind, percentage_kind, cdo_kind, cdc_kind, colon_kind, semicolon_kind, comma_kind, open_square_kind, close_square_kind, open_round_kind, close_round_kind, open_brace_kind, close_brace_kind, columns_of, mark_from, token_from, token_in}
 use Rattle.lexer.specs.declared.tokens.Token as lexer
 use Rattle.lexer.specs.declared.tokens.Token.TheVariants as code
 use Rattle.syntax.specs.Stream.{read_many}
-use Rattle.values.specs.Words.{kind_of, token_first, number_of, unit_of, is_kind}
+use Rattle.values.specs.Words.{kind_of, token_first, number_of, unit_of, is_kind, is_word, is_delim}
+use Rattle.values.proofs.WordLaws.{same_bytes}
 use Rattle.values.specs.View.{token_with, read_token, token_here, first_text, second_text, tokens_at}
 
 -- ---- kinds
@@ -175,6 +179,32 @@ module _ (rows store : List ℕ) (p : ℕ) where
   unfolding token_first columns_of coded token_with token_from pick is
   here-delim e = ap token_first (here-as delim_kind e)
 
+  -- the tests of a delimiter c, as the code makes them
+  module _ (c : ℕ) (d : Bool) (ed : d ≡ is kind delim_kind) where
+    -- no delimiter is not c
+    pub no-delim : d ≡ false → d ≡ is_delim c (token_here rows store p)
+    unfolding is_delim
+    no-delim e = e ∙ and-gives-false _ _ (kind-told delim_kind delim-kind d false ed e)
+
+    -- the number in a delimiter's row decides
+    pub delim-by-number : d ≡ true → (x : ℕ) → x ≡ first → is x c ≡ is_delim c (token_here rows store p)
+    unfolding is_delim
+    delim-by-number e x ex = and-gives _ _ _ (kind-told delim_kind delim-kind d true ed e) (ap (λ n. is n c) (ex ∙ sym (here-delim (told _ _ _ ed e))))
+
+  -- the tests of a name w, as the code makes them
+  module _ (w : List ℕ) (i : Bool) (ei : i ≡ is kind ident_kind) where
+    -- no name is not w
+    pub no-word : i ≡ false → i ≡ is_word w (token_here rows store p)
+    unfolding is_word
+    no-word e = e ∙ and-gives-false _ _ (kind-told ident_kind ident-text.kind i false ei e)
+
+    -- a name's text decides
+    pub word-by-text : i ≡ true → (t : List ℕ) → t ≡ first_text rows store p → (r : Bool) → r ≡ pointwise eqb t w → r ≡ is_word w (token_here rows store p)
+    unfolding is_word
+    word-by-text e t et r er =
+        and-gives _ _ _ (kind-told ident_kind ident-text.kind i true ei e)
+        (er ∙ same_bytes t w ∙ ap (λ u. same_text u w) (et ∙ sym (here-text ident_kind ident-text (told _ _ _ ei e))))
+
   -- the code cuts its text from the store by two numbers of its row
   pub text-cut : (s n : ℕ) → s ≡ start → n ≡ first → (t : List ℕ) → t ≡ part store s n → t ≡ first_text rows store p
   unfolding first_text
@@ -194,3 +224,16 @@ module _ (rows store : List ℕ) (p : ℕ) where
 pub tokens_none : (rows store : List ℕ) → tokens_at rows store 0 ≡ []
 unfolding tokens_at read_many
 tokens_none rows store = refl
+
+-- the tokens from the i-th on are this one and those behind it
+pub next-token : (rows store : List ℕ) (n i : ℕ) → i < n
+    → tokens_at (drop (i * token_width) rows) store (n - i)
+    ≡ token_here rows store (i * token_width) ∷ tokens_at (drop ((i + 1) * token_width) rows) store (n - (i + 1))
+next-token rows store n i h =
+    let left : n - i ≡ suc (n - (i + 1)) = omega arith in
+    let at : i * token_width + token_width ≡ (i + 1) * token_width = omega arith in
+    rw left (tokens-here rows store (i * token_width) (n - (i + 1)) ∙ ap (λ p. token_here rows store (i * token_width) ∷ tokens_at (drop p rows) store (n - (i + 1))) at)
+
+-- behind the last there are none
+pub no-token : (rows store : List ℕ) (n i : ℕ) → n ≤ i → tokens_at (drop (i * token_width) rows) store (n - i) ≡ []
+no-token rows store n i h = let left : n - i ≡ 0 = omega arith in rw left (tokens_none _ store)

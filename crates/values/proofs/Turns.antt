@@ -5,7 +5,7 @@ use mathlib.Core.Bool.{Bool, true, false}
 use Prim.Native.Nat.{ℕ, zero, suc, ◌+◌, ◌-◌, ◌^◌, ◌<◌, ◌≤◌}
 use native.Mathlib.Nat.{add-zero}
 use native.Mathlib.Omega.{arith}
-use lib.ListN.{length, get_or, drop, length-drop, length-append}
+use lib.ListN.{length, get_or, take, drop, length-drop, length-append}
 use lib.Seq.{sets, drop-drop, get_or-drop}
 use Rattle.combinators.specs.Ascii.{reverse_solidus}
 use Rattle.combinators.specs.Choice.{pick}
@@ -18,24 +18,26 @@ use Rattle.lexer.specs.Token.{Token, token_of, coded, text_of, token_text, lexed
 use Rattle.lexer.specs.TokenRow.{row_of, token_row}
 use Rattle.lexer.specs.Whitespace.{skip_whitespace}
 use Rattle.lexer.specs.declared.tokens.Token as lexer
-use Rattle.lexer.specs.declared.tokens.Lexed.TheVariants.{At, Nothing}
+use Rattle.lexer.specs.declared.tokens.Lexed.{Lexed}
 use Rattle.lexer.proofs.Bounds.{Bound, short, lone, Fits}
 use Rattle.lexer.proofs.Comments.{skip-le}
 use Rattle.lexer.proofs.TokenBounds.{token-fits}
 use Rattle.syntax.specs.Stream.{rows_many, texts_many}
 use Rattle.values.specs.Value.{Placed, bracket_by, bracket_of, Step, next, before, behind, wrong, step_of, Statement, stop, cons, on_step, scan, statement_of}
-use Rattle.values.specs.Layout.{length_by, awaited, pushed, depth, step_to, deep, Moved, rows_of, texts_of, brackets_after, Left, left, Room, taken_by, count_by, text_by, slack, Bounds}
+use Rattle.values.specs.Layout.{length_by, awaited, pushed, depth, step_to, deep, Moved, rows_of, texts_of, brackets_after, Left, left, statement_answer, Room, taken_by, count_by, text_by, slack, Bounds}
 use Rattle.values.specs.declared.statements.Step as declared-step
 use Rattle.values.specs.declared.statements.Step.TheVariants.{Next, Before, Behind, Wrong}
-use Rattle.values.specs.declared.statements.StatementAnswer.{StatementAnswer}
-use Rattle.values.specs.declared.statements.StatementAnswer.TheVariants as answer
+use Rattle.std.specs.Prelude.{Option, Some, None, Result, Ok, Err}
+use Rattle.combinators.proofs.Lists.{rest}
+use Rattle.values.specs.declared.statements.Statement as declared
+use Rattle.values.specs.declared.statements.Unbalanced.{Unbalanced}
 use Rattle.values.proofs.Nesting.{length-coded, no_text, unpushed, depth_le}
 
 -- ---- what is left of a statement leaves, where n tokens with t bytes of text were read and d brackets are awaited
 unfoldable pub leaves : Statement → Store → ℕ → List ℕ → ℕ → List ℕ → ℕ → ℕ → Left
 leaves r o n b d st fill t =
     record {
-      answer = pick r.balanced (answer.Statement r.taken (n + length r.tokens) (t + length (texts_of r.tokens))) (answer.Unbalanced r.taken (n + length r.tokens) (t + length (texts_of r.tokens)));
+      answer = pick r.balanced (Ok (record { taken = r.taken; count = n + length r.tokens; text = t + length (texts_of r.tokens) })) (Err (record { taken = r.taken; count = n + length r.tokens; text = t + length (texts_of r.tokens) }));
       rows = (emits o (rows_of (fill + t) r.tokens)).bytes;
       brackets = brackets_after r.tokens b d;
       store = sets st (fill + t) (texts_of r.tokens);
@@ -43,7 +45,7 @@ leaves r o n b d st fill t =
 
 -- from empty stores on, what a statement leaves is what the definition says
 leaves_all : (r : Statement) (rows b st : List ℕ) (fill : ℕ) → leaves r (record { bytes = rows; fill = 0 }) 0 b 0 st fill 0 ≡ left r rows b st fill
-unfolding leaves left
+unfolding leaves left statement_answer
 leaves_all r rows b st fill =
     let e₁ : 0 + length r.tokens ≡ length r.tokens = omega arith in
     let e₂ : 0 + length (texts_of r.tokens) ≡ length (texts_of r.tokens) = omega arith in
@@ -51,12 +53,12 @@ leaves_all r rows b st fill =
 
 module _ (o : Store) (n : ℕ) (b : List ℕ) (d : ℕ) (st : List ℕ) (fill t : ℕ) where
   -- a statement that ends here leaves the stores as they are
-  leaves-stop : (at : ℕ) → leaves (stop at true) o n b d st fill t ≡ record { answer = answer.Statement at n t; rows = o.bytes; brackets = b; store = st }
+  leaves-stop : (at : ℕ) → leaves (stop at true) o n b d st fill t ≡ record { answer = Ok (record { taken = at; count = n; text = t }); rows = o.bytes; brackets = b; store = st }
   unfolding leaves stop pick rows_many texts_many brackets_after
   leaves-stop at = rw (add-zero n, add-zero t, emits_none o)
 
   -- a statement that ends here with a wrong bracket leaves the stores as they are, and says so
-  leaves-wrong : (at : ℕ) → leaves (stop at false) o n b d st fill t ≡ record { answer = answer.Unbalanced at n t; rows = o.bytes; brackets = b; store = st }
+  leaves-wrong : (at : ℕ) → leaves (stop at false) o n b d st fill t ≡ record { answer = Err (record { taken = at; count = n; text = t }); rows = o.bytes; brackets = b; store = st }
   unfolding leaves stop pick rows_many texts_many brackets_after
   leaves-wrong at = rw (add-zero n, add-zero t, emits_none o)
 
@@ -138,17 +140,23 @@ record Reads (s : List ℕ) (w m : ℕ) (k : lexer.Token) : Type 0 where
   starts : w ≡ skip_whitespace s
 
 -- what the lexer's answer says
-reads-from : (s : List ℕ) (p : Parsed Token) → token_of s ≡ p → (w m : ℕ) (k : lexer.Token) → At w m k ≡ lexed_answer (skip_whitespace s) p → Reads s w m k
+reads-from : (s : List ℕ) (p : Parsed Token) → token_of s ≡ p → (w m : ℕ) (k : lexer.Token)
+    → Some (record { start = w; end = m; token = k }) ≡ lexed_answer (skip_whitespace s) p → Reads s w m k
 unfolding lexed_answer
 reads-from s (ok n x) h w m k e =
-    let q : m ≡ n = cc in
-    record { token = x; reads = rw q h; same = cc; starts = cc }
-reads-from s err h w m k e = absurd (let z : ◌≡◌ {A = ℕ} 0 1 = cc in omega arith)
+    let l : ◌≡◌ {A = Lexed} (record { start = w; end = m; token = k }) (record { start = skip_whitespace s; end = n; token = coded x }) = cc in
+    record {
+      token = x;
+      reads = rw (ap (λ (r : Lexed). r.end) l) h;
+      same = ap (λ (r : Lexed). r.token) l;
+      starts = ap (λ (r : Lexed). r.start) l;
+    }
+reads-from s err h w m k e = absurd (cc)
 
 -- an answer without a token says that none reads
-reads_none : (p : Parsed Token) (w : ℕ) → Nothing ≡ lexed_answer w p → p ≡ err
+reads_none : (p : Parsed Token) (w : ℕ) → None ≡ lexed_answer w p → p ≡ err
 unfolding lexed_answer
-reads_none (ok n x) w e = absurd (let z : ◌≡◌ {A = ℕ} 0 1 = cc in omega arith)
+reads_none (ok n x) w e = absurd (cc)
 reads_none err w e = refl
 
 -- a step that the code's answer says
@@ -196,7 +204,10 @@ more-turns n taken (suc j) h g = (j, refl)
 
 module _ {s : List ℕ} {include : Bool} {rows₀ brackets₀ store₀ : List ℕ} {fill : ℕ} {rows brackets store : List ℕ} {taken count place d text : ℕ}
     (c : Running s include rows₀ brackets₀ store₀ fill rows brackets store taken count place d text) where
-  -- the text that is ahead, the brackets awaited, the rows
+  -- the text that is ahead, which is lent to the lexer, the brackets awaited, the rows
+  abbrev pub lent : List ℕ
+  lent = take (length s - taken) (drop taken s)
+
   abbrev ahead : List ℕ
   ahead = drop taken s
 
@@ -207,11 +218,11 @@ module _ {s : List ℕ} {include : Bool} {rows₀ brackets₀ store₀ : List �
   written = record { bytes = rows; fill = place }
 
   -- what a return leaves, and its bounds
-  abbrev Ends : StatementAnswer → List ℕ → List ℕ → List ℕ → Type 0
+  abbrev Ends : Result declared.Statement Unbalanced → List ℕ → List ℕ → List ℕ → Type 0
   Ends r x b z = (record { answer = r; rows = x; brackets = b; store = z } ≡ left (statement_of include s) rows₀ brackets₀ store₀ fill) × Bounds s r
 
   -- the bounds where the statement ends here
-  bounds-here : Bounds s (answer.Statement taken count text)
+  bounds-here : Bounds s (Ok (record { taken = taken; count = count; text = text }))
   unfolding taken_by count_by text_by
   bounds-here = record { taken = c.within; count = c.counted; text = c.long }
 
@@ -225,21 +236,22 @@ module _ {s : List ℕ} {include : Bool} {rows₀ brackets₀ store₀ : List �
   place-fits r = omega (arith, c.long, c.within, slack-two s taken, r.bits)
 
   -- no token; z is the store that the lexer left
-  pub ends-none : {z : List ℕ} → z ≡ sets store (fill + text) (token_text (token_of ahead)) → Nothing ≡ lexed_answer (skip_whitespace ahead) (token_of ahead)
-      → Ends (answer.Statement taken count text) rows brackets z
+  pub ends-none : {z : List ℕ} → z ≡ sets store (fill + text) (token_text (token_of lent)) → (r : Option Lexed)
+      → r ≡ lexed_answer (skip_whitespace lent) (token_of lent) → r ≡ None → Ends (Ok (record { taken = taken; count = count; text = text })) rows brackets z
   unfolding token_text
-  ends-none {z} ez e =
-      let x = reads_none (token_of ahead) _ e in
-      let p : z ≡ store = ez ∙ rw x in (
+  ends-none {z} ez r er e =
+      let x = reads_none (token_of ahead) _ (rw rest at (sym e ∙ er)) in
+      let p : z ≡ store = ez ∙ rw (rest, x) in (
         rw p (sym (leaves-stop written count brackets d store fill text taken) ∙ whole_is _ (scan-none include ahead taken inner c.turns x)),
         bounds-here,
       )
 
   -- ---- a token was read: what its turn leaves
-  module _ {w m : ℕ} {k : lexer.Token} (e : At w m k ≡ lexed_answer (skip_whitespace ahead) (token_of ahead)) where
+  module _ {a : Option Lexed} (ea : a ≡ lexed_answer (skip_whitespace lent) (token_of lent)) {w m : ℕ} {k : lexer.Token}
+      (e : a ≡ Some (record { start = w; end = m; token = k })) where
     -- the token, its bounds, and the code's token
     read : Reads ahead w m k
-    read = reads-from ahead _ refl w m k e
+    read = reads-from ahead _ refl w m k (rw rest at (sym e ∙ ea))
 
     abbrev t : Token
     t = read.token
@@ -315,11 +327,11 @@ module _ {s : List ℕ} {include : Bool} {rows₀ brackets₀ store₀ : List �
     brackets-are : (b : List ℕ) (r : declared-step.Step) → Moved include (bracket_by k) brackets d b r → b ≡ pushed (bracket_of t) brackets d
     brackets-are b r v = v.store ∙ ap (λ x. pushed x brackets d) bracket-is
 
-    module _ {z : List ℕ} (ez : z ≡ sets store (fill + text) (token_text (token_of ahead))) where
+    module _ {z : List ℕ} (ez : z ≡ sets store (fill + text) (token_text (token_of lent))) where
       -- its text is in the store
       text-is : z ≡ sets store (fill + text) (text_of t)
       unfolding token_text
-      text-is = ez ∙ ap (λ p. sets store (fill + text) (token_text p)) read.reads
+      text-is = ez ∙ ap (λ l. sets store (fill + text) (token_text (token_of l))) (rest s taken) ∙ ap (λ p. sets store (fill + text) (token_text p)) read.reads
 
       -- a token at which the statement does not go on leaves the stores
       unwritten : (b : List ℕ) (x : Step) → x ≡ step_of include (bracket_of t) inner → ((ds : List ℕ) → ¬ (x ≡ next ds))
@@ -330,7 +342,7 @@ module _ {s : List ℕ} {include : Bool} {rows₀ brackets₀ store₀ : List �
       )
 
       -- the return at a token before which the statement ends
-      pub ends-before : {b : List ℕ} → Moved include (bracket_by k) brackets d b Before → Ends (answer.Statement taken count text) rows b z
+      pub ends-before : {b : List ℕ} → Moved include (bracket_by k) brackets d b Before → Ends (Ok (record { taken = taken; count = count; text = text })) rows b z
       unfolding step_to
       ends-before {b} v =
           let h = step_is b Before v in
@@ -342,7 +354,7 @@ module _ {s : List ℕ} {include : Bool} {rows₀ brackets₀ store₀ : List �
           )
 
       -- the return at a wrong bracket: the statement ends before it, unbalanced
-      pub ends-wrong : {b : List ℕ} → Moved include (bracket_by k) brackets d b Wrong → Ends (answer.Unbalanced taken count text) rows b z
+      pub ends-wrong : {b : List ℕ} → Moved include (bracket_by k) brackets d b Wrong → Ends (Err (record { taken = taken; count = count; text = text })) rows b z
       unfolding step_to taken_by count_by text_by
       ends-wrong {b} v =
           let h = step_is b Wrong v in
@@ -372,7 +384,7 @@ module _ {s : List ℕ} {include : Bool} {rows₀ brackets₀ store₀ : List �
 
         -- the return at a token behind which the statement ends
         pub ends-behind : {b : List ℕ} → Moved include (bracket_by k) brackets d b Behind
-            → Ends (answer.Statement (taken + m) (count + 1) (text + l)) x b z
+            → Ends (Ok (record { taken = taken + m; count = count + 1; text = text + l })) x b z
         unfolding step_to taken_by count_by text_by
         ends-behind {b} v =
             let h = step_is b Behind v in

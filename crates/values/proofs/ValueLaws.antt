@@ -8,49 +8,55 @@ use lib.ListN.{length}
 use lib.Seq.{length-sets}
 use Rattle.combinators.specs.Choice.{pick}
 use Rattle.values.specs.Value.{Statement, statement_of, tokens_of, is_important}
-use Rattle.values.specs.Layout.{rows_of, texts_of, Left, left, value_answer, value_left, Room}
+use Rattle.values.specs.Layout.{rows_of, texts_of, Left, left, statement_answer, value_answer, value_left, Room}
 use Rattle.values.specs.View.{Counted, tokens_at}
-use Rattle.values.specs.declared.statements.StatementAnswer.{StatementAnswer}
-use Rattle.values.specs.declared.statements.StatementAnswer.TheVariants as answer
-use Rattle.values.specs.declared.statements.ValueAnswer.{ValueAnswer}
-use Rattle.values.specs.declared.statements.ValueAnswer.TheVariants as value
+use Rattle.std.specs.Prelude.{Result, Ok, Err}
+use Rattle.values.specs.declared.statements.Statement as declared
+use Rattle.values.specs.declared.statements.Unbalanced.{Unbalanced}
+use Rattle.values.specs.declared.statements.Value as value
 use Rattle.values.proofs.Views.{statement-back}
 use Rattle.values.proofs.Sizes.{statement-sized, rows_long}
 
--- an answer's numbers, by whether the brackets were right
-record Whole (v : Bool) (p q t n k m : ℕ) : Type 0 where
-  balanced : v ≡ true
-  taken : n ≡ p
-  count : k ≡ q
-  text : m ≡ t
+-- an answer with a statement comes of right brackets alone, and has its numbers
+pub record Whole (r : Statement) (n : declared.Statement) : Type 0 where
+  pub balanced : r.balanced ≡ true
+  pub taken : n.taken ≡ r.taken
+  pub count : n.count ≡ length r.tokens
+  pub text : n.text ≡ length (texts_of r.tokens)
 
--- an answer with a statement comes of right brackets alone, and has the numbers of that case
-whole : (v : Bool) (p q t n k m : ℕ) → answer.Statement n k m ≡ pick v (answer.Statement p q t) (answer.Unbalanced p q t) → Whole v p q t n k m
-unfolding pick
-whole true p q t n k m e = record { balanced = refl; taken = cc; count = cc; text = cc }
-whole false p q t n k m e = absurd (let z : ◌≡◌ {A = ℕ} 0 1 = cc in omega arith)
+pub whole : (r : Statement) (n : declared.Statement) → Ok n ≡ statement_answer r → Whole r n
+unfolding statement_answer
+whole r n = go r.balanced refl
+  where
+    go : (v : Bool) → r.balanced ≡ v → ◌≡◌ {A = Result declared.Statement Unbalanced} (Ok n) (pick v (Ok (record { taken = r.taken; count = length r.tokens; text = length (texts_of r.tokens) })) (Err (record { taken = r.taken; count = length r.tokens; text = length (texts_of r.tokens) }))) → Whole r n
+    go true b e = unfold pick in let q : n ≡ record { taken = r.taken; count = length r.tokens; text = length (texts_of r.tokens) } = cc in record { balanced = b; taken = ap (λ (m : declared.Statement). m.taken) q; count = ap (λ (m : declared.Statement). m.count) q; text = ap (λ (m : declared.Statement). m.text) q }
+    go false b e = unfold pick in absurd (cc)
 
-record Broken (v : Bool) (q t k m : ℕ) : Type 0 where
-  balanced : v ≡ false
-  count : k ≡ q
-  text : m ≡ t
+-- an answer without one comes of a wrong bracket alone, and has its numbers
+pub record Broken (r : Statement) (n : Unbalanced) : Type 0 where
+  pub balanced : r.balanced ≡ false
+  pub taken : n.taken ≡ r.taken
+  pub count : n.count ≡ length r.tokens
+  pub text : n.text ≡ length (texts_of r.tokens)
 
--- an answer without one comes of a wrong bracket alone, and has its counts
-broken : (v : Bool) (p q t n k m : ℕ) → answer.Unbalanced n k m ≡ pick v (answer.Statement p q t) (answer.Unbalanced p q t) → Broken v q t k m
-unfolding pick
-broken true p q t n k m e = absurd (let z : ◌≡◌ {A = ℕ} 0 1 = cc in omega arith)
-broken false p q t n k m e = record { balanced = refl; count = cc; text = cc }
+pub broken : (r : Statement) (n : Unbalanced) → Err n ≡ statement_answer r → Broken r n
+unfolding statement_answer
+broken r n = go r.balanced refl
+  where
+    go : (v : Bool) → r.balanced ≡ v → ◌≡◌ {A = Result declared.Statement Unbalanced} (Err n) (pick v (Ok (record { taken = r.taken; count = length r.tokens; text = length (texts_of r.tokens) })) (Err (record { taken = r.taken; count = length r.tokens; text = length (texts_of r.tokens) }))) → Broken r n
+    go true b e = unfold pick in absurd (cc)
+    go false b e = unfold pick in let q : n ≡ record { taken = r.taken; count = length r.tokens; text = length (texts_of r.tokens) } = cc in record { balanced = b; taken = ap (λ (m : Unbalanced). m.taken) q; count = ap (λ (m : Unbalanced). m.count) q; text = ap (λ (m : Unbalanced). m.text) q }
 
 -- the answer of a value
-value-whole : (r : Statement) (n k m : ℕ) → Whole r.balanced r.taken (length r.tokens) (length (texts_of r.tokens)) n k m → (i : Bool) → i ≡ is_important (tokens_of r.tokens)
-    → value.Value n k m i ≡ value_answer r
+value-whole : (r : Statement) (n : declared.Statement) → Whole r n → (i : Bool) → i ≡ is_important (tokens_of r.tokens)
+    → Ok (record { taken = n.taken; count = n.count; text = n.text; important = i }) ≡ value_answer r
 unfolding value_answer pick
-value-whole r n k m h i e = rw (h.balanced, h.taken, h.count, h.text, e)
+value-whole r n h i e = rw (h.balanced, h.taken, h.count, h.text, e)
 
--- where a bracket is wrong, no value is answered, with the count of the tokens and the bytes of their texts
-value-broken : (r : Statement) (k m : ℕ) → Broken r.balanced (length r.tokens) (length (texts_of r.tokens)) k m → value.NoValue k m ≡ value_answer r
+-- where a bracket is wrong, no value is answered, with the numbers of what stands before it
+value-broken : (r : Statement) (n : Unbalanced) → Broken r n → Err n ≡ value_answer r
 unfolding value_answer pick
-value-broken r k m h = rw (h.balanced, h.count, h.text)
+value-broken r n h = rw (h.balanced, ← h.taken, ← h.count, ← h.text)
 
 -- the room that a statement takes
 module _ (include : Bool) (s rows brackets store : List ℕ) (fill : ℕ) (room : Room (length s) fill rows brackets store) where
@@ -69,9 +75,9 @@ module _ (include : Bool) (s rows brackets store : List ℕ) (fill : ℕ) (room 
   pub texts-bits : fill + length (texts_of r.tokens) < 2 ^ 32
   texts-bits = omega (arith, (statement-sized include s).text, room.bits)
 
-  module _ {a : StatementAnswer} {x b z : List ℕ} (e : record { answer = a; rows = x; brackets = b; store = z } ≡ left r rows brackets store fill) where
+  module _ {a : Result declared.Statement Unbalanced} {x b z : List ℕ} (e : record { answer = a; rows = x; brackets = b; store = z } ≡ left r rows brackets store fill) where
     -- its answer and its stores
-    said : a ≡ pick r.balanced (answer.Statement r.taken (length r.tokens) (length (texts_of r.tokens))) (answer.Unbalanced r.taken (length r.tokens) (length (texts_of r.tokens)))
+    said : a ≡ statement_answer r
     unfolding left
     said = ap (λ (l : Left). l.answer) e
 
@@ -88,17 +94,17 @@ module _ (include : Bool) (s rows brackets store : List ℕ) (fill : ℕ) (room 
     same_store = ap (λ (l : Left). l.store) e
 
     -- with an answer of its own
-    left_as : (v : ValueAnswer) → v ≡ value_answer r → record { answer = v; rows = x; brackets = b; store = z } ≡ value_left r rows brackets store fill
+    left_as : (v : Result value.Value Unbalanced) → v ≡ value_answer r → record { answer = v; rows = x; brackets = b; store = z } ≡ value_left r rows brackets store fill
     unfolding value_left
     left_as v ev = rw (ev, same_rows, same-brackets, same_store)
 
-    module _ {n k m : ℕ} (ea : a ≡ answer.Statement n k m) where
+    module _ {n : declared.Statement} (ea : a ≡ Ok n) where
       -- the answer's numbers are those of a statement with right brackets
-      numbers : Whole r.balanced r.taken (length r.tokens) (length (texts_of r.tokens)) n k m
-      numbers = whole r.balanced _ _ _ n k m (sym ea ∙ said)
+      numbers : Whole r n
+      numbers = whole r n (sym ea ∙ said)
 
       -- the rows hold the tokens
-      pub value-counted : Counted x k
+      pub value-counted : Counted x n.count
       unfolding left
       value-counted =
           let h = statement-sized include s in
@@ -106,15 +112,16 @@ module _ (include : Bool) (s rows brackets store : List ℕ) (fill : ℕ) (room 
           record { inside = omega (arith, numbers.count, h.counted, h.within, room.for-tokens) }
 
       -- the rows read back as the tokens of the value
-      back : tokens_at x z k ≡ tokens_of r.tokens
+      back : tokens_at x z n.count ≡ tokens_of r.tokens
       back =
           rw (same_rows, same_store, numbers.count)
           (statement-back include s rows brackets store fill rows-room texts-room texts-bits)
 
       -- the return where the brackets are right: a value, with the mark that its last tokens say
-      pub value-left : {i : Bool} → i ≡ is_important (tokens_at x z k) → record { answer = value.Value n k m i; rows = x; brackets = b; store = z } ≡ value_left r rows brackets store fill
-      value-left {i} ei = left_as _ (value-whole r n k m numbers i (ei ∙ ap is_important back))
+      pub value-left : {i : Bool} → i ≡ is_important (tokens_at x z n.count)
+          → record { answer = Ok (record { taken = n.taken; count = n.count; text = n.text; important = i }); rows = x; brackets = b; store = z } ≡ value_left r rows brackets store fill
+      value-left {i} ei = left_as _ (value-whole r n numbers i (ei ∙ ap is_important back))
 
     -- the return where a bracket was wrong: no value
-    pub no-value-left : {n k m : ℕ} → a ≡ answer.Unbalanced n k m → record { answer = value.NoValue k m; rows = x; brackets = b; store = z } ≡ value_left r rows brackets store fill
-    no-value-left {n} {k} {m} ea = left_as _ (value-broken r k m (broken r.balanced _ _ _ n k m (sym ea ∙ said)))
+    pub no-value-left : {n : Unbalanced} → a ≡ Err n → record { answer = Err n; rows = x; brackets = b; store = z } ≡ value_left r rows brackets store fill
+    no-value-left {n} ea = left_as _ (value-broken r n (broken r n (sym ea ∙ said)))

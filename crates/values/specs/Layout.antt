@@ -1,5 +1,5 @@
 -- How a statement lies in lent stores: its tokens in rows, their texts one behind the other, and the brackets awaited.
-use Rattle.std.specs.Prelude.{ℕ, zero, suc, ◌+◌, ◌-◌, ◌*◌, ◌^◌, ◌≤◌, ◌<◌, Bool, true, List, [], ◌∷◌, ◌≡◌, refl, length, get_or, set}
+use Rattle.std.specs.Prelude.{ℕ, zero, suc, ◌+◌, ◌-◌, ◌*◌, ◌^◌, ◌≤◌, ◌<◌, Bool, true, Result, Ok, Err, List, [], ◌∷◌, ◌≡◌, refl, length, get_or, set}
 use Rattle.std.proofs.lemmas.List.Edits.{sets}
 use Rattle.combinators.specs.Ascii.{right_parenthesis, reverse_solidus}
 use Rattle.combinators.specs.Choice.{pick, and, is}
@@ -13,10 +13,9 @@ use Rattle.values.specs.declared.statements.Bracket as declared-bracket
 use Rattle.values.specs.declared.statements.Bracket.TheVariants.{Opens, Closes, Ends, NoBracket}
 use Rattle.values.specs.declared.statements.Step as declared-step
 use Rattle.values.specs.declared.statements.Step.TheVariants.{Next, Before, Behind, Wrong}
-use Rattle.values.specs.declared.statements.StatementAnswer.{StatementAnswer}
-use Rattle.values.specs.declared.statements.StatementAnswer.TheVariants as answer
-use Rattle.values.specs.declared.statements.ValueAnswer.{ValueAnswer}
-use Rattle.values.specs.declared.statements.ValueAnswer.TheVariants as value
+use Rattle.values.specs.declared.statements.Statement as declared-statement
+use Rattle.values.specs.declared.statements.Unbalanced.{Unbalanced}
+use Rattle.values.specs.declared.statements.Value as declared-value
 
 -- ---- a token as the code has it: the bytes of its texts
 unfoldable pub length_by : lexer.Token → ℕ
@@ -113,9 +112,16 @@ unfoldable pub brackets_after : List Placed → List ℕ → ℕ → List ℕ
 brackets_after [] b d = b
 brackets_after (t ∷ ts) b d = brackets_after ts (pushed (bracket_of t.token) b d) (depth (bracket_of t.token) d)
 
+-- the numbers of a statement with right brackets, and with a wrong one
+unfoldable pub statement_answer : Statement → Result declared-statement.Statement Unbalanced
+statement_answer r =
+    pick r.balanced
+    (Ok (record { taken = r.taken; count = length r.tokens; text = length (texts_of r.tokens) }))
+    (Err (record { taken = r.taken; count = length r.tokens; text = length (texts_of r.tokens) }))
+
 -- the answer, and the three stores
 pub record Left : Type 0 where
-  pub answer : StatementAnswer
+  pub answer : Result declared-statement.Statement Unbalanced
   pub rows : List ℕ
   pub brackets : List ℕ
   pub store : List ℕ
@@ -123,20 +129,21 @@ pub record Left : Type 0 where
 unfoldable pub left : Statement → List ℕ → List ℕ → List ℕ → ℕ → Left
 left r rows brackets store fill =
     record {
-      answer = pick r.balanced (answer.Statement r.taken (length r.tokens) (length (texts_of r.tokens))) (answer.Unbalanced r.taken (length r.tokens) (length (texts_of r.tokens)));
+      answer = statement_answer r;
       rows = sets rows 0 (rows_of fill r.tokens);
       brackets = brackets_after r.tokens brackets 0;
       store = sets store fill (texts_of r.tokens);
     }
 
 -- what a value leaves: an answer of its own, and the same in the stores
-unfoldable pub value_answer : Statement → ValueAnswer
+unfoldable pub value_answer : Statement → Result declared-value.Value Unbalanced
 value_answer r =
-    pick r.balanced (value.Value r.taken (length r.tokens) (length (texts_of r.tokens)) (is_important (tokens_of r.tokens)))
-    (value.NoValue (length r.tokens) (length (texts_of r.tokens)))
+    pick r.balanced
+    (Ok (record { taken = r.taken; count = length r.tokens; text = length (texts_of r.tokens); important = is_important (tokens_of r.tokens) }))
+    (Err (record { taken = r.taken; count = length r.tokens; text = length (texts_of r.tokens) }))
 
 pub record ValueLeft : Type 0 where
-  pub answer : ValueAnswer
+  pub answer : Result declared-value.Value Unbalanced
   pub rows : List ℕ
   pub brackets : List ℕ
   pub store : List ℕ
@@ -155,12 +162,12 @@ case : left
     })
     (1 ∷ 1 ∷ 1 ∷ 1 ∷ 1 ∷ 1 ∷ 1 ∷ 1 ∷ 1 ∷ 1 ∷ 1 ∷ 1 ∷ 1 ∷ 1 ∷ 1 ∷ 1 ∷ []) (1 ∷ 1 ∷ []) (9 ∷ 9 ∷ 9 ∷ 9 ∷ []) 1
     ≡ record {
-      answer = answer.Statement 5 3 2;
+      answer = Ok (record { taken = 5; count = 3; text = 2 });
       rows = function_kind ∷ 0 ∷ 1 ∷ 1 ∷ 0 ∷ number_kind ∷ 3 ∷ 2 ∷ 1 ∷ 0 ∷ close_round_kind ∷ 4 ∷ 3 ∷ 0 ∷ 0 ∷ 1 ∷ [];
       brackets = right_parenthesis ∷ 1 ∷ [];
       store = 9 ∷ 0x66 ∷ 0x37 ∷ 9 ∷ [];
     }
-unfolding left rows_many texts_many brackets_after pushed depth bracket_of bracket_by token_row row_of columns_of coded word text_of pick
+unfolding left statement_answer rows_many texts_many brackets_after pushed depth bracket_of bracket_by token_row row_of columns_of coded word text_of pick
 case = refl
 
 -- ---- room and bounds
@@ -174,23 +181,23 @@ pub record Room (n fill : ℕ) (tokens brackets store : List ℕ) : Type 0 where
   pub bits : fill + n + 2 < 2 ^ 32
 
 -- the numbers of an answer
-unfoldable pub taken_by : StatementAnswer → ℕ
-taken_by (answer.Statement taken count text) = taken
-taken_by (answer.Unbalanced taken count text) = taken
+unfoldable pub taken_by : Result declared-statement.Statement Unbalanced → ℕ
+taken_by (Ok r) = r.taken
+taken_by (Err r) = r.taken
 
-unfoldable pub count_by : StatementAnswer → ℕ
-count_by (answer.Statement taken count text) = count
-count_by (answer.Unbalanced taken count text) = count
+unfoldable pub count_by : Result declared-statement.Statement Unbalanced → ℕ
+count_by (Ok r) = r.count
+count_by (Err r) = r.count
 
-unfoldable pub text_by : StatementAnswer → ℕ
-text_by (answer.Statement taken count text) = text
-text_by (answer.Unbalanced taken count text) = text
+unfoldable pub text_by : Result declared-statement.Statement Unbalanced → ℕ
+text_by (Ok r) = r.text
+text_by (Err r) = r.text
 
 -- how many bytes longer the texts of n bytes can be: two where they end the text with a backslash
 unfoldable pub slack : List ℕ → ℕ → ℕ
 slack s n = pick (and (is n (length s)) (is (get_or s (n - 1) 0) reverse_solidus)) 2 0
 
-pub record Bounds (s : List ℕ) (r : StatementAnswer) : Type 0 where
+pub record Bounds (s : List ℕ) (r : Result declared-statement.Statement Unbalanced) : Type 0 where
   pub taken : taken_by r ≤ length s
   pub count : count_by r ≤ taken_by r
   pub text : text_by r ≤ taken_by r + slack s (taken_by r)

@@ -8,3 +8,4 @@ pub mod Property
 pub mod ValueAnswer
 pub mod DeclAnswer
 pub mod ColourRows
+pub mod Tokens

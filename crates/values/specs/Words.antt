@@ -1,6 +1,7 @@
 -- Words, compared as fixed byte strings, and what tokens are.
-use Rattle.std.specs.Prelude.{ℕ, zero, suc, Bool, true, false, List, [], ◌∷◌, take, drop}
-use Rattle.combinators.specs.Choice.{pick, and, is}
+use Rattle.std.specs.Prelude.{ℕ, zero, suc, Bool, true, false, List, [], ◌∷◌, take, drop, map}
+use Rattle.std.specs.Borrow.{Bor}
+use Rattle.combinators.specs.Choice.{and, is}
 use Rattle.combinators.specs.Word.{same_text}
 use Rattle.lexer.specs.Token.{Token, coded, text_of}
 use Rattle.lexer.specs.TokenRow.{columns_of, ident_kind, delim_kind}
@@ -62,13 +63,6 @@ row_at [] n = missing
 row_at (e ∷ es) zero = found e.means
 row_at (e ∷ es) (suc n) = row_at es n
 
--- ---- tables of words as the code has them: the words joined, and their lengths
-
-unfoldable pub split : List ℕ → List ℕ → List (List ℕ)
-split joined [] = []
-split joined (n ∷ ns) = take n joined ∷ split (drop n joined) ns
-
--- the place of a word in a list, which is the list's length where it is not there
-unfoldable pub place_of : List ℕ → List (List ℕ) → ℕ
-place_of w [] = 0
-place_of w (x ∷ xs) = pick (same_text w x) 0 (suc (place_of w xs))
+-- the rows of a table as the code has them
+abbrev pub entries : {A : Type 0} → List (Bor (List ℕ) × A) → List (Entry A)
+entries rows = map (λ r. record { word = r.0.now; means = r.1 }) rows

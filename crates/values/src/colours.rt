@@ -6,48 +6,28 @@ ghost use Rattle.values.specs.Words.{lookup};
 ghost use Rattle.values.specs.Colour.{rgb, colours, without_plus, digits_in, parse_u8, parse_hex, three_digits, six_digits, hash_colour, three_numbers};
 ghost use Rattle.values.specs.ColourAnswer.{is_digit_in, number_answer, colour_answer};
 
-use crate::words::place_of;
-use combinators::bytes::byte_is;
+use crate::words::lookup;
 use lexer::names::{hex_digit_of, is_hex_digit};
 
-// A colour, or that a text is none.
-#[derive(Clone, Copy)]
-pub enum ColourAnswer {
-    Colour(u32),
-    NoColour,
-}
-
-// What a text of digits is worth, where it is a number within the bound.
-#[derive(Clone, Copy)]
-pub enum NumberAnswer {
-    Number(u32),
-    NoNumber,
-}
-
-// The seventeen names: joined, their lengths, and the colours that they stand for.
-const NAMES: [u8; 84] =
-    *b"aquablackbluefuchsiagraygreenlimemaroonnavyoliveorangepurpleredsilvertealwhiteyellow";
-
-const LENGTHS: [u8; 17] = [4, 5, 4, 7, 4, 5, 4, 6, 4, 5, 6, 6, 3, 6, 4, 5, 6];
-
-const VALUES: [u32; 17] = [
-    0x00ffff, // aqua
-    0x000000, // black
-    0x0000ff, // blue
-    0xff00ff, // fuchsia
-    0x808080, // gray
-    0x008000, // green
-    0x00ff00, // lime
-    0x800000, // maroon
-    0x000080, // navy
-    0x808000, // olive
-    0xffa500, // orange
-    0x800080, // purple
-    0xff0000, // red
-    0xc0c0c0, // silver
-    0x008080, // teal
-    0xffffff, // white
-    0xffff00, // yellow
+// The seventeen names, and the colours that they stand for.
+const COLOURS: [(&str, u32); 17] = [
+    ("aqua", 0x00ffff),
+    ("black", 0x000000),
+    ("blue", 0x0000ff),
+    ("fuchsia", 0xff00ff),
+    ("gray", 0x808080),
+    ("green", 0x008000),
+    ("lime", 0x00ff00),
+    ("maroon", 0x800000),
+    ("navy", 0x000080),
+    ("olive", 0x808000),
+    ("orange", 0xffa500),
+    ("purple", 0x800080),
+    ("red", 0xff0000),
+    ("silver", 0xc0c0c0),
+    ("teal", 0x008080),
+    ("white", 0xffffff),
+    ("yellow", 0xffff00),
 ];
 
 pub const DECIMAL: u32 = 10;
@@ -59,70 +39,56 @@ pub const MAXIMUM_BYTE: u32 = 255;
 const MAXIMUM_U32: u32 = 0xffffffff;
 
 // The colour that the name `s` stands for.
-pub fn named_colour(s: &[u8]) -> ColourAnswer
+pub fn named_colour(s: &[u8]) -> Option<u32>
     ensures { result ≡ colour_answer (lookup s.now colours) }
 {
-    let i = place_of(s, &NAMES, &LENGTHS);
-    if i < VALUES.len() {
-        return ColourAnswer::Colour(VALUES[i]);
-    }
-    ColourAnswer::NoColour
+    lookup(s, &COLOURS)
 }
 
 // Whether `b` is a digit in the base.
 fn is_digit_in(base: u32, b: u8) -> bool
     ensures { result ≡ is_digit_in base b }
 {
-    if is_hex_digit(b) {
-        return hex_digit_of(b) < base;
-    }
-    false
+    is_hex_digit(b) && hex_digit_of(b) < base
 }
 
 // The number that `t` writes in the base, up to `most`. Above that, digits that follow only make it more.
-pub fn digits_in(t: &[u8], base: u32, most: u32) -> NumberAnswer
+pub fn digits_in(t: &[u8], base: u32, most: u32) -> Option<u32>
     ensures { result ≡ number_answer (digits_in (is_digit_in base) base hex_digit most t.now) }
 {
-    if t.len() == 0 {
-        return NumberAnswer::NoNumber;
+    if t.is_empty() {
+        return None;
     }
-    let mut value: u32 = 0;
-    let mut i = 0;
-    while i < t.len() {
-        let b = t[i];
-        if is_digit_in(base, b) {
-            let more = value as u64 * base as u64 + hex_digit_of(b) as u64;
-            if more > most as u64 {
-                return NumberAnswer::NoNumber;
-            }
-            value = more as u32;
-            i += 1;
-        } else {
-            return NumberAnswer::NoNumber;
+    let mut value = 0;
+    for b in t {
+        if !is_digit_in(base, *b) {
+            return None;
         }
+        let more = u64::from(value) * u64::from(base) + u64::from(hex_digit_of(*b));
+        if more > u64::from(most) {
+            return None;
+        }
+        value = more as u32;
     }
-    NumberAnswer::Number(value)
+    Some(value)
 }
 
 // The number that `s` writes in the base, up to `most`, behind a '+' or none.
-fn parse_in(s: &[u8], base: u32, most: u32) -> NumberAnswer
+fn parse_in(s: &[u8], base: u32, most: u32) -> Option<u32>
     ensures { result ≡ number_answer (digits_in (is_digit_in base) base hex_digit most (without_plus s.now)) }
 {
-    if byte_is(s, 0, b'+') {
-        return digits_in(&s[1..], base, most);
-    }
-    digits_in(s, base, most)
+    digits_in(s.strip_prefix(b"+").unwrap_or(s), base, most)
 }
 
 // A decimal number up to 255.
-fn parse_u8(s: &[u8]) -> NumberAnswer
+fn parse_u8(s: &[u8]) -> Option<u32>
     ensures { result ≡ number_answer (parse_u8 s.now) }
 {
     parse_in(s, DECIMAL, MAXIMUM_BYTE)
 }
 
 // A hexadecimal number up to `most`.
-pub fn parse_hex(s: &[u8], most: u32) -> NumberAnswer
+pub fn parse_hex(s: &[u8], most: u32) -> Option<u32>
     ensures { result ≡ number_answer (parse_hex most s.now) }
 {
     parse_in(s, HEXADECIMAL, most)
@@ -132,7 +98,7 @@ pub fn parse_hex(s: &[u8], most: u32) -> NumberAnswer
 pub fn colour_number(red: u8, green: u8, blue: u8) -> u32
     ensures { result ≡ colour_number (rgb red green blue) }
 {
-    red as u32 * 65536 + green as u32 * 256 + blue as u32
+    u32::from_be_bytes([0, red, green, blue])
 }
 
 // One hex digit for each of red, green and blue, which stands twice.
@@ -156,33 +122,23 @@ fn six_digits(v: u32) -> u32
 }
 
 // The colour whose 3 or 6 hex digits stand behind '#'. A '+' may stand in place of the first.
-pub fn hash_colour(s: &[u8]) -> ColourAnswer
+pub fn hash_colour(s: &[u8]) -> Option<u32>
     ensures { result ≡ colour_answer (hash_colour s.now) }
 {
-    let NumberAnswer::Number(v) = parse_hex(s, MAXIMUM_U32) else {
-        return ColourAnswer::NoColour;
-    };
-    if s.len() == 3 {
-        return ColourAnswer::Colour(three_digits(v));
+    let v = parse_hex(s, MAXIMUM_U32)?;
+    match s.len() {
+        3 => Some(three_digits(v)),
+        6 => Some(six_digits(v)),
+        _ => None,
     }
-    if s.len() == 6 {
-        return ColourAnswer::Colour(six_digits(v));
-    }
-    ColourAnswer::NoColour
 }
 
 // The colour of three numbers up to 255.
-pub fn rgb_colour(red: &[u8], green: &[u8], blue: &[u8]) -> ColourAnswer
+pub fn rgb_colour(red: &[u8], green: &[u8], blue: &[u8]) -> Option<u32>
     ensures { result ≡ colour_answer (three_numbers red.now green.now blue.now) }
 {
-    let NumberAnswer::Number(x) = parse_u8(red) else {
-        return ColourAnswer::NoColour;
-    };
-    let NumberAnswer::Number(y) = parse_u8(green) else {
-        return ColourAnswer::NoColour;
-    };
-    let NumberAnswer::Number(z) = parse_u8(blue) else {
-        return ColourAnswer::NoColour;
-    };
-    ColourAnswer::Colour(colour_number(x as u8, y as u8, z as u8))
+    let red = parse_u8(red)?;
+    let green = parse_u8(green)?;
+    let blue = parse_u8(blue)?;
+    Some(colour_number(red as u8, green as u8, blue as u8))
 }

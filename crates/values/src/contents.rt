@@ -1,35 +1,24 @@
 // Contents: the length of the strings of a value.
 ghost use Rattle.std.specs.Prelude.{◌≡◌};
 ghost use Rattle.values.specs.Property.{content_of};
-ghost use Rattle.values.specs.View.{tokens_at};
+ghost use Rattle.values.specs.Tokens.{value_tokens};
 ghost use Rattle.values.specs.ValueAnswer.{ContentRoom, content_answer};
 
-use crate::tokens::{is_kind, text_at};
+use crate::tokens::{Tokens, is_kind, text_at};
 use lexer::rows::{STRING, TOKEN_WIDTH};
 
-// The bytes of a content, or that a value is none.
-#[derive(Clone, Copy)]
-pub enum ContentAnswer {
-    Content(usize),
-    NoContent,
-}
-
-// The length of the strings that the `count` tokens of a value are.
-pub fn parse_content(rows: &[u32], count: usize, store: &[u8]) -> ContentAnswer
-    requires { ContentRoom rows.now store.now count }
-    ensures { result ≡ content_answer (content_of (tokens_at rows.now store.now count)) }
+// The length of the strings that the tokens of a value are; none where one is no string.
+pub fn parse_content(tokens: Tokens) -> Option<usize>
+    requires { ContentRoom tokens.rows.now tokens.store.now tokens.count }
+    ensures { result ≡ content_answer (content_of (value_tokens tokens.entry)) }
 {
-    let mut at = 0;
-    let mut left = count;
     let mut length = 0;
-    while left > 0 {
-        if is_kind(rows, at, STRING) {
-            length += text_at(rows, at, store).len();
-            at += TOKEN_WIDTH;
-            left -= 1;
-        } else {
-            return ContentAnswer::NoContent;
+    for i in 0..tokens.count {
+        let at = i * TOKEN_WIDTH;
+        if !is_kind(tokens.rows, at, STRING) {
+            return None;
         }
+        length += text_at(tokens.rows, at, tokens.store).len();
     }
-    ContentAnswer::Content(length)
+    Some(length)
 }

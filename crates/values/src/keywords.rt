@@ -1,93 +1,77 @@
 // Keywords: the first name of a value that a table has.
-ghost use Rattle.std.specs.Prelude.{◌≡◌};
+ghost use Rattle.std.specs.Prelude.{◌≡◌, Some, None, [], ◌∷◌};
 ghost use Rattle.syntax.specs.Layout.{white_space_number};
-ghost use Rattle.values.specs.Words.{split};
-ghost use Rattle.values.specs.Property.{overflow_of, display_of, white_space_of};
-ghost use Rattle.values.specs.View.{token_here, tokens_at, Counted};
-ghost use Rattle.values.specs.ValueAnswer.{name_place, first_place, overflow_answer};
+ghost use Rattle.values.specs.Words.{on_found, entries};
+ghost use Rattle.values.specs.Property.{first_word, overflow_of, display_of, white_space_of};
+ghost use Rattle.values.specs.View.{token_here};
+ghost use Rattle.values.specs.Tokens.{value_tokens};
+ghost use Rattle.values.specs.ValueAnswer.{overflow_answer};
 
-use crate::tokens::{is_kind, text_at};
-use crate::words::place_of;
+use crate::tokens::{Tokens, is_kind, text_at};
+use crate::words::lookup;
 use lexer::rows::{IDENT, TOKEN_WIDTH};
+use syntax::rows::{
+    OVERFLOW_AUTO, OVERFLOW_HIDDEN, OVERFLOW_SCROLL, OVERFLOW_VISIBLE, WHITE_SPACE_NORMAL,
+    WHITE_SPACE_PRE, WHITE_SPACE_PRE_WRAP,
+};
 
-// The number of a keyword, or that a value has none.
-#[derive(Clone, Copy)]
-pub enum WordAnswer {
-    Word(u32),
-    NoWord,
-}
+// Keywords, and what they stand for.
+const OVERFLOWS: [(&str, u32); 4] = [
+    ("visible", OVERFLOW_VISIBLE),
+    ("hidden", OVERFLOW_HIDDEN),
+    ("scroll", OVERFLOW_SCROLL),
+    ("auto", OVERFLOW_AUTO),
+];
 
-// Keywords, joined, and their lengths. The number of a keyword is its place.
-const OVERFLOWS: [u8; 23] = *b"visiblehiddenscrollauto";
+const DISPLAYS: [(&str, bool); 1] = [("none", true)];
 
-const OVERFLOW_LENGTHS: [u8; 4] = [7, 6, 6, 4];
+const WHITE_SPACES: [(&str, u32); 3] = [
+    ("normal", WHITE_SPACE_NORMAL),
+    ("pre", WHITE_SPACE_PRE),
+    ("pre-wrap", WHITE_SPACE_PRE_WRAP),
+];
 
-const DISPLAYS: [u8; 4] = *b"none";
-
-const DISPLAY_LENGTHS: [u8; 1] = [4];
-
-const WHITE_SPACES: [u8; 17] = *b"normalprepre-wrap";
-
-const WHITE_SPACE_LENGTHS: [u8; 3] = [6, 3, 8];
-
-const NORMAL: u32 = 0;
-
-// The place in a table of the name whose row starts at `at`; the count of the table's words where it is none of them, or no name.
-fn name_place(rows: &[u32], at: usize, store: &[u8], joined: &[u8], lengths: &[u8]) -> usize
-    ensures { result ≡ name_place (split joined.now lengths.now) (token_here rows.now store.now at) }
+// What the name whose row starts at `at` stands for in a table.
+fn word_at<T: Copy>(rows: &[u32], at: usize, store: &[u8], table: &[(&str, T)]) -> Option<T>
+    ensures { result ≡ on_found (first_word (entries table.now) (token_here rows.now store.now at ∷ [])) Some None }
 {
     if is_kind(rows, at, IDENT) {
-        return place_of(text_at(rows, at, store), joined, lengths);
+        lookup(text_at(rows, at, store), table)
+    } else {
+        None
     }
-    lengths.len()
 }
 
-// The place in a table of the first name of a value that the table has; the count of the table's words where it has none.
-fn first_word(rows: &[u32], count: usize, store: &[u8], joined: &[u8], lengths: &[u8]) -> usize
-    requires { Counted rows.now count }
-    ensures { result ≡ first_place (split joined.now lengths.now) (tokens_at rows.now store.now count) }
+// What the first name of a value that a table has stands for there.
+fn first_word<T: Copy>(tokens: Tokens, table: &[(&str, T)]) -> Option<T>
+    ensures { result ≡ on_found (first_word (entries table.now) (value_tokens tokens.entry)) Some None }
 {
-    let mut at = 0;
-    let mut left = count;
-    while left > 0 {
-        let place = name_place(rows, at, store, joined, lengths);
-        if place < lengths.len() {
-            return place;
+    for i in 0..tokens.count {
+        let word = word_at(tokens.rows, i * TOKEN_WIDTH, tokens.store, table);
+        if word.is_some() {
+            return word;
         }
-        at += TOKEN_WIDTH;
-        left -= 1;
     }
-    lengths.len()
+    None
 }
 
 // The number of the overflow that a value names first.
-pub fn parse_overflow(rows: &[u32], count: usize, store: &[u8]) -> WordAnswer
-    requires { Counted rows.now count }
-    ensures { result ≡ overflow_answer (overflow_of (tokens_at rows.now store.now count)) }
+pub fn parse_overflow(tokens: Tokens) -> Option<u32>
+    ensures { result ≡ overflow_answer (overflow_of (value_tokens tokens.entry)) }
 {
-    let place = first_word(rows, count, store, &OVERFLOWS, &OVERFLOW_LENGTHS);
-    if place < OVERFLOW_LENGTHS.len() {
-        return WordAnswer::Word(place as u32);
-    }
-    WordAnswer::NoWord
+    first_word(tokens, &OVERFLOWS)
 }
 
 // Whether a value names `none`.
-pub fn parse_display(rows: &[u32], count: usize, store: &[u8]) -> bool
-    requires { Counted rows.now count }
-    ensures { result ≡ display_of (tokens_at rows.now store.now count) }
+pub fn parse_display(tokens: Tokens) -> bool
+    ensures { result ≡ display_of (value_tokens tokens.entry) }
 {
-    first_word(rows, count, store, &DISPLAYS, &DISPLAY_LENGTHS) < DISPLAY_LENGTHS.len()
+    first_word(tokens, &DISPLAYS).unwrap_or(false)
 }
 
 // The number of the white space that a value names first; of `normal` where it names none.
-pub fn parse_white_space(rows: &[u32], count: usize, store: &[u8]) -> u32
-    requires { Counted rows.now count }
-    ensures { result ≡ white_space_number (white_space_of (tokens_at rows.now store.now count)) }
+pub fn parse_white_space(tokens: Tokens) -> u32
+    ensures { result ≡ white_space_number (white_space_of (value_tokens tokens.entry)) }
 {
-    let place = first_word(rows, count, store, &WHITE_SPACES, &WHITE_SPACE_LENGTHS);
-    if place < WHITE_SPACE_LENGTHS.len() {
-        return place as u32;
-    }
-    NORMAL
+    first_word(tokens, &WHITE_SPACES).unwrap_or(WHITE_SPACE_NORMAL)
 }

@@ -1,212 +1,104 @@
 // Declarations of a property with a value, by value.
-ghost use Rattle.std.specs.Prelude.{◌≡◌, ◌≤◌};
+ghost use Rattle.std.specs.Prelude.{◌≡◌, List, ℕ, length, unwrap_or};
 ghost use Rattle.values.specs.Property.{decl_of};
-ghost use Rattle.values.specs.View.{tokens_at, Counted};
+ghost use Rattle.values.specs.Tokens.{value_tokens};
 ghost use Rattle.values.specs.ValueAnswer.{ContentRoom};
-ghost use Rattle.values.specs.DeclAnswer.{decl_answer, unknown_decl, colour_decl, height_decl, word_decl, content_decl, decl_at, Among, background_color_place, color_place, height_place, max_height_place, overflow_place, overflow_yPlace, display_place};
+ghost use Rattle.values.specs.DeclAnswer.{decl_answer, text_length, decl_at, place_of};
+ghost use Rattle.values.specs.declared.properties.Decl.TheVariants.{Unknown};
 
 use crate::colour_values::{parse_background_color, parse_color};
-use crate::colours::ColourAnswer;
-use crate::contents::{ContentAnswer, parse_content};
-use crate::heights::{HeightAnswer, parse_height};
-use crate::keywords::{WordAnswer, parse_display, parse_overflow, parse_white_space};
-use crate::words::place_of;
-use syntax::rows::{
-    BACKGROUND_COLOR, COLOR, CONTENT, DISPLAY, HEIGHT, MAX_HEIGHT, OVERFLOW, OVERFLOW_Y, UNKNOWN,
-    WHITE_SPACE, flag_of,
-};
+use crate::contents::parse_content;
+use crate::heights::parse_height;
+use crate::keywords::{parse_display, parse_overflow, parse_white_space};
+use crate::tokens::Tokens;
+use crate::words::lookup;
 
-// A declaration as it goes to its row: its kind, its number, and the length of its text. Only a content and an unknown declaration have a
-// text: what it says, and its name.
+// A declaration. A height says whether it is zero, a display whether it is none; of a content there is the length of its text, of an
+// unknown declaration that of its name.
 #[derive(Clone, Copy)]
-pub struct Decl {
-    pub kind: u32,
-    pub value: u32,
-    pub text: usize,
+pub enum Decl {
+    Color(u32),
+    BackgroundColor(u32),
+    Height(bool),
+    MaxHeight(bool),
+    Overflow(u32),
+    OverflowY(u32),
+    Display(bool),
+    WhiteSpace(u32),
+    Content(usize),
+    Unknown(usize),
 }
 
-// The ten properties: joined, their lengths, and their places.
-const PROPERTIES: [u8; 90] =
-    *b"background-colorbackgroundcolorheightmax-heightoverflowoverflow-ydisplaywhite-spacecontent";
-
-const PROPERTY_LENGTHS: [u8; 10] = [16, 10, 5, 6, 10, 8, 10, 7, 11, 7];
-
-const BACKGROUND_COLOR_PLACE: usize = 0;
-
-const BACKGROUND_PLACE: usize = 1;
-
-const COLOR_PLACE: usize = 2;
-
-const HEIGHT_PLACE: usize = 3;
-
-const MAX_HEIGHT_PLACE: usize = 4;
-
-const OVERFLOW_PLACE: usize = 5;
-
-const OVERFLOW_Y_PLACE: usize = 6;
-
-const DISPLAY_PLACE: usize = 7;
-
-const WHITE_SPACE_PLACE: usize = 8;
-
-const CONTENT_PLACE: usize = 9;
-
-// The unknown declaration, whose name has `name` bytes.
-fn unknown_decl(name: usize) -> Decl
-    ensures { result ≡ unknown_decl name }
-{
-    Decl {
-        kind: UNKNOWN,
-        value: 0,
-        text: name,
+impl Decl {
+    // The length of its text: only a content and an unknown declaration have one.
+    #[tactic(auto, unfolding(crate::specs::DeclAnswer::text_length))]
+    pub fn text_length(self) -> usize
+        ensures { result ≡ text_length self }
+    {
+        match self {
+            Decl::Content(length) | Decl::Unknown(length) => length,
+            _ => 0,
+        }
     }
 }
 
-// The declaration of a colour.
-fn with_colour(kind: u32, answer: ColourAnswer, name: usize) -> Decl
-    ensures { result ≡ colour_decl kind answer name }
+// The properties that are known.
+#[derive(Clone, Copy)]
+pub enum Property {
+    BackgroundColor,
+    Background,
+    Color,
+    Height,
+    MaxHeight,
+    Overflow,
+    OverflowY,
+    Display,
+    WhiteSpace,
+    Content,
+}
+
+// The ten properties.
+const PROPERTIES: [(&str, Property); 10] = [
+    ("background-color", Property::BackgroundColor),
+    ("background", Property::Background),
+    ("color", Property::Color),
+    ("height", Property::Height),
+    ("max-height", Property::MaxHeight),
+    ("overflow", Property::Overflow),
+    ("overflow-y", Property::OverflowY),
+    ("display", Property::Display),
+    ("white-space", Property::WhiteSpace),
+    ("content", Property::Content),
+];
+
+// The declaration of a known property with the value of these tokens, where it reads the value.
+fn decl_at(property: Property, tokens: Tokens) -> Option<Decl>
+    requires { ContentRoom tokens.rows.now tokens.store.now tokens.count }
+    ensures { (name : List ℕ) → unwrap_or result (Unknown (length name))
+        ≡ decl_answer (decl_at (place_of property) name (value_tokens tokens.entry)) }
 {
-    match answer {
-        ColourAnswer::Colour(value) => Decl {
-            kind,
-            value,
-            text: 0,
-        },
-        ColourAnswer::NoColour => unknown_decl(name),
+    match property {
+        Property::BackgroundColor => parse_color(tokens).map(Decl::BackgroundColor),
+        Property::Background => { parse_background_color(tokens).map(Decl::BackgroundColor) }
+        Property::Color => parse_color(tokens).map(Decl::Color),
+        Property::Height => parse_height(tokens).map(Decl::Height),
+        Property::MaxHeight => parse_height(tokens).map(Decl::MaxHeight),
+        Property::Overflow => parse_overflow(tokens).map(Decl::Overflow),
+        Property::OverflowY => parse_overflow(tokens).map(Decl::OverflowY),
+        Property::Display => Some(Decl::Display(parse_display(tokens))),
+        Property::WhiteSpace => Some(Decl::WhiteSpace(parse_white_space(tokens))),
+        Property::Content => parse_content(tokens).map(Decl::Content),
     }
 }
 
-// The declaration of a height.
-fn with_height(kind: u32, answer: HeightAnswer, name: usize) -> Decl
-    ensures { result ≡ height_decl kind answer name }
+// The declaration of the property `name` with the value of these tokens.
+pub fn decl_of(name: &[u8], tokens: Tokens) -> Decl
+    requires { ContentRoom tokens.rows.now tokens.store.now tokens.count }
+    ensures { result ≡ decl_answer (decl_of name.now (value_tokens tokens.entry)) }
 {
-    match answer {
-        HeightAnswer::Height(zero) => Decl {
-            kind,
-            value: flag_of(zero),
-            text: 0,
-        },
-        HeightAnswer::NoHeight => unknown_decl(name),
-    }
-}
-
-// The declaration of a keyword.
-fn with_word(kind: u32, answer: WordAnswer, name: usize) -> Decl
-    ensures { result ≡ word_decl kind answer name }
-{
-    match answer {
-        WordAnswer::Word(value) => Decl {
-            kind,
-            value,
-            text: 0,
-        },
-        WordAnswer::NoWord => unknown_decl(name),
-    }
-}
-
-// The declaration of a content.
-fn with_content(answer: ContentAnswer, name: usize) -> Decl
-    ensures { result ≡ content_decl answer name }
-{
-    match answer {
-        ContentAnswer::Content(text) => Decl {
-            kind: CONTENT,
-            value: 0,
-            text,
-        },
-        ContentAnswer::NoContent => unknown_decl(name),
-    }
-}
-
-// The declaration of a value by a property of a colour.
-fn colour_at(place: usize, name: &[u8], rows: &[u32], count: usize, store: &[u8]) -> Decl
-    requires among { Among background_color_place color_place place }
-    requires counted { Counted rows.now count }
-    ensures { result ≡ decl_answer (decl_at place name.now (tokens_at rows.now store.now count)) }
-{
-    if place == BACKGROUND_COLOR_PLACE {
-        return with_colour(
-            BACKGROUND_COLOR,
-            parse_color(rows, count, store),
-            name.len(),
-        );
-    }
-    if place == BACKGROUND_PLACE {
-        return with_colour(
-            BACKGROUND_COLOR,
-            parse_background_color(rows, count, store),
-            name.len(),
-        );
-    }
-    with_colour(COLOR, parse_color(rows, count, store), name.len())
-}
-
-// The declaration of a value by a property of a height.
-fn height_at(place: usize, name: &[u8], rows: &[u32], count: usize, store: &[u8]) -> Decl
-    requires among { Among height_place max_height_place place }
-    requires counted { Counted rows.now count }
-    ensures { result ≡ decl_answer (decl_at place name.now (tokens_at rows.now store.now count)) }
-{
-    let answer = parse_height(rows, count, store);
-    if place == HEIGHT_PLACE {
-        return with_height(HEIGHT, answer, name.len());
-    }
-    with_height(MAX_HEIGHT, answer, name.len())
-}
-
-// The declaration of a value by a property of an overflow.
-fn overflow_at(place: usize, name: &[u8], rows: &[u32], count: usize, store: &[u8]) -> Decl
-    requires among { Among overflow_place overflow_yPlace place }
-    requires counted { Counted rows.now count }
-    ensures { result ≡ decl_answer (decl_at place name.now (tokens_at rows.now store.now count)) }
-{
-    let answer = parse_overflow(rows, count, store);
-    if place == OVERFLOW_PLACE {
-        return with_word(OVERFLOW, answer, name.len());
-    }
-    with_word(OVERFLOW_Y, answer, name.len())
-}
-
-// The declaration of a value by one of the last properties; by another name, it is unknown.
-fn other_at(place: usize, name: &[u8], rows: &[u32], count: usize, store: &[u8]) -> Decl
-    requires display_place_le_place { display_place ≤ place }
-    requires content_room { ContentRoom rows.now store.now count }
-    ensures { result ≡ decl_answer (decl_at place name.now (tokens_at rows.now store.now count)) }
-{
-    if place == DISPLAY_PLACE {
-        return Decl {
-            kind: DISPLAY,
-            value: flag_of(parse_display(rows, count, store)),
-            text: 0,
-        };
-    }
-    if place == WHITE_SPACE_PLACE {
-        return Decl {
-            kind: WHITE_SPACE,
-            value: parse_white_space(rows, count, store),
-            text: 0,
-        };
-    }
-    if place == CONTENT_PLACE {
-        return with_content(parse_content(rows, count, store), name.len());
-    }
-    unknown_decl(name.len())
-}
-
-// The declaration of the property `name` with the value of `count` tokens.
-pub fn decl_of(name: &[u8], rows: &[u32], count: usize, store: &[u8]) -> Decl
-    requires { ContentRoom rows.now store.now count }
-    ensures { result ≡ decl_answer (decl_of name.now (tokens_at rows.now store.now count)) }
-{
-    let place = place_of(name, &PROPERTIES, &PROPERTY_LENGTHS);
-    if place <= COLOR_PLACE {
-        return colour_at(place, name, rows, count, store);
-    }
-    if place <= MAX_HEIGHT_PLACE {
-        return height_at(place, name, rows, count, store);
-    }
-    if place <= OVERFLOW_Y_PLACE {
-        return overflow_at(place, name, rows, count, store);
-    }
-    other_at(place, name, rows, count, store)
+    let unknown = Decl::Unknown(name.len());
+    let Some(property) = lookup(name, &PROPERTIES) else {
+        return unknown;
+    };
+    decl_at(property, tokens).unwrap_or(unknown)
 }

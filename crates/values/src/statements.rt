@@ -2,39 +2,35 @@
 ghost use Rattle.std.specs.Prelude.{◌≡◌, false, ◌-◌, ◌^◌, ◌≤◌, ◌<◌, length};
 ghost use Rattle.values.specs.Value.{is_important, bracket_by, closing, statement_of};
 ghost use Rattle.values.specs.Layout.{length_by, meant, awaited, step_to, deep, ending_by, Moved, Room, left, Bounds, value_left};
-ghost use Rattle.values.specs.View.{Counted, tokens_at};
+ghost use Rattle.values.specs.Tokens.{value_tokens};
 
-use crate::tokens::{is_kind, place_at, text_at};
-use combinators::texts::same_text;
-use lexer::rows::{DELIM, IDENT, TOKEN_FIRST, TOKEN_WIDTH, put_token};
+use crate::tokens::{Tokens, is_delim, is_word};
+use lexer::rows::{TOKEN_WIDTH, put_token};
 use lexer::tokens::{Lexed, Token, parse_token};
 
-// The bytes taken, the tokens and the bytes of text of a statement; or of what stands before a closing bracket that is wrong.
+// The bytes taken, the tokens and the bytes of text of a statement.
 #[derive(Clone, Copy)]
-pub enum StatementAnswer {
-    Statement {
-        taken: usize,
-        count: usize,
-        text: usize,
-    },
-    Unbalanced {
-        taken: usize,
-        count: usize,
-        text: usize,
-    },
+pub struct Statement {
+    pub taken: usize,
+    pub count: usize,
+    pub text: usize,
 }
 
-// A value: the bytes taken, its tokens and their bytes of text, and whether it ends in the mark `!important`; or the tokens and the
-// bytes of text before a closing bracket that is wrong.
+// The same of what stands before a closing bracket that is wrong.
 #[derive(Clone, Copy)]
-pub enum ValueAnswer {
-    Value {
-        taken: usize,
-        count: usize,
-        text: usize,
-        important: bool,
-    },
-    NoValue(usize, usize),
+pub struct Unbalanced {
+    pub taken: usize,
+    pub count: usize,
+    pub text: usize,
+}
+
+// A value: the bytes taken, its tokens and their bytes of text, and whether it ends in the mark `!important`.
+#[derive(Clone, Copy)]
+pub struct Value {
+    pub taken: usize,
+    pub count: usize,
+    pub text: usize,
+    pub important: bool,
 }
 
 // What a token does to the brackets, by the byte that is awaited.
@@ -56,23 +52,25 @@ pub enum Step {
 }
 
 // The bytes of a token's texts.
+#[tactic(auto, unfolding(crate::specs::Layout::length_by))]
 fn text_length(k: Token) -> usize
     requires { length_by k < 2 ^ 64 }
     ensures { result ≡ length_by k }
 {
     match k {
-        Token::Ident(n) => n,
-        Token::Function(n) => n,
-        Token::Hash(n) => n,
-        Token::String(n) => n,
-        Token::BadString(n) => n,
-        Token::Number(n) => n,
+        Token::Ident(n)
+        | Token::Function(n)
+        | Token::Hash(n)
+        | Token::String(n)
+        | Token::BadString(n)
+        | Token::Number(n)
+        | Token::Percentage(n) => n,
         Token::Dimension(n, m) => n + m,
-        Token::Percentage(n) => n,
         _ => 0,
     }
 }
 
+#[tactic(auto, unfolding(crate::specs::Layout::meant, crate::specs::Value::bracket_by))]
 fn bracket_of(k: Token) -> Bracket
     ensures { meant result ≡ bracket_by k }
 {
@@ -98,35 +96,29 @@ fn closing_step(c: u8, brackets: &[u8], d: usize) -> Step
     ensures d_value { deep result (d - 1) ≡ d - 1 }
 {
     if d == 0 {
-        if c == b'}' {
-            return Step::Before;
-        }
-        return Step::Wrong;
+        return if c == b'}' { Step::Before } else { Step::Wrong };
     }
     let e = d - 1;
     if brackets[e] != c {
-        return Step::Wrong;
+        Step::Wrong
+    } else if e == 0 && c == b'}' {
+        Step::Behind
+    } else {
+        Step::Next(e)
     }
-    if e == 0 {
-        if c == b'}' {
-            return Step::Behind;
-        }
-        return Step::Next(0);
-    }
-    Step::Next(e)
 }
 
 // A semicolon, where `d` brackets are awaited.
 fn ending_step(include_semicolon: bool, d: usize) -> Step
     ensures { result ≡ ending_by include_semicolon d }
 {
-    if d == 0 {
-        if include_semicolon {
-            return Step::Behind;
-        }
-        return Step::Before;
+    if d > 0 {
+        Step::Next(d)
+    } else if include_semicolon {
+        Step::Behind
+    } else {
+        Step::Before
     }
-    Step::Next(d)
 }
 
 // The token `k`, where `d` brackets are awaited.
@@ -137,17 +129,11 @@ fn step_at(k: Token, include_semicolon: bool, brackets: &mut [u8], d: usize) -> 
     match bracket_of(k) {
         Bracket::Opens(c) => {
             brackets[d] = c;
-            return Step::Next(d + 1);
+            Step::Next(d + 1)
         }
-        Bracket::Closes(c) => {
-            return closing_step(c, brackets, d);
-        }
-        Bracket::Ends => {
-            return ending_step(include_semicolon, d);
-        }
-        Bracket::NoBracket => {
-            return Step::Next(d);
-        }
+        Bracket::Closes(c) => closing_step(c, brackets, d),
+        Bracket::Ends => ending_step(include_semicolon, d),
+        Bracket::NoBracket => Step::Next(d),
     }
 }
 
@@ -161,7 +147,7 @@ pub fn parse_to_end_of_statement(
     brackets: &mut [u8],
     store: &mut [u8],
     fill: usize,
-) -> StatementAnswer
+) -> Result<Statement, Unbalanced>
     requires { Room (length s.now) fill rows.old brackets.old store.old }
     ensures store_after { record { answer = result; rows = rows.new; brackets = brackets.new; store = store.new }
         ≡ left (statement_of include_semicolon s.now) rows.old brackets.old store.old fill }
@@ -172,65 +158,43 @@ pub fn parse_to_end_of_statement(
     let mut place = 0;
     let mut depth = 0;
     let mut text = 0;
-    loop {
+    while let Some(Lexed { start, end, token }) = parse_token(&s[taken..], store, fill + text) {
+        let byte = taken + start;
         let at = fill + text;
-        match parse_token(&s[taken..], store, at) {
-            Lexed::Nothing => {
-                return StatementAnswer::Statement { taken, count, text };
+        let length = text_length(token);
+        match step_at(token, include_semicolon, brackets, depth) {
+            Step::Before => return Ok(Statement { taken, count, text }),
+            Step::Wrong => return Err(Unbalanced { taken, count, text }),
+            Step::Behind => {
+                put_token(token, byte, at, rows, place);
+                return Ok(Statement {
+                    taken: taken + end,
+                    count: count + 1,
+                    text: text + length,
+                });
             }
-            Lexed::At(start, n, k) => {
-                let byte = taken + start;
-                let length = text_length(k);
-                match step_at(k, include_semicolon, brackets, depth) {
-                    Step::Before => {
-                        return StatementAnswer::Statement { taken, count, text };
-                    }
-                    Step::Wrong => {
-                        return StatementAnswer::Unbalanced { taken, count, text };
-                    }
-                    Step::Behind => {
-                        put_token(k, byte, at, rows, place);
-                        return StatementAnswer::Statement {
-                            taken: taken + n,
-                            count: count + 1,
-                            text: text + length,
-                        };
-                    }
-                    Step::Next(d) => {
-                        place = put_token(k, byte, at, rows, place);
-                        taken += n;
-                        count += 1;
-                        text += length;
-                        depth = d;
-                    }
-                }
+            Step::Next(awaited) => {
+                place = put_token(token, byte, at, rows, place);
+                taken += end;
+                count += 1;
+                text += length;
+                depth = awaited;
             }
         }
     }
+    Ok(Statement { taken, count, text })
 }
 
-const EXCLAMATION_MARK: usize = b'!' as usize;
-
-// Whether the last two of `count` tokens are the mark `!important`.
-fn is_important(rows: &[u32], count: usize, store: &[u8]) -> bool
-    requires { Counted rows.now count }
-    ensures { result ≡ is_important (tokens_at rows.now store.now count) }
+// Whether the last two tokens are the mark `!important`.
+fn is_important(tokens: Tokens) -> bool
+    ensures { result ≡ is_important (value_tokens tokens.entry) }
 {
+    let Tokens { rows, count, store } = tokens;
     if count < 2 {
         return false;
     }
     let mark = (count - 2) * TOKEN_WIDTH;
-    let word = mark + TOKEN_WIDTH;
-    if is_kind(rows, mark, DELIM) {
-        if place_at(rows, mark, TOKEN_FIRST) == EXCLAMATION_MARK {
-            if is_kind(rows, word, IDENT) {
-                return same_text(text_at(rows, word, store), b"important");
-            }
-            return false;
-        }
-        return false;
-    }
-    false
+    is_delim(rows, mark, b'!') && is_word(rows, mark + TOKEN_WIDTH, store, "important")
 }
 
 // Reads a value, and leaves its tokens and texts as `parse_to_end_of_statement` does.
@@ -240,23 +204,19 @@ pub fn parse_value(
     brackets: &mut [u8],
     store: &mut [u8],
     fill: usize,
-) -> ValueAnswer
+) -> Result<Value, Unbalanced>
     requires { Room (length s.now) fill rows.old brackets.old store.old }
     ensures { record { answer = result; rows = rows.new; brackets = brackets.new; store = store.new }
         ≡ value_left (statement_of false s.now) rows.old brackets.old store.old fill }
 {
-    match parse_to_end_of_statement(s, false, rows, brackets, store, fill) {
-        StatementAnswer::Statement { taken, count, text } => {
-            let important = is_important(rows, count, store);
-            return ValueAnswer::Value {
-                taken,
-                count,
-                text,
-                important,
-            };
-        }
-        StatementAnswer::Unbalanced { count, text, .. } => {
-            return ValueAnswer::NoValue(count, text);
-        }
-    }
+    let Statement { taken, count, text } = parse_to_end_of_statement(
+        s, false, rows, brackets, store, fill,
+    )?;
+    let important = is_important(Tokens { rows, count, store });
+    Ok(Value {
+        taken,
+        count,
+        text,
+        important,
+    })
 }

@@ -1,35 +1,21 @@
-// Fixed words, compared byte by byte. A table of words is data: the words joined, and their lengths.
-ghost use Rattle.std.specs.Prelude.{◌≡◌, leb};
-ghost use Rattle.combinators.specs.Choice.{pick};
-ghost use Rattle.values.specs.Words.{split, place_of};
+// Words, compared byte by byte, and tables of what they stand for.
+ghost use Rattle.std.specs.Prelude.{◌≡◌, Some, None, map};
+ghost use Rattle.values.specs.Words.{lookup, on_found, entries};
+ghost use Rattle.values.specs.Property.{any_of};
 
-use combinators::texts::same_text;
-
-// The length `n`, or `most` where `n` is more.
-fn clipped(n: u8, most: usize) -> usize
-    ensures { result ≡ pick (leb n most) n most }
+// Whether `s` is one of the words.
+pub fn any_of(s: &[u8], words: &[&str]) -> bool
+    ensures { result ≡ any_of s.now (map (λ w. w.now) words.now) }
 {
-    let length = n as usize;
-    if length <= most {
-        return length;
-    }
-    most
+    words.iter().any(|word| s == word.as_bytes())
 }
 
-// The place of `s` among the words that `joined` and `lengths` hold, or their count where it is none of them. A word that would
-// run past the end of `joined` ends there.
-pub fn place_of(s: &[u8], joined: &[u8], lengths: &[u8]) -> usize
-    ensures { result ≡ place_of s.now (split joined.now lengths.now) }
+// What `s` stands for by the first row of the table that has it.
+pub fn lookup<T: Copy>(s: &[u8], table: &[(&str, T)]) -> Option<T>
+    ensures { result ≡ on_found (lookup s.now (entries table.now)) Some None }
 {
-    let mut at = 0;
-    let mut i = 0;
-    while i < lengths.len() {
-        let end = at + clipped(lengths[i], joined.len() - at);
-        if same_text(s, &joined[at..end]) {
-            return i;
-        }
-        at = end;
-        i += 1;
-    }
-    i
+    table
+        .iter()
+        .find(|(word, _)| s == word.as_bytes())
+        .map(|(_, means)| *means)
 }

@@ -15,6 +15,8 @@ use Rattle.segments.specs.Before.{no_place}
 use Rattle.segments.specs.Visits.{to_next, Visited, visit_at}
 use Rattle.segments.specs.Pass.{Passed, block_set, pass_from}
 use Rattle.segments.specs.Parts.{Apart, pair_limit}
+use Rattle.std.proofs.Common.{Option}
+use Rattle.sweeps.specs.declared.elements.Handed.{Handed}
 use Rattle.visits.specs.Visiting.{VisitLent, block_stored}
 use Rattle.visits.specs.Passing.{next_from, visit_stored, pass_stored}
 use Rattle.segments.proofs.StoreLaws.{SameOutside, outside-same, outside-then, outside-either, outside-whole}
@@ -53,13 +55,13 @@ module _ (code : List ℕ) (row : Path) (above own width : ℕ) (state : List �
       ∙ e ∙ pass_step
 
 -- ---- the loop of `pass_blocks`
-pub record Passing (code : List ℕ) (row : Path) (state₀ : List ℕ) (above own width first count place : ℕ) (state : List ℕ) (p left : ℕ) : Type 0 where
+pub record Passing (code : List ℕ) (row : Path) (state₀ : List ℕ) (above own width first count : ℕ) (element : Option Handed) (state : List ℕ) (p left : ℕ) : Type 0 where
   pub whole : pass_stored code row above own width left p state ≡ pass_stored code row above own width count first state₀
   pub long : length state ≡ length state₀
-  pub lent : VisitLent code state above own width p place
+  pub lent : VisitLent code state (record { above = above; own = own; width = width }) p element
 
-module _ (code : List ℕ) (row : Path) (state₀ : List ℕ) (above own width first count place : ℕ) (state : List ℕ) (p left : ℕ)
-    (v : Passing code row state₀ above own width first count place state p left) where
+module _ (code : List ℕ) (row : Path) (state₀ : List ℕ) (above own width first count : ℕ) (element : Option Handed) (state : List ℕ) (p left : ℕ)
+    (v : Passing code row state₀ above own width first count element state p left) where
   -- where none is left to visit, the state is that behind the whole pass
   pub pass-end : left ≤ 0 → state ≡ pass_stored code row above own width count first state₀
   pass-end h =
@@ -78,7 +80,7 @@ module _ (code : List ℕ) (row : Path) (state₀ : List ℕ) (above own width f
     -- the block of the selector is stored, and the loop goes on at the next one, with one fewer left
     pub pass-more : ¬ (p ≡ no_place) → (next : ℕ) → next ≡ pair_at (part state above width) (p + to_next) → next < pair_limit
         → (s₁ : List ℕ) → s₁ ≡ block_stored state own width (visit_at code row (part state above width) p) (pair_at (part state above width) (p + to_next)) p
-        → Passing code row state₀ above own width first count place s₁ next (left - 1)
+        → Passing code row state₀ above own width first count element s₁ next (left - 1)
     pass-more z next en small s₁ e₁ =
         let l : length s₁ ≡ length state = ap length e₁ ∙ length-block state own width (visit_at code row (part state above width) p) (pair_at (part state above width) (p + to_next)) p in
         record {

@@ -7,18 +7,16 @@ use lib.ListN.{length}
 use Rattle.combinators.specs.Choice.{pick, is}
 use Rattle.combinators.proofs.Rules.{is-yes, is-no}
 use Rattle.syntax.specs.Style.{agent_origin}
-use Rattle.compiled.specs.Answer.{number_answer, place_answer, head_answer}
+use Rattle.compiled.specs.Answer.{read_answer, place_answer}
 use Rattle.compiled.specs.Component.{component_at}
-use Rattle.compiled.specs.Decoded.{Decoded, read, fault, on_decoded, and_then, counted}
+use Rattle.compiled.specs.Decoded.{read, on_decoded, counted}
 use Rattle.compiled.specs.Number.{number_at}
 use Rattle.compiled.specs.Sheet.{CompiledSelector, head_at, selector_at, decode}
-use Rattle.compiled.specs.declared.numbers.NumberAnswer.{NumberAnswer}
-use Rattle.compiled.specs.declared.numbers.NumberAnswer.TheVariants as number
-use Rattle.compiled.specs.declared.places.PlaceAnswer.{PlaceAnswer}
-use Rattle.compiled.specs.declared.places.PlaceAnswer.TheVariants as place
-use Rattle.compiled.specs.declared.sheets.HeadAnswer.{HeadAnswer}
-use Rattle.compiled.specs.declared.sheets.HeadAnswer.TheVariants as head
-use Rattle.compiled.proofs.Answers.{number_read, number-fault, place_read, place-fault, head_read, head-fault}
+use Rattle.std.proofs.Common.{Result, Ok, Err}
+use Rattle.compiled.specs.declared.places.Fault.{Fault}
+use Rattle.compiled.specs.declared.places.Read.{Read}
+use Rattle.compiled.specs.declared.sheets.Head.{Head}
+use Rattle.compiled.proofs.Answers.{answer_read, answer-fault, then_answer, then-answer, place_read, place-fault}
 use Rattle.compiled.proofs.Bounds.{Reaches, reaches_end, reaches_then, number-reaches, components-reach, head-reaches}
 use Rattle.compiled.proofs.Following.{then-read, then-fault}
 use Rattle.compiled.proofs.Walking.{selectors-first, sheet-steps}
@@ -27,34 +25,26 @@ use Rattle.segments.specs.Document.{styled_from, style_count_at, first_styled, S
 use Rattle.segments.proofs.SheetLaws.{selector-lower, first-styled}
 
 -- ---- the returns of `style_count`
--- where the reading fails, the answer is that fault
-faulty : (d : Decoded ℕ) (f : ℕ) → d ≡ fault f → number.Fault f ≡ number_answer d
-unfolding number_answer
-faulty d f e = ap number_answer (sym e)
-
-module _ (code : List ℕ) (at : ℕ) (r : HeadAnswer) (er : r ≡ head_answer (head_at code agent_origin at)) where
+module _ (code : List ℕ) (at : ℕ) (r : Result (Read Head) Fault) (er : r ≡ read_answer (head_at code agent_origin at)) where
   -- there is no selector
-  pub count-headless : (f : ℕ) → r ≡ head.Fault f → number.Fault f ≡ number_answer (style_count_at code at)
+  pub count-headless : (f : Fault) → r ≡ Err f → Err f ≡ read_answer (style_count_at code at)
   unfolding style_count_at
-  count-headless f q = faulty _ f (then-fault (head_at code agent_origin at) _ f (head-fault (head_at code agent_origin at) r er f q))
+  count-headless f q = then-answer (head_at code agent_origin at) _ r er f q
 
-  module _ (n origin pseudo count : ℕ) (q : r ≡ head.Head n origin pseudo count) (p : PlaceAnswer) (ep : p ≡ place_answer (counted (component_at code) count n)) where
-    -- behind the numbers before its components
-    count-behind : style_count_at code at ≡ and_then (counted (component_at code) count n) (λ m _. number_at code m)
-    unfolding style_count_at
-    count-behind = then-read (head_at code agent_origin at) _ n (record { origin = origin; pseudo = pseudo; count = count }) (head_read (head_at code agent_origin at) r er n origin pseudo count q)
-
+  module _ (x : Read Head) (q : r ≡ Ok x) (p : Result ℕ Fault) (ep : p ≡ place_answer (counted (component_at code) x.value.count x.next)) where
     -- the count, or a fault in it
-    pub count-told : (m : ℕ) → p ≡ place.At m → (a : NumberAnswer) → a ≡ number_answer (number_at code m) → a ≡ number_answer (style_count_at code at)
+    pub count-told : (m : ℕ) → p ≡ Ok m → (a : Result (Read ℕ) Fault) → a ≡ read_answer (number_at code m) → a ≡ read_answer (style_count_at code at)
+    unfolding style_count_at
     count-told m h a e =
-        let w = place_read (counted (component_at code) count n) p ep m h in
-        e ∙ ap number_answer (sym (count-behind ∙ then-read (counted (component_at code) count n) (λ k _. number_at code k) m w.0 w.1))
+        let w = place_read (counted (component_at code) x.value.count x.next) p ep m h in
+        then_answer (head_at code agent_origin at) _ r er x q a (e ∙ ap read_answer (sym (then-read (counted (component_at code) x.value.count x.next) (λ k _. number_at code k) m w.0 w.1)))
 
     -- where a component does not read, the answer is that fault
-    pub count-fault : (f : ℕ) → p ≡ place.Fault f → number.Fault f ≡ number_answer (style_count_at code at)
+    pub count-fault : (f : Fault) → p ≡ Err f → Err f ≡ read_answer (style_count_at code at)
+    unfolding style_count_at read_answer
     count-fault f h =
-        faulty (style_count_at code at) f
-        (count-behind ∙ then-fault (counted (component_at code) count n) (λ k _. number_at code k) f (place-fault (counted (component_at code) count n) p ep f h))
+        then_answer (head_at code agent_origin at) _ r er x q (Err f)
+        (ap read_answer (sym (then-fault (counted (component_at code) x.value.count x.next) (λ k _. number_at code k) f.place (place-fault (counted (component_at code) x.value.count x.next) p ep f h))))
 
 -- ---- where a selector stands whose styles are counted
 -- head, components and the count of styles take at least four bytes, and end within the bytes
@@ -85,7 +75,7 @@ module _ (code : List ℕ) (count at left i : ℕ) (v : Finding code count at le
       let e : no_place ≡ first_styled code 0 i = unfold first_styled in refl in
       found_as s no_place (e ∙ ap (λ (k : ℕ). first_styled code k i) d) (omega arith)
 
-  module _ (h : 0 < left) (r : NumberAnswer) (er : r ≡ number_answer (style_count_at code i)) where
+  module _ (h : 0 < left) (r : Result (Read ℕ) Fault) (er : r ≡ read_answer (style_count_at code i)) where
     -- the first of those that are left is by the styles of this one: it, or the first behind it
     find-step : on_decoded (style_count_at code i) (λ n styles. pick (is styles 0) (first_styled code (left - 1) n) i) (λ _. no_place) ≡ first_styled code left i
     find-step =
@@ -95,34 +85,34 @@ module _ (code : List ℕ) (count at left i : ℕ) (v : Finding code count at le
         e ∙ ap (λ (k : ℕ). first_styled code k i) d
 
     -- where no count of styles reads, the answer is no place
-    pub find-fault : SelectorsRead code count at → (f : ℕ) → r ≡ number.Fault f → Found no_place
+    pub find-fault : SelectorsRead code count at → (f : Fault) → r ≡ Err f → Found no_place
     find-fault s f q =
         let e : no_place ≡ on_decoded (style_count_at code i) (λ n styles. pick (is styles 0) (first_styled code (left - 1) n) i) (λ _. no_place) =
-        unfold on_decoded in rw (number-fault (style_count_at code i) r er f q) in
+        unfold on_decoded in rw (answer-fault (style_count_at code i) r er f q) in
         found_as s no_place (e ∙ find-step) (omega arith)
 
-    module _ (n styles : ℕ) (q : r ≡ number.Number n styles) where
+    module _ (x : Read ℕ) (q : r ≡ Ok x) where
       -- it has so many styles
-      find-count : pick (is styles 0) (first_styled code (left - 1) n) i ≡ first_styled code left i
+      find-count : pick (is x.value 0) (first_styled code (left - 1) x.next) i ≡ first_styled code left i
       find-count =
-          let e : pick (is styles 0) (first_styled code (left - 1) n) i
+          let e : pick (is x.value 0) (first_styled code (left - 1) x.next) i
           ≡ on_decoded (style_count_at code i) (λ n styles. pick (is styles 0) (first_styled code (left - 1) n) i) (λ _. no_place) =
-          unfold on_decoded in rw (number_read (style_count_at code i) r er n styles q) in
+          unfold on_decoded in rw (answer_read (style_count_at code i) r er x q) in
           e ∙ find-step
 
       -- a selector of one style or more is the first
-      pub find-styled : SelectorsRead code count at → 0 < styles → Found i
+      pub find-styled : SelectorsRead code count at → 0 < x.value → Found i
       find-styled s p =
-          let e : i ≡ pick (is styles 0) (first_styled code (left - 1) n) i = unfold pick in rw (is-no styles 0 (λ z. omega arith)) in
-          let l = reaches_end (length code) i 4 n styles (style_count_at code i) (count-reaches code i) (number_read (style_count_at code i) r er n styles q) in
+          let e : i ≡ pick (is x.value 0) (first_styled code (left - 1) x.next) i = unfold pick in rw (is-no x.value 0 (λ z. omega arith)) in
+          let l = reaches_end (length code) i 4 x.next x.value (style_count_at code i) (count-reaches code i) (answer_read (style_count_at code i) r er x q) in
           let a = l.0 in
           let b = l.1 in
           found_as s i (e ∙ find-count) (omega arith)
 
       -- none: the next one stands behind their count
-      pub find-bare : styles ≤ 0 → Finding code count at (left - 1) n
+      pub find-bare : x.value ≤ 0 → Finding code count at (left - 1) x.next
       find-bare p =
-          let e : first_styled code (left - 1) n ≡ pick (is styles 0) (first_styled code (left - 1) n) i = unfold pick in rw (is-yes styles 0 (omega arith)) in
+          let e : first_styled code (left - 1) x.next ≡ pick (is x.value 0) (first_styled code (left - 1) x.next) i = unfold pick in rw (is-yes x.value 0 (omega arith)) in
           e ∙ find-count ∙ v
 
 -- ---- the selectors of a sheet are read behind their count

@@ -12,14 +12,13 @@ use Rattle.combinators.specs.Choice.{pick, is}
 use Rattle.combinators.specs.Part.{part}
 use Rattle.combinators.proofs.Rules.{pick_true, pick-false, is-yes, is-no}
 use Rattle.syntax.specs.Style.{agent_origin}
-use Rattle.compiled.specs.Answer.{number_answer, selector_answer}
+use Rattle.compiled.specs.Answer.{read_answer, selector_answer}
 use Rattle.compiled.specs.Decoded.{Decoded, read, fault, on_decoded}
 use Rattle.compiled.specs.Sheet.{compiled_limit, CompiledSelector, selector_at}
-use Rattle.compiled.specs.declared.numbers.NumberAnswer.{NumberAnswer}
-use Rattle.compiled.specs.declared.numbers.NumberAnswer.TheVariants as number
-use Rattle.compiled.specs.declared.sheets.SelectorAnswer.{SelectorAnswer}
-use Rattle.compiled.specs.declared.sheets.SelectorAnswer.TheVariants as selector
-use Rattle.compiled.proofs.Answers.{number_read, number-fault, selector-read, selector-fault}
+use Rattle.std.proofs.Common.{Result, Ok, Err}
+use Rattle.compiled.specs.declared.places.Fault.{Fault}
+use Rattle.compiled.specs.declared.places.Read.{Read}
+use Rattle.compiled.proofs.Answers.{answer_read, answer-fault, selector-read, selector-fault}
 use Rattle.compiled.proofs.Bounds.{reaches_end, selector-reaches}
 use Rattle.segments.specs.Placed.{has_style}
 use Rattle.segments.specs.Document.{styled_from, leftmost_at, fresh_from, style_count_at, SelectorsRead}
@@ -36,16 +35,16 @@ some : (n : ℕ) → ltb 0 n ≡ pick (is n 0) false true
 some zero = pick_true _ _ _ _ (is-yes 0 0 refl) refl
 some (suc n) = pick-false _ _ _ _ (is-no (suc n) 0 (λ e. omega arith)) (lt-ltb 0 (suc n) (omega arith))
 
-module _ (code : List ℕ) (at : ℕ) (r : NumberAnswer) (er : r ≡ number_answer (style_count_at code at)) where
+module _ (code : List ℕ) (at : ℕ) (r : Result (Read ℕ) Fault) (er : r ≡ read_answer (style_count_at code at)) where
   -- a selector has a style exactly if the count that was read is above 0
-  pub styled-count : (n styles : ℕ) → r ≡ number.Number n styles → ltb 0 styles ≡ has_style_at code at
+  pub styled-count : (x : Read ℕ) → r ≡ Ok x → ltb 0 x.value ≡ has_style_at code at
   unfolding has_style_at on_decoded
-  styled-count n styles q = rw (number_read (style_count_at code at) r er n styles q) (some styles)
+  styled-count x q = rw (answer_read (style_count_at code at) r er x q) (some x.value)
 
   -- where no count reads, it has none
-  pub styled-fault : (f : ℕ) → r ≡ number.Fault f → false ≡ has_style_at code at
+  pub styled-fault : (f : Fault) → r ≡ Err f → false ≡ has_style_at code at
   unfolding has_style_at on_decoded
-  styled-fault f q = rw (number-fault (style_count_at code at) r er f q)
+  styled-fault f q = rw (answer-fault (style_count_at code at) r er f q)
 
 -- ---- the returns of `put_styled`
 module _ (code s₀ : List ℕ) (own width p behind left : ℕ) (b : Bool) (eb : b ≡ has_style_at code p) where
@@ -82,7 +81,7 @@ module _ (code state₀ : List ℕ) (own width count at : ℕ) (state : List ℕ
       let e : state ≡ fresh_stored code own width 0 i state = unfold fresh_stored in refl in
       e ∙ ap (λ (k : ℕ). fresh_stored code own width k i state) d ∙ v.whole
 
-  module _ (h : 0 < left) (r : SelectorAnswer) (er : r ≡ selector_answer (selector_at code agent_origin i)) where
+  module _ (h : 0 < left) (r : Result (Read ℕ) Fault) (er : r ≡ selector_answer (selector_at code agent_origin i)) where
     -- those behind one of them
     others : ℕ → CompiledSelector → List ℕ
     others n s = fresh_stored code own width (left - 1) n (pick (has_style s.styles) (block_stored state own width (leftmost_at code i) (styled_from code (left - 1) n) i) state)
@@ -96,7 +95,7 @@ module _ (code state₀ : List ℕ) (own width count at : ℕ) (state : List ℕ
         e ∙ ap (λ (k : ℕ). fresh_stored code own width k i state) d ∙ v.whole
 
     -- where no selector reads, the rest is told nothing and the state is as it has to be
-    pub tell-fault : (f : ℕ) → r ≡ selector.Fault f → state ≡ fresh_stored code own width count at state₀
+    pub tell-fault : (f : Fault) → r ≡ Err f → state ≡ fresh_stored code own width count at state₀
     tell-fault f q =
         let e : state ≡ on_decoded (selector_at code agent_origin i) others (λ _. state) = unfold on_decoded in rw (selector-fault (selector_at code agent_origin i) r er f q) in
         e ∙ tell-step
@@ -106,33 +105,33 @@ module _ (code state₀ : List ℕ) (own width count at : ℕ) (state : List ℕ
     unfolding on_decoded
     tell-read n s e = ap (λ (d : Decoded CompiledSelector). on_decoded d others (λ _. state)) (sym e) ∙ tell-step
 
-    module _ (n origin : ℕ) (q : r ≡ selector.Selector n origin) where
+    module _ (x : Read ℕ) (q : r ≡ Ok x) where
       -- what is asked for to store its block
-      pub tell-lent : TellLent code state own width (left - 1) n × (i ≤ compiled_limit)
+      pub tell-lent : TellLent code state own width (left - 1) x.next × (i ≤ compiled_limit)
       tell-lent =
-          let w = selector-read (selector_at code agent_origin i) r er n origin q in
+          let w = selector-read (selector_at code agent_origin i) r er x q in
           let d : left ≡ suc (left - 1) = omega arith in
-          let l = reaches_end (length code) i 4 n w.0 (selector_at code agent_origin i) (selector-reaches code agent_origin i) w.1 in (
+          let l = reaches_end (length code) i 4 x.next w.0 (selector_at code agent_origin i) (selector-reaches code agent_origin i) w.1 in (
             record {
               room = v.lent.room;
               few_bytes = v.lent.few_bytes;
-              reads = selectors-behind code (left - 1) i (subst (λ (k : ℕ). SelectorsRead code k i) d v.lent.reads) n w.0 w.1;
+              reads = selectors-behind code (left - 1) i (subst (λ (k : ℕ). SelectorsRead code k i) d v.lent.reads) x.next w.0 w.1;
             },
             omega (arith, l.0, l.1, v.lent.few_bytes),
           )
 
       -- a selector is told, and the loop goes on behind it with one fewer left
-      pub tell-more : (s₁ : List ℕ) → s₁ ≡ pick (has_style_at code i) (block_stored state own width (leftmost_at code i) (styled_from code (left - 1) n) i) state
-          → Telling code state₀ own width count at s₁ (left - 1) n
+      pub tell-more : (s₁ : List ℕ) → s₁ ≡ pick (has_style_at code i) (block_stored state own width (leftmost_at code i) (styled_from code (left - 1) x.next) i) state
+          → Telling code state₀ own width count at s₁ (left - 1) x.next
       tell-more s₁ e₁ =
-          let w = selector-read (selector_at code agent_origin i) r er n origin q in
-          let block = block_stored state own width (leftmost_at code i) (styled_from code (left - 1) n) i in
-          let same = outside-either (has_style_at code i) block state state own width (block-outside state own width (leftmost_at code i) (styled_from code (left - 1) n) i) (outside-same state own width) in
+          let w = selector-read (selector_at code agent_origin i) r er x q in
+          let block = block_stored state own width (leftmost_at code i) (styled_from code (left - 1) x.next) i in
+          let same = outside-either (has_style_at code i) block state state own width (block-outside state own width (leftmost_at code i) (styled_from code (left - 1) x.next) i) (outside-same state own width) in
           let l : length s₁ ≡ length state = ap length e₁ ∙ same.long in
-          let o : fresh_stored code own width (left - 1) n s₁ ≡ others n w.0 =
-          unfold others in ap (fresh_stored code own width (left - 1) n) (e₁ ∙ ap (λ (b : Bool). pick b block state) (has-style-at code i n w.0 w.1)) in
+          let o : fresh_stored code own width (left - 1) x.next s₁ ≡ others x.next w.0 =
+          unfold others in ap (fresh_stored code own width (left - 1) x.next) (e₁ ∙ ap (λ (b : Bool). pick b block state) (has-style-at code i x.next w.0 w.1)) in
           record {
-            whole = o ∙ tell-read n w.0 w.1;
+            whole = o ∙ tell-read x.next w.0 w.1;
             long = l ∙ v.long;
             lent = record { room = omega (arith, l, v.lent.room); few_bytes = v.lent.few_bytes; reads = tell-lent.0.reads };
           }

@@ -12,12 +12,14 @@ use Rattle.syntax.specs.Layout.{flag, flag_of}
 use Rattle.syntax.specs.Style.{agent_origin}
 use Rattle.combinators.proofs.Rules.{never, is-yes, is-no}
 use Rattle.page.specs.Path.{Path}
-use Rattle.compiled.specs.Answer.{head_answer}
+use Rattle.compiled.specs.Answer.{read_answer}
 use Rattle.compiled.specs.Decoded.{Decoded, read, fault, on_decoded}
-use Rattle.compiled.specs.Sheet.{Head, head_at}
-use Rattle.compiled.specs.declared.sheets.HeadAnswer.{HeadAnswer}
-use Rattle.compiled.specs.declared.sheets.HeadAnswer.TheVariants as head
-use Rattle.compiled.proofs.Answers.{head_read, head-fault}
+use Rattle.compiled.specs.Sheet.{head_at}
+use Rattle.compiled.specs.declared.sheets.Head.{Head}
+use Rattle.std.proofs.Common.{Result, Ok, Err}
+use Rattle.compiled.specs.declared.places.Fault.{Fault}
+use Rattle.compiled.specs.declared.places.Read.{Read}
+use Rattle.compiled.proofs.Answers.{answer_read, answer-fault}
 use Rattle.segments.specs.Sweep.{pair_at, pair_bytes, tests_pass, with_tests, mark_bytes, sweep_at}
 use Rattle.segments.specs.Before.{Segment, beginning, segment_before, fresh_bytes}
 use Rattle.segments.specs.Visits.{to_next, to_awaited, to_flags, block_bytes, Visited, awaits, ended_by, ended_at, decided, visit_at}
@@ -132,22 +134,22 @@ module _ (code : List ℕ) (p awaited : ℕ) (ends : Bool) where
   unfolding next_awaited pick
   awaited-stays t = rw t
 
-  module _ (t : ends ≡ true) (r : HeadAnswer) (er : r ≡ head_answer (head_at code agent_origin p)) where
+  module _ (t : ends ≡ true) (r : Result (Read Head) Fault) (er : r ≡ read_answer (head_at code agent_origin p)) where
     -- of a selector that is none
-    pub awaited-fault : (f : ℕ) → r ≡ head.Fault f → segment.Same false ≡ next_awaited code p awaited ends
+    pub awaited-fault : (f : Fault) → r ≡ Err f → segment.Same false ≡ next_awaited code p awaited ends
     unfolding next_awaited on_decoded pick
-    awaited-fault f q = rw (t, head-fault (head_at code agent_origin p) r er f q)
+    awaited-fault f q = rw (t, answer-fault (head_at code agent_origin p) r er f q)
 
-    module _ (first origin pseudo count : ℕ) (q : r ≡ head.Head first origin pseudo count) where
+    module _ (x : Read Head) (q : r ≡ Ok x) where
       -- where the segment that ends here is the last, the selector matches
-      pub awaited-last : awaited ≡ first → segment.Same true ≡ next_awaited code p awaited ends
+      pub awaited-last : awaited ≡ x.next → segment.Same true ≡ next_awaited code p awaited ends
       unfolding next_awaited on_decoded pick
-      awaited-last e = rw (t, head_read (head_at code agent_origin p) r er first origin pseudo count q, is-yes awaited first e)
+      awaited-last e = rw (t, answer_read (head_at code agent_origin p) r er x q, is-yes awaited x.next e)
 
       -- where it is not the last, the one before it in the bytes is awaited
-      pub awaited-before : ¬ (awaited ≡ first) → segment.Before count first ≡ next_awaited code p awaited ends
+      pub awaited-before : ¬ (awaited ≡ x.next) → segment.Before x.value.count x.next ≡ next_awaited code p awaited ends
       unfolding next_awaited on_decoded pick
-      awaited-before e = rw (t, head_read (head_at code agent_origin p) r er first origin pseudo count q, is-no awaited first e)
+      awaited-before e = rw (t, answer_read (head_at code agent_origin p) r er x q, is-no awaited x.next e)
 
 -- ---- the returns of `visit_swept`
 module _ (code flags : List ℕ) (p awaited : ℕ) where

@@ -1,5 +1,5 @@
 -- The visit of a selector in a state: what it asks for, and the block that it leaves in the own part.
-use Rattle.std.specs.Prelude.{ℕ, ◌+◌, ◌-◌, ◌≤◌, Bool, true, false, List, ◌∷◌, length}
+use Rattle.std.specs.Prelude.{ℕ, ◌+◌, ◌-◌, ◌≤◌, Bool, true, false, List, ◌∷◌, length, Option}
 use Rattle.combinators.specs.Choice.{pick, is}
 use Rattle.syntax.specs.Layout.{flag}
 use Rattle.syntax.specs.Style.{agent_origin}
@@ -8,20 +8,22 @@ use Rattle.compiled.specs.Decoded.{on_decoded}
 use Rattle.compiled.specs.Sheet.{compiled_limit, head_at}
 use Rattle.segments.specs.Before.{beginning, segment_before}
 use Rattle.segments.specs.Visits.{to_next, to_flags, block_bytes, Visited, awaits, decided}
-use Rattle.sweeps.specs.Met.{place_limit}
+use Rattle.sweeps.specs.Met.{Near}
 use Rattle.segments.specs.Parts.{part_sets, Apart}
 use Rattle.sweeps.specs.Swept.{swept_behind}
+use Rattle.sweeps.specs.declared.elements.Handed.{Handed}
+use Rattle.sweeps.specs.declared.sweeping.Parts.{Parts}
 use Rattle.sweeps.specs.declared.sweeping.Swept.{Swept}
 use Rattle.visits.specs.declared.visiting.Awaited.{Awaited}
 use Rattle.visits.specs.declared.visiting.Awaited.TheVariants as segment
 
 -- the parent's part and the own stand apart, and the own has room; the place of the selector is no greater than a place of compiled bytes
-pub record VisitLent (code state : List ℕ) (above own width p place : ℕ) : Type 0 where
-  pub room : own + width ≤ length state
-  pub apart : Apart above own width
+pub record VisitLent (code state : List ℕ) (parts : Parts) (p : ℕ) (element : Option Handed) : Type 0 where
+  pub room : parts.own + parts.width ≤ length state
+  pub apart : Apart parts.above parts.own parts.width
   pub few_bytes : length code ≤ compiled_limit
   pub near : p ≤ compiled_limit
-  pub few : place ≤ place_limit
+  pub few : Near element
 
 -- from the place of a selector whose block has a mark: to the count of its tests, and to the end of the block
 abbrev pub to_tests : ℕ

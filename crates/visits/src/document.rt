@@ -1,7 +1,7 @@
 // What the document is told: of each selector that has a style the leftmost segment is awaited, and nothing of it has begun.
 ghost use Rattle.std.specs.Prelude.{◌≡◌, ◌+◌, ◌≤◌, length};
 ghost use Rattle.combinators.specs.Choice.{pick};
-ghost use Rattle.compiled.specs.Answer.{number_answer};
+ghost use Rattle.compiled.specs.Answer.{read_answer};
 ghost use Rattle.compiled.specs.Sheet.{compiled_limit};
 ghost use Rattle.segments.specs.Document.{styled_from, leftmost_at, style_count_at, SelectorsRead};
 ghost use Rattle.visits.specs.Visiting.{block_stored};
@@ -9,13 +9,13 @@ ghost use Rattle.visits.specs.Telling.{fresh_stored, has_style_at, TellLent};
 
 use crate::visiting::{TO_FLAGS, put_awaits, put_places};
 use compiled::components::skip_components;
-use compiled::numbers::{NumberAnswer, read_number};
-use compiled::places::PlaceAnswer;
-use compiled::sheets::{HeadAnswer, SelectorAnswer, read_head, skip_selector};
+use compiled::numbers::read_number;
+use compiled::places::{Fault, Read};
+use compiled::sheets::{read_head, skip_selector};
 use sweeps::parts::put_fresh;
 use syntax::rows::AGENT_ORIGIN;
 
-// No place of a segment.
+// No place of a segment: what the bytes of a part have where there is none.
 const NO_PLACE: usize = 0;
 
 // Stores the block of the selector at `p`, where the place of the next one that has a style is `next`.
@@ -32,39 +32,26 @@ pub fn put_leftmost(
     ensures { state.new ≡ block_stored state.old own width (leftmost_at compiled.now p) next p }
 {
     match read_head(compiled, p, AGENT_ORIGIN) {
-        HeadAnswer::Head {
-            next: first,
-            count,
-            ..
-        } => {
-            put_awaits(compiled, state, own, width, p, next, NO_PLACE, count, first);
-            return;
+        Ok(head) => {
+            let count = head.value.count;
+            put_awaits(
+                compiled, state, own, width, p, next, NO_PLACE, count, head.next,
+            );
         }
-        HeadAnswer::Fault(_) => {
+        Err(_) => {
             put_places(state, own, width, p, next, NO_PLACE);
             put_fresh(state, own, width, p + TO_FLAGS, NO_PLACE, 0, 0);
-            return;
         }
     }
 }
 
 // How many styles the selector at `at` has, and the place behind their count.
-fn style_count(compiled: &[u8], at: usize) -> NumberAnswer
-    ensures { result ≡ number_answer (style_count_at compiled.now at) }
+fn style_count(compiled: &[u8], at: usize) -> Result<Read<u32>, Fault>
+    ensures { result ≡ read_answer (style_count_at compiled.now at) }
 {
-    match read_head(compiled, at, AGENT_ORIGIN) {
-        HeadAnswer::Head { next, count, .. } => match skip_components(compiled, next, count) {
-            PlaceAnswer::At(end) => {
-                return read_number(compiled, end);
-            }
-            PlaceAnswer::Fault(place) => {
-                return NumberAnswer::Fault(place);
-            }
-        },
-        HeadAnswer::Fault(place) => {
-            return NumberAnswer::Fault(place);
-        }
-    }
+    let head = read_head(compiled, at, AGENT_ORIGIN)?;
+    let end = skip_components(compiled, head.next, head.value.count)?;
+    read_number(compiled, end)
 }
 
 // The place of the first of `count` selectors from `at` on that has a style. Styles are not read: behind a count of none the next selector stands.
@@ -73,21 +60,15 @@ pub fn first_styled(compiled: &[u8], at: usize, count: u32) -> usize
     ensures value { result ≡ styled_from compiled.now count at }
     ensures upper_bound { result ≤ length compiled.now }
 {
-    let mut i = at;
-    let mut left = count;
-    while left > 0 {
-        match style_count(compiled, i) {
-            NumberAnswer::Number(next, styles) => {
-                if styles > 0 {
-                    return i;
-                }
-                i = next;
-                left -= 1;
-            }
-            NumberAnswer::Fault(_) => {
-                return NO_PLACE;
-            }
+    let mut next = at;
+    for _ in 0..count {
+        let Ok(styles) = style_count(compiled, next) else {
+            return NO_PLACE;
+        };
+        if styles.value > 0 {
+            return next;
         }
+        next = styles.next;
     }
     NO_PLACE
 }
@@ -97,12 +78,8 @@ fn has_style(compiled: &[u8], at: usize) -> bool
     ensures { result ≡ has_style_at compiled.now at }
 {
     match style_count(compiled, at) {
-        NumberAnswer::Number(_, styles) => {
-            return styles > 0;
-        }
-        NumberAnswer::Fault(_) => {
-            return false;
-        }
+        Ok(styles) => styles.value > 0,
+        Err(_) => false,
     }
 }
 
@@ -139,18 +116,13 @@ pub fn tell_document(
     requires { TellLent compiled.now state.old own width count at }
     ensures { state.new ≡ fresh_stored compiled.now own width count at state.old }
 {
-    let mut i = at;
-    let mut left = count;
-    while left > 0 {
-        match skip_selector(compiled, i, AGENT_ORIGIN) {
-            SelectorAnswer::Selector(next, _) => {
-                left -= 1;
-                put_styled(compiled, state, own, width, i, next, left);
-                i = next;
-            }
-            SelectorAnswer::Fault(_) => {
-                return;
-            }
-        }
+    let mut p = at;
+    for done in 0..count {
+        let Ok(selector) = skip_selector(compiled, p, AGENT_ORIGIN) else {
+            return;
+        };
+        let left = count - done - 1;
+        put_styled(compiled, state, own, width, p, selector.next, left);
+        p = selector.next;
     }
 }

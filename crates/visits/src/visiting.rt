@@ -6,18 +6,19 @@ ghost use Rattle.compiled.specs.Sheet.{compiled_limit};
 ghost use Rattle.segments.specs.Sweep.{pair_at, pair_bytes, with_tests};
 ghost use Rattle.segments.specs.Before.{beginning, segment_before};
 ghost use Rattle.segments.specs.Visits.{to_next, awaits, block_bytes, visit_at};
-ghost use Rattle.sweeps.specs.Met.{row_alone, handed_element};
+ghost use Rattle.sweeps.specs.Met.{row_alone};
 ghost use Rattle.segments.specs.Parts.{part_sets, pair_limit};
 ghost use Rattle.sweeps.specs.Swept.{swept_mark};
 ghost use Rattle.visits.specs.Visiting.{VisitLent, to_end, block_stored, behind_first, swept_visit, next_awaited};
 
 use combinators::texts::part_of;
-use compiled::sheets::{HeadAnswer, read_head};
+use compiled::sheets::read_head;
 use sweeps::compounds::{segment_before, tests_pass};
+use sweeps::elements::Handed;
 use sweeps::parts::{
     WITH_TESTS, pair_at, pair_there, put_fresh, put_mark, put_mark_there, put_pair, put_pair_there,
 };
-use sweeps::sweeping::{Swept, sweep_one, sweep_rest};
+use sweeps::sweeping::{Parts, Swept, sweep_one, sweep_rest};
 use syntax::rows::AGENT_ORIGIN;
 
 // From the place of a selector, to where its block has the place of the next selector, that of the segment that is awaited, and its flags.
@@ -33,14 +34,14 @@ pub const TO_TESTS: usize = 6;
 pub const TO_END: usize = 8;
 
 // The segment that is awaited behind a row: the same one, with whether the selector matches; or the one before it, of so many components from a place on.
-#[derive(Clone, Copy)]
+#[derive(Clone, Copy, PartialEq, Eq)]
 pub enum Awaited {
     Same(bool),
     Before(u32, usize),
 }
 
 // Whether a selector matches, and the place of the next one.
-#[derive(Clone, Copy)]
+#[derive(Clone, Copy, PartialEq, Eq)]
 pub struct VisitAnswer {
     pub matched: bool,
     pub next: usize,
@@ -91,43 +92,31 @@ pub fn put_awaits(
 fn put_stays(
     compiled: &[u8],
     state: &mut [u8],
-    above: usize,
-    own: usize,
-    width: usize,
+    parts: Parts,
     p: usize,
     next: usize,
     awaited: usize,
     one: Swept,
-    element: bool,
-    name: &[u8],
-    attributes: &[u32],
-    text: &[u8],
-    place: usize,
+    element: Option<Handed<'_>>,
 )
-    requires visit_lent { VisitLent compiled.now state.old above own width p place }
+    requires visit_lent { VisitLent compiled.now state.old parts p element }
     requires compiled_nonzero { 0 < length compiled.now }
-    ensures { state.new ≡ part_sets state.old own width (p + to_next) (block_bytes next awaited
-        (behind_first compiled.now (row_alone element (handed_element name.now attributes.now text.now place)) (part state.old above width) p one)) }
+    ensures { state.new ≡ part_sets state.old parts.own parts.width (p + to_next) (block_bytes next awaited
+        (behind_first compiled.now (row_alone element.entry) (part state.old parts.above parts.width) p one)) }
 {
-    put_places(state, own, width, p, next, awaited);
+    put_places(state, parts.own, parts.width, p, next, awaited);
     if one.marked {
-        put_mark(state, own, width, p + TO_FLAGS, one.tests);
+        put_mark(state, parts.own, parts.width, p + TO_FLAGS, one.tests);
         return;
     }
     sweep_rest(
         compiled,
         state,
-        above,
-        own,
-        width,
+        parts,
         p + TO_FLAGS,
         one.place,
         compiled.len() - 1,
         element,
-        name,
-        attributes,
-        text,
-        place,
     );
 }
 
@@ -135,60 +124,54 @@ fn put_stays(
 fn next_awaited(compiled: &[u8], p: usize, awaited: usize, ends: bool) -> Awaited
     ensures { result ≡ next_awaited compiled.now p awaited ends }
 {
-    if ends {
-        match read_head(compiled, p, AGENT_ORIGIN) {
-            HeadAnswer::Head {
-                next: first,
-                count,
-                ..
-            } => {
-                if awaited == first {
-                    return Awaited::Same(true);
-                }
-                return Awaited::Before(count, first);
-            }
-            HeadAnswer::Fault(_) => {
-                return Awaited::Same(false);
-            }
-        }
+    if !ends {
+        return Awaited::Same(false);
     }
-    Awaited::Same(false)
+    let Ok(head) = read_head(compiled, p, AGENT_ORIGIN) else {
+        return Awaited::Same(false);
+    };
+    if awaited == head.next {
+        Awaited::Same(true)
+    } else {
+        Awaited::Before(head.value.count, head.next)
+    }
 }
 
 // A selector by its first compound `one`: whether it matches; its block goes to the own part.
 fn visit_swept(
     compiled: &[u8],
     state: &mut [u8],
-    above: usize,
-    own: usize,
-    width: usize,
+    parts: Parts,
     p: usize,
     next: usize,
     awaited: usize,
     one: Swept,
-    element: bool,
-    name: &[u8],
-    attributes: &[u32],
-    text: &[u8],
-    place: usize,
+    element: Option<Handed<'_>>,
 ) -> bool
-    requires visit_lent { VisitLent compiled.now state.old above own width p place }
+    requires visit_lent { VisitLent compiled.now state.old parts p element }
     requires compiled_nonzero { 0 < length compiled.now }
-    ensures value { result ≡ (swept_visit compiled.now (row_alone element (handed_element name.now attributes.now text.now place)) (part state.old above width) p awaited one).matched }
-    ensures state_after { state.new ≡ block_stored state.old own width
-        (swept_visit compiled.now (row_alone element (handed_element name.now attributes.now text.now place)) (part state.old above width) p awaited one) next p }
+    ensures value { result ≡ (swept_visit compiled.now (row_alone element.entry) (part state.old parts.above parts.width) p awaited one).matched }
+    ensures state_after { state.new ≡ block_stored state.old parts.own parts.width
+        (swept_visit compiled.now (row_alone element.entry) (part state.old parts.above parts.width) p awaited one) next p }
 {
     match next_awaited(compiled, p, awaited, one.ends) {
         Awaited::Same(matched) => {
-            put_stays(
-                compiled, state, above, own, width, p, next, awaited, one, element, name,
-                attributes, text, place,
-            );
-            return matched;
+            put_stays(compiled, state, parts, p, next, awaited, one, element);
+            matched
         }
         Awaited::Before(count, first) => {
-            put_awaits(compiled, state, own, width, p, next, awaited, count, first);
-            return false;
+            put_awaits(
+                compiled,
+                state,
+                parts.own,
+                parts.width,
+                p,
+                next,
+                awaited,
+                count,
+                first,
+            );
+            false
         }
     }
 }
@@ -197,31 +180,23 @@ fn visit_swept(
 fn visit_marked(
     compiled: &[u8],
     state: &mut [u8],
-    above: usize,
-    own: usize,
-    width: usize,
+    parts: Parts,
     p: usize,
     next: usize,
     awaited: usize,
     tests: usize,
-    element: bool,
-    name: &[u8],
-    attributes: &[u32],
-    text: &[u8],
-    place: usize,
+    element: Option<Handed<'_>>,
 ) -> bool
-    requires visit_lent { VisitLent compiled.now state.old above own width p place }
+    requires visit_lent { VisitLent compiled.now state.old parts p element }
     requires compiled_nonzero { 0 < length compiled.now }
-    requires to_end_bound { p + to_end ≤ width }
-    ensures value { result ≡ (swept_visit compiled.now (row_alone element (handed_element name.now attributes.now text.now place)) (part state.old above width) p awaited
-        (swept_mark compiled.now (row_alone element (handed_element name.now attributes.now text.now place)) tests awaited)).matched }
-    ensures state_after { state.new ≡ block_stored state.old own width
-        (swept_visit compiled.now (row_alone element (handed_element name.now attributes.now text.now place)) (part state.old above width) p awaited
-        (swept_mark compiled.now (row_alone element (handed_element name.now attributes.now text.now place)) tests awaited)) next p }
+    requires to_end_bound { p + to_end ≤ parts.width }
+    ensures value { result ≡ (swept_visit compiled.now (row_alone element.entry) (part state.old parts.above parts.width) p awaited
+        (swept_mark compiled.now (row_alone element.entry) tests awaited)).matched }
+    ensures state_after { state.new ≡ block_stored state.old parts.own parts.width
+        (swept_visit compiled.now (row_alone element.entry) (part state.old parts.above parts.width) p awaited
+        (swept_mark compiled.now (row_alone element.entry) tests awaited)) next p }
 {
-    let ends = tests_pass(
-        compiled, awaited, tests, element, name, attributes, text, place,
-    );
+    let ends = tests_pass(compiled, awaited, tests, element);
     if ends {
         let one = Swept {
             marked: true,
@@ -229,12 +204,9 @@ fn visit_marked(
             tests,
             place: awaited,
         };
-        return visit_swept(
-            compiled, state, above, own, width, p, next, awaited, one, element, name, attributes,
-            text, place,
-        );
+        return visit_swept(compiled, state, parts, p, next, awaited, one, element);
     }
-    put_marked(state, own + p, next, awaited, tests);
+    put_marked(state, parts.own + p, next, awaited, tests);
     false
 }
 
@@ -242,46 +214,27 @@ fn visit_marked(
 fn visit_any(
     compiled: &[u8],
     state: &mut [u8],
-    above: usize,
-    own: usize,
-    width: usize,
+    parts: Parts,
     p: usize,
-    element: bool,
-    name: &[u8],
-    attributes: &[u32],
-    text: &[u8],
-    place: usize,
+    element: Option<Handed<'_>>,
 ) -> VisitAnswer
-    requires { VisitLent compiled.now state.old above own width p place }
-    ensures matched_value { result.matched ≡ (visit_at compiled.now (row_alone element (handed_element name.now attributes.now text.now place)) (part state.old above width) p).matched }
-    ensures state_after { state.new ≡ block_stored state.old own width
-        (visit_at compiled.now (row_alone element (handed_element name.now attributes.now text.now place)) (part state.old above width) p)
-        (pair_at (part state.old above width) (p + to_next)) p }
-    ensures next_value { result.next ≡ pair_at (part state.old above width) (p + to_next) }
+    requires { VisitLent compiled.now state.old parts p element }
+    ensures matched_value { result.matched ≡ (visit_at compiled.now (row_alone element.entry) (part state.old parts.above parts.width) p).matched }
+    ensures state_after { state.new ≡ block_stored state.old parts.own parts.width
+        (visit_at compiled.now (row_alone element.entry) (part state.old parts.above parts.width) p)
+        (pair_at (part state.old parts.above parts.width) (p + to_next)) p }
+    ensures next_value { result.next ≡ pair_at (part state.old parts.above parts.width) (p + to_next) }
     ensures next_lt_pair_limit { result.next < pair_limit }
 {
-    let flags = part_of(state, above, width);
+    let flags = part_of(state, parts.above, parts.width);
     let next = pair_at(flags, p + TO_NEXT);
     let awaited = pair_at(flags, p + TO_AWAITED);
     if compiled.len() > 0 {
-        let one = sweep_one(
-            compiled,
-            flags,
-            p + TO_FLAGS,
-            awaited,
-            element,
-            name,
-            attributes,
-            text,
-            place,
-        );
-        let matched = visit_swept(
-            compiled, state, above, own, width, p, next, awaited, one, element, name, attributes,
-            text, place,
-        );
+        let one = sweep_one(compiled, flags, p + TO_FLAGS, awaited, element);
+        let matched = visit_swept(compiled, state, parts, p, next, awaited, one, element);
         return VisitAnswer { matched, next };
     }
-    put_places(state, own, width, p, next, awaited);
+    put_places(state, parts.own, parts.width, p, next, awaited);
     VisitAnswer {
         matched: false,
         next,
@@ -292,40 +245,25 @@ fn visit_any(
 pub fn visit(
     compiled: &[u8],
     state: &mut [u8],
-    above: usize,
-    own: usize,
-    width: usize,
+    parts: Parts,
     p: usize,
-    element: bool,
-    name: &[u8],
-    attributes: &[u32],
-    text: &[u8],
-    place: usize,
+    element: Option<Handed<'_>>,
 ) -> VisitAnswer
-    requires { VisitLent compiled.now state.old above own width p place }
-    ensures matched_value { result.matched ≡ (visit_at compiled.now (row_alone element (handed_element name.now attributes.now text.now place)) (part state.old above width) p).matched }
-    ensures state_after { state.new ≡ block_stored state.old own width
-        (visit_at compiled.now (row_alone element (handed_element name.now attributes.now text.now place)) (part state.old above width) p)
-        (pair_at (part state.old above width) (p + to_next)) p }
-    ensures next_value { result.next ≡ pair_at (part state.old above width) (p + to_next) }
+    requires { VisitLent compiled.now state.old parts p element }
+    ensures matched_value { result.matched ≡ (visit_at compiled.now (row_alone element.entry) (part state.old parts.above parts.width) p).matched }
+    ensures state_after { state.new ≡ block_stored state.old parts.own parts.width
+        (visit_at compiled.now (row_alone element.entry) (part state.old parts.above parts.width) p)
+        (pair_at (part state.old parts.above parts.width) (p + to_next)) p }
+    ensures next_value { result.next ≡ pair_at (part state.old parts.above parts.width) (p + to_next) }
     ensures next_lt_pair_limit { result.next < pair_limit }
 {
-    let flags = part_of(state, above, width);
-    if compiled.len() > 0 {
-        if p + TO_END <= flags.len() {
-            if flags[p + TO_FLAGS] == WITH_TESTS {
-                let next = pair_there(flags, p + TO_NEXT);
-                let awaited = pair_there(flags, p + TO_AWAITED);
-                let tests = pair_there(flags, p + TO_TESTS);
-                let matched = visit_marked(
-                    compiled, state, above, own, width, p, next, awaited, tests, element, name,
-                    attributes, text, place,
-                );
-                return VisitAnswer { matched, next };
-            }
-        }
+    let flags = part_of(state, parts.above, parts.width);
+    if compiled.len() > 0 && p + TO_END <= flags.len() && flags[p + TO_FLAGS] == WITH_TESTS {
+        let next = pair_there(flags, p + TO_NEXT);
+        let awaited = pair_there(flags, p + TO_AWAITED);
+        let tests = pair_there(flags, p + TO_TESTS);
+        let matched = visit_marked(compiled, state, parts, p, next, awaited, tests, element);
+        return VisitAnswer { matched, next };
     }
-    visit_any(
-        compiled, state, above, own, width, p, element, name, attributes, text, place,
-    )
+    visit_any(compiled, state, parts, p, element)
 }

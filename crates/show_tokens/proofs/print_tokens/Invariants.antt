@@ -1,11 +1,9 @@
--- Each token ends within the text, and the store keeps its length.
-use mathlib.Core.Path.{◌≡◌}
-use Prim.Native.Nat.{◌≤◌, ◌-◌}
-use lib.ListN.{length}
+-- Reading stays within the text, and goes on by a byte at least.
+use Rattle.std.proofs.Common.{◌≤◌, ◌-◌, length}
 use Rattle.show_tokens.proofs.print_tokens.Given as goal
 
-abbrev pub invariant-loop-at : goal.invariant-loop-at
-invariant-loop-at l = (l.at ≤ length l.s) × (length l.store ≡ length l.initial.store)
+abbrev pub invariant-loop-start : goal.invariant-loop-start
+invariant-loop-start g l = l.at ≤ length l.s
 
-abbrev pub decreases-loop-at : goal.decreases-loop-at
-decreases-loop-at l = length l.s - l.at
+abbrev pub decreases-loop-start : goal.decreases-loop-start
+decreases-loop-start g l = length l.s - l.at

@@ -1,9 +1,9 @@
 -- What is read stays within the buffer.
-use Rattle.std.proofs.Common.{length, ◌-◌, ◌≤◌}
+use Rattle.std.proofs.Common.{◌≤◌, ◌-◌, length}
 use Rattle.streams.proofs.read_full.Given as goal
 
-abbrev pub invariant-loop-done : goal.invariant-loop-done
-invariant-loop-done l = l.done ≤ length l.buffer
+abbrev pub invariant-loop-n : goal.invariant-loop-n
+invariant-loop-n g l = l.done ≤ length l.buffer
 
-abbrev pub decreases-loop-done : goal.decreases-loop-done
-decreases-loop-done l = length l.initial.buffer - l.done
+abbrev pub decreases-loop-n : goal.decreases-loop-n
+decreases-loop-n g l = length l.initial.buffer - l.done

@@ -64,7 +64,7 @@ returns c = let t : goal.returns-raw c = let a = c.args in (
     c.compile_and_run-answers.ensures.run_brackets_after,
     (
       c.style-styling.ensures,
-      laws.calls-agree (record { agent = a.agent.now; user = a.user.now; author = a.author.now }) (record { nodes = a.nodes.now; attributes = a.attributes.now; text = a.text.now }) a.settings
+      laws.calls-agree (record { agent = a.sheets.agent.now; user = a.sheets.user.now; author = a.sheets.author.now }) (record { nodes = a.page.nodes.now; attributes = a.page.attributes.now; text = a.page.text.now }) a.settings
           (record { compiled = a.compiled.now; texts = a.compile_texts.now; rules = a.compile_rules.now; tokens = a.compile_tokens.now; brackets = a.compile_brackets.now })
           (record { rows = a.rows.now; texts = a.run_texts.now; state = a.state.now; rules = a.run_rules.now; tokens = a.run_tokens.now; brackets = a.run_brackets.now }) a.row
           (record { row = a.out.now; texts = a.style_texts.now; rules = a.style_rules.now; tokens = a.style_tokens.now; brackets = a.style_brackets.now }) c.compile_and_run-answers.ensures.compile_brackets_after c.compile_and_run-answers.ensures.run_brackets_after c.style-styling.ensures,

@@ -3,15 +3,12 @@ use Rattle.cascade.specs.Specificity.{inline_specificity}
 use Rattle.attributes.proofs.InlineLaws.{merging-begin, row-shiftable, merging-next, merging-end}
 use Rattle.attributes.proofs.inline.merge_inline_styles.Goals as goal
 
-pub loop-left-init : goal.loop-left-init
-loop-left-init c = merging-begin _ _ _ _ _ c.requires.inline_rows
-
 pub inline_style-style-requires : goal.inline_style-style-requires
-inline_style-style-requires c = row-shiftable _ _ _ _ _ _ _ _ c.loop-left.invariant c.loop-left-test.true _ c.style_at.ensures
+inline_style-style-requires c = row-shiftable _ _ _ _ _ _ _ c.loop-i.invariant c.loop-i-test.true _ c.style_at.ensures
 
-pub loop-left-preserved : goal.loop-left-preserved
+pub loop-i-preserved : goal.loop-i-preserved
 unfolding inline_specificity
-loop-left-preserved c = merging-next _ _ _ _ _ _ _ _ c.loop-left.invariant c.loop-left-test.true _ _ _ c.style_at.ensures c.inline_style-style.ensures c.merge_computed_style.ensures
+loop-i-preserved c = merging-next _ _ _ _ _ _ _ c.loop-i.invariant c.loop-i-test.true _ _ _ c.style_at.ensures c.inline_style-style.ensures c.merge_computed_style.ensures
 
 pub returns : goal.returns
-returns c = merging-end _ _ _ _ _ _ _ _ c.loop-left.invariant c.loop-left-test.false
+returns c = merging-end _ _ _ _ _ _ _ c.loop-i.invariant c.loop-i-test.false

@@ -2,8 +2,5 @@
 use Rattle.attributes.proofs.InlineLaws.{Merging}
 use Rattle.attributes.proofs.inline.merge_inline_styles.Given as goal
 
-abbrev pub invariant-loop-left : goal.invariant-loop-left
-invariant-loop-left l = Merging l.cascade l.base l.count l.tokens l.initial.out l.at l.left l.out
-
-abbrev pub decreases-loop-left : goal.decreases-loop-left
-decreases-loop-left l = l.left
+abbrev pub invariant-loop-i : goal.invariant-loop-i
+invariant-loop-i l = Merging l.cascade l.base l.count l.tokens l.initial.out l.i l.out

@@ -3,11 +3,8 @@ use Rattle.attributes.proofs.InlineLaws.{shifted-content, shifted-other}
 use native.Mathlib.Omega.{arith}
 use Rattle.attributes.proofs.inline.shifted.Goals as goal
 
-pub overflow_add-result : goal.overflow_add-result
-overflow_add-result c = omega (arith, c.requires.fits c.if-style-eq-CONTENT_SLOT.true)
-
 pub returns-then-style-eq-CONTENT_SLOT : goal.returns-then-style-eq-CONTENT_SLOT
 returns-then-style-eq-CONTENT_SLOT c = shifted-content _ _ c.if-style-eq-CONTENT_SLOT.true
 
-pub returns : goal.returns
-returns c = shifted-other _ _ c.if-style-eq-CONTENT_SLOT.false
+pub returns-else-style-eq-CONTENT_SLOT : goal.returns-else-style-eq-CONTENT_SLOT
+returns-else-style-eq-CONTENT_SLOT c = shifted-other _ _ c.if-style-eq-CONTENT_SLOT.false

@@ -1,18 +1,9 @@
--- The numbers copied so far are the parent's, and what is left to copy is as it was.
-use mathlib.Core.Path.{refl, sym, ◌∙◌}
-use lib.ListN.{length-set}
-use Rattle.cascade.proofs.Rewriting.{within-begin, within_more, within-kept, within-done}
+-- The numbers copied are those of the part.
+use mathlib.Core.Path.{◌∙◌}
+use native.Mathlib.Omega.{arith}
+use Rattle.cascade.specs.Row.{style_row_width}
+use Rattle.cascade.proofs.Windows.{part-copied}
 use Rattle.cascade.proofs.rows.copy_within.Goals as goal
 
-pub loop-i-init : goal.loop-i-init
-loop-i-init c = (within-begin _ _ _ c.requires, refl, refl)
-
-pub loop-i-preserved : goal.loop-i-preserved
-loop-i-preserved c = (
-  within_more _ _ _ c.requires c.loop-i.rows c.loop-i.i c.loop-i-test.true c.loop-i.invariant.1 ∙ c.loop-i.invariant.0,
-  within-kept _ _ _ c.requires c.loop-i.rows c.loop-i.i _ c.loop-i.invariant.1,
-  simp length-set c.loop-i.invariant.2,
-)
-
 pub returns : goal.returns
-returns c = sym (within-done _ _ _ c.requires _ _ c.loop-i-test.false) ∙ c.loop-i.invariant.0
+returns c = c.copy_within.ensures.after ∙ part-copied c.args.rows.now c.args.parent c.args.child style_row_width (omega arith) (omega arith)

@@ -6,5 +6,5 @@ use Rattle.cascade.proofs.rows.fill_pseudo.Goals as goal
 pub returns-then-row-pseudo-eq-FLAG_TRUE : goal.returns-then-row-pseudo-eq-FLAG_TRUE
 returns-then-row-pseudo-eq-FLAG_TRUE c = search (rules, pseudo-filled)
 
-pub returns : goal.returns
-returns c = search (rules, pseudo-unfilled)
+pub returns-else-row-pseudo-eq-FLAG_TRUE : goal.returns-else-row-pseudo-eq-FLAG_TRUE
+returns-else-row-pseudo-eq-FLAG_TRUE c = search (rules, pseudo-unfilled)

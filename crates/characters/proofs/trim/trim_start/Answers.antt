@@ -1,26 +1,33 @@
 -- The characters so far are White_Space; what is counted is what the definition repeats.
-use Rattle.characters.proofs.Trimming.{white-le}
-use Rattle.combinators.proofs.Repeating.{repeat-begin, repeat-more, repeat-stop, repeat-end, lent, lent-le}
+use Rattle.std.proofs.Common.{arith, rules, sym, ◌∙◌}
+use Rattle.combinators.specs.Choice.{pick}
+use Rattle.combinators.proofs.Repeating.{repeat-more, repeat-stop, lent, lent-le}
 use Rattle.characters.specs.Trim.{white_taken}
-use native.Mathlib.Omega.{arith}
-use mathlib.Core.Path.{◌∙◌}
-use borrow.Author.Rules.{rules}
+use Rattle.characters.proofs.Scalars.{scalar-some}
+use Rattle.characters.proofs.Trimming as laws
 use Rattle.characters.proofs.trim.trim_start.Goals as goal
 
-pub loop-i-init : goal.loop-i-init
-loop-i-init c = repeat-begin _ _
-
-pub returns-then-n-eq0 : goal.returns-then-n-eq0
-returns-then-n-eq0 c = record { value = repeat-stop _ _ _ c.loop-i.invariant (lent white_taken c.args.s.now c.loop-i.i _ c.white_space_at-n.ensures ∙ c.if-n-eq0.true); upper_bound = search rules }
-
 pub overflow_add-i : goal.overflow_add-i
-overflow_add-i c = omega (arith, (lent-le white_taken white-le c.args.s.now c.loop-i.i _ c.loop-i.invariant.within_text c.white_space_at-n.ensures))
+unfolding pick
+overflow_add-i c = omega (arith, lent-le white_taken laws.white-le c.args.s.now c.loop-c.i _ c.loop-c.invariant.within_text (laws.white-value _ _ c.scalar_at.ensures _ _ c.in-Some.is _ _ c.is_white_space.ensures c.if-is_white_space.true))
 
-pub loop-i-smaller : goal.loop-i-smaller
-loop-i-smaller c = omega (arith, (lent-le white_taken white-le c.args.s.now c.loop-i.i _ c.loop-i.invariant.within_text c.white_space_at-n.ensures))
+pub loop-c-smaller : goal.loop-c-smaller
+unfolding pick
+loop-c-smaller c =
+    omega (arith, lent-le white_taken laws.white-le c.args.s.now c.loop-c.i _ c.loop-c.invariant.within_text (laws.white-value _ _ c.scalar_at.ensures _ _ c.in-Some.is _ _ c.is_white_space.ensures c.if-is_white_space.true), scalar-some _ _ _ (sym c.scalar_at.ensures ∙ c.in-Some.is))
 
-pub loop-i-preserved : goal.loop-i-preserved
-loop-i-preserved c = repeat-more _ _ _ c.loop-i.invariant _ (lent white_taken c.args.s.now c.loop-i.i _ c.white_space_at-n.ensures) ((lent-le white_taken white-le c.args.s.now c.loop-i.i _ c.loop-i.invariant.within_text c.white_space_at-n.ensures)) c.if-n-eq0.false
+pub loop-c-preserved : goal.loop-c-preserved
+unfolding pick
+loop-c-preserved c =
+    let n = laws.white-value _ _ c.scalar_at.ensures _ _ c.in-Some.is _ _ c.is_white_space.ensures c.if-is_white_space.true in
+    let some = scalar-some _ _ _ (sym c.scalar_at.ensures ∙ c.in-Some.is) in
+    repeat-more _ _ _ c.loop-c.invariant _ (lent white_taken c.args.s.now c.loop-c.i _ n)
+    (lent-le white_taken laws.white-le c.args.s.now c.loop-c.i _ c.loop-c.invariant.within_text n) (λ z. omega (arith, some))
 
-pub returns : goal.returns
-returns c = record { value = repeat-end _ _ _ c.loop-i.invariant c.loop-i-test.false; upper_bound = search rules }
+pub returns-else-is_white_space-clause-value : goal.returns-else-is_white_space-clause-value
+unfolding pick
+returns-else-is_white_space-clause-value c =
+    repeat-stop _ _ _ c.loop-c.invariant (lent white_taken c.args.s.now c.loop-c.i _ (laws.white-value _ _ c.scalar_at.ensures _ _ c.in-Some.is _ _ c.is_white_space.ensures c.if-is_white_space.false))
+
+pub returns-in-loop-c-clause-value : goal.returns-in-loop-c-clause-value
+returns-in-loop-c-clause-value c = repeat-stop _ _ _ c.loop-c.invariant (lent white_taken c.args.s.now c.loop-c.i _ (laws.white-none _ _ c.scalar_at.ensures (search rules)))

@@ -1,8 +1,8 @@
 -- The characters so far are no White_Space; what is counted is what the definition repeats.
+use Prim.Native.Nat.{◌-◌}
+use lib.ListN.{length}
 use Rattle.combinators.proofs.Repeating.{Repeating}
 use Rattle.characters.specs.Trim.{word_taken}
-use lib.ListN.{length}
-use Prim.Native.Nat.{◌-◌}
 use Rattle.characters.proofs.trim.word_end.Given as goal
 
 abbrev pub invariant-loop-i : goal.invariant-loop-i

@@ -1,18 +1,6 @@
--- Clearing what is left of the store as it is gives what clearing the whole gives.
-use mathlib.Core.Path.{refl, sym, ◌∙◌}
-use lib.ListN.{length-set}
-use Rattle.combinators.proofs.Cleared.{cleared-step, cleared-done}
-use borrow.Author.Rules.{rules}
+-- The part from the place on, or from the end on, is filled with zeros.
+use Rattle.combinators.proofs.Filled as laws
 use Rattle.combinators.proofs.stores.clear_bytes.Goals as goal
 
-pub loop-i-init : goal.loop-i-init
-loop-i-init c = (refl, refl)
-
-pub loop-i-smaller : goal.loop-i-smaller
-loop-i-smaller c = simp length-set (search rules)
-
-pub loop-i-preserved : goal.loop-i-preserved
-loop-i-preserved c = (cleared-step c.loop-i.i c.loop-i.store c.loop-i-test.true ∙ c.loop-i.invariant.0, simp length-set c.loop-i.invariant.1)
-
 pub returns : goal.returns
-returns c = sym (cleared-done _ _ c.loop-i-test.false) ∙ c.loop-i.invariant.0
+returns c = laws.filled-cleared _ _ _ c.min-start.ensures _ (c.fill.ensures.after (λ y e. e))

@@ -1,12 +1,6 @@
--- The part lies within the store, runs out at its end, or begins behind it.
+-- Of the rest of the store so many bytes, or as many as there are.
 use Rattle.combinators.proofs.Parts as laws
 use Rattle.combinators.proofs.texts.part_of.Goals as goal
 
-pub returns-then-store-start : goal.returns-then-store-start
-returns-then-store-start c = laws.part_none _ _ _ c.if-store-start.true
-
-pub returns-then-store-start-2 : goal.returns-then-store-start-2
-returns-then-store-start-2 c = laws.part-short _ _ _ c.if-store-start-2.true
-
 pub returns : goal.returns
-returns c = laws.part-whole _ _ _
+returns c = laws.part-least _ _ _ _ _ c.min.ensures c.min-2.ensures

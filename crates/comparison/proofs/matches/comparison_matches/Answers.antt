@@ -1,5 +1,6 @@
 -- The refusals in their order, each by its own test; a page that is accepted is asked for the row.
-use mathlib.Core.Path.{◌∙◌}
+use mathlib.Core.Path.{refl, ◌∙◌}
+use Rattle.styling.proofs.StyleCalls as pages
 use Rattle.comparison.proofs.MatchResults as results
 use Rattle.comparison.proofs.matches.comparison_matches.Goals as goal
 
@@ -10,10 +11,10 @@ pub returns-then-components-count : goal.returns-then-components-count
 returns-then-components-count c = c.refused-then-components-count.ensures ∙ results.too_few c.args.components.now c.args.count c.args.texts.now c.args.nodes.now c.args.attributes.now c.args.text.now c.args.row c.if-count-gt-COMPONENT_LIMIT.false c.if-components-count.true
 
 pub match_row-requires : goal.match_row-requires
-match_row-requires c = record { count_le_component_limit = c.if-count-gt-COMPONENT_LIMIT.false; text_value = results.accepts c.args.components.now c.args.count c.args.texts.now c.args.nodes.now c.args.attributes.now c.args.text.now c.args.row c.if-count-gt-COMPONENT_LIMIT.false c.if-components-count.false (c.refusal_of-page.ensures ∙ c.check_page.ensures) c.if-page-eq0.true }
+match_row-requires c = record { count_le_component_limit = c.if-count-gt-COMPONENT_LIMIT.false; text_value = results.accepts c.args.components.now c.args.count c.args.texts.now c.args.nodes.now c.args.attributes.now c.args.text.now c.args.row c.if-count-gt-COMPONENT_LIMIT.false c.if-components-count.false (pages.page-passed c.in-Ok.is c.check_page.ensures) refl }
 
-pub returns-then-page-eq0 : goal.returns-then-page-eq0
-returns-then-page-eq0 c = results.on-page c.args.components.now c.args.count c.args.texts.now c.args.nodes.now c.args.attributes.now c.args.text.now c.args.row c.if-count-gt-COMPONENT_LIMIT.false c.if-components-count.false (c.refusal_of-page.ensures ∙ c.check_page.ensures) c.if-page-eq0.true c.match_row.ensures
+pub returns-in-Ok : goal.returns-in-Ok
+returns-in-Ok c = results.on-page c.args.components.now c.args.count c.args.texts.now c.args.nodes.now c.args.attributes.now c.args.text.now c.args.row c.if-count-gt-COMPONENT_LIMIT.false c.if-components-count.false (pages.page-passed c.in-Ok.is c.check_page.ensures) refl c.match_row.ensures
 
-pub returns : goal.returns
-returns c = c.refused-2.ensures ∙ results.no-page c.args.components.now c.args.count c.args.texts.now c.args.nodes.now c.args.attributes.now c.args.text.now c.args.row c.if-count-gt-COMPONENT_LIMIT.false c.if-components-count.false (c.refusal_of-page.ensures ∙ c.check_page.ensures) c.if-page-eq0.false
+pub returns-in-Err : goal.returns-in-Err
+returns-in-Err c = c.refused-in-Err.ensures ∙ results.no-page c.args.components.now c.args.count c.args.texts.now c.args.nodes.now c.args.attributes.now c.args.text.now c.args.row c.if-count-gt-COMPONENT_LIMIT.false c.if-components-count.false (pages.page-failed c.in-Err.is c.from-refusal.ensures c.check_page.ensures) (pages.error-loud _ c.from-refusal.ensures)

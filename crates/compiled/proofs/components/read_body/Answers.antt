@@ -12,5 +12,5 @@ returns-then-kind-eq-NTH c = laws.body-numbers _ _ _ (told _ _ _ c.is_mark.ensur
 pub returns-then-kind-eq-ATTRIBUTE_EQUAL : goal.returns-then-kind-eq-ATTRIBUTE_EQUAL
 returns-then-kind-eq-ATTRIBUTE_EQUAL c = laws.body-names _ _ _ (told _ _ _ c.is_mark.ensures c.if-is_mark.false) _ c.if-kind-eq-NTH.false c.if-kind-eq-ATTRIBUTE_EQUAL.true c.read_names.ensures
 
-pub returns : goal.returns
-returns c = laws.body-name _ _ _ (told _ _ _ c.is_mark.ensures c.if-is_mark.false) _ c.if-kind-eq-NTH.false c.if-kind-eq-ATTRIBUTE_EQUAL.false c.read_name.ensures
+pub returns-else-kind-eq-ATTRIBUTE_EQUAL : goal.returns-else-kind-eq-ATTRIBUTE_EQUAL
+returns-else-kind-eq-ATTRIBUTE_EQUAL c = laws.body-name _ _ _ (told _ _ _ c.is_mark.ensures c.if-is_mark.false) _ c.if-kind-eq-NTH.false c.if-kind-eq-ATTRIBUTE_EQUAL.false c.read_name.ensures

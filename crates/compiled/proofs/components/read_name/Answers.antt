@@ -1,9 +1,11 @@
 -- The text is the component's, or its fault is.
+use mathlib.Core.Path.{◌∙◌}
+use Rattle.compiled.proofs.Answers.{raised}
 use Rattle.compiled.proofs.ComponentCode as laws
 use Rattle.compiled.proofs.components.read_name.Goals as goal
 
-pub returns-in-Text : goal.returns-in-Text
-returns-in-Text c = laws.name-read _ _ _ c.read_text.ensures.value _ _ _ _ c.in-Text.is
+pub returns-in_err-text : goal.returns-in_err-text
+returns-in_err-text c = raised _ _ c.from_residual.ensures.1 ∙ laws.name-fault _ _ _ c.read_text.ensures.value _ _ c.in_err-text.was
 
-pub returns-in-Fault : goal.returns-in-Fault
-returns-in-Fault c = laws.name-fault _ _ _ c.read_text.ensures.value _ _ c.in-Fault.is
+pub returns : goal.returns
+returns c = laws.name-read _ _ _ c.read_text.ensures.value _ _ c.in_ok-text.was

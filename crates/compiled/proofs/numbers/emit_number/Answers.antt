@@ -5,7 +5,7 @@ use borrow.Author.Rules.{rules}
 use Rattle.compiled.proofs.numbers.emit_number.Goals as goal
 
 pub loop-left-init : goal.loop-left-init
-loop-left-init c = laws.writing-begin _ _ _ (search rules)
+loop-left-init c = rw c.from-left.ensures (laws.writing-begin _ _ _ (search rules))
 
 pub loop-left-preserved : goal.loop-left-preserved
 loop-left-preserved c = laws.writing_more _ _ _ _ _ _ c.loop-left.invariant _ _ c.loop-left-test.true c.emit-f.ensures c.emit-f.auto.store

@@ -1,12 +1,12 @@
--- A sheet is not refused, a fault with 9 at its place.
+-- A fault is refused at its place, and a sheet is not refused.
+use borrow.Author.Rules.{rules}
 use Rattle.compiled.specs.Answer.{refusal_of}
-use mathlib.Core.Path.{sym, ap, ◌∙◌}
 use Rattle.compiled.proofs.sheets.refusal_of.Goals as goal
 
-pub returns-in-Sheet : goal.returns-in-Sheet
+pub returns-in-Ok : goal.returns-in-Ok
 unfolding refusal_of
-returns-in-Sheet c = c.no_refusal.ensures ∙ ap refusal_of (sym c.in-Sheet.is)
+returns-in-Ok c = search rules
 
-pub returns-in-Fault : goal.returns-in-Fault
+pub returns-in-Err : goal.returns-in-Err
 unfolding refusal_of
-returns-in-Fault c = c.refused_at.ensures ∙ ap refusal_of (sym c.in-Fault.is)
+returns-in-Err c = search rules

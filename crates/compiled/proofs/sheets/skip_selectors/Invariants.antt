@@ -1,9 +1,7 @@
 -- What is left to pass from the place on, with the origin so far, is the rest of the whole; the first fault ends it.
+use Prim.Native.Nat.{◌-◌}
 use Rattle.compiled.proofs.SheetCode as laws
 use Rattle.compiled.proofs.sheets.skip_selectors.Given as goal
 
-abbrev pub invariant-loop-left : goal.invariant-loop-left
-invariant-loop-left l = laws.Selecting l.s l.count l.least l.at l.left l.least_now l.i
-
-abbrev pub decreases-loop-left : goal.decreases-loop-left
-decreases-loop-left l = l.left
+abbrev pub invariant-loop : goal.invariant-loop
+invariant-loop l = laws.Selecting l.s l.count l.least l.at (l.count - l.counter) l.last.value l.last.next

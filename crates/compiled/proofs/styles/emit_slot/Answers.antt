@@ -1,18 +1,16 @@
 -- Each slot is written by its own writer, as the definition splits slots.
+use native.Mathlib.Omega.{arith}
 use Rattle.compiled.proofs.Written as laws
 use Rattle.compiled.proofs.styles.emit_slot.Goals as goal
 
-pub returns-then-slot-eq-COLOUR_SLOT : goal.returns-then-slot-eq-COLOUR_SLOT
-returns-then-slot-eq-COLOUR_SLOT c = laws.colour-written _ _ _ _ _ c.if-slot-eq-COLOUR_SLOT.true c.emit_slot_number.ensures
+pub returns-in-0 : goal.returns-in-0
+returns-in-0 c = laws.colours-written _ _ _ _ _ (omega arith) c.emit_slot_number-in-0.ensures
 
-pub returns-then-slot-eq-BACKGROUND_SLOT : goal.returns-then-slot-eq-BACKGROUND_SLOT
-returns-then-slot-eq-BACKGROUND_SLOT c = laws.background-written _ _ _ _ _ c.if-slot-eq-COLOUR_SLOT.false c.if-slot-eq-BACKGROUND_SLOT.true c.emit_slot_number-then-slot-eq-BACKGROUND_SLOT.ensures
+pub returns-in-2 : goal.returns-in-2
+returns-in-2 c = let k = c.in-2.is in laws.display-written _ _ _ _ _ (λ z. omega (arith, z)) (λ z. omega (arith, z)) k c.emit_number.ensures
 
-pub returns-then-slot-eq-DISPLAY_SLOT : goal.returns-then-slot-eq-DISPLAY_SLOT
-returns-then-slot-eq-DISPLAY_SLOT c = laws.display-written _ _ _ _ _ c.if-slot-eq-COLOUR_SLOT.false c.if-slot-eq-BACKGROUND_SLOT.false c.if-slot-eq-DISPLAY_SLOT.true c.emit_number.ensures
+pub returns-in-3 : goal.returns-in-3
+returns-in-3 c = let k = c.in-3.is in laws.white-space-written _ _ _ _ _ (λ z. omega (arith, z)) (λ z. omega (arith, z)) (λ z. omega (arith, z)) k _ c.white_space_number-word.ensures c.emit_slot_number.ensures
 
-pub returns-then-slot-eq-WHITE_SPACE_SLOT : goal.returns-then-slot-eq-WHITE_SPACE_SLOT
-returns-then-slot-eq-WHITE_SPACE_SLOT c = laws.white-space-written _ _ _ _ _ c.if-slot-eq-COLOUR_SLOT.false c.if-slot-eq-BACKGROUND_SLOT.false c.if-slot-eq-DISPLAY_SLOT.false c.if-slot-eq-WHITE_SPACE_SLOT.true _ c.white_space_number.ensures c.emit_slot_number-then-slot-eq-WHITE_SPACE_SLOT.ensures
-
-pub returns : goal.returns
-returns c = laws.content-written _ _ _ _ _ c.if-slot-eq-COLOUR_SLOT.false c.if-slot-eq-BACKGROUND_SLOT.false c.if-slot-eq-DISPLAY_SLOT.false c.if-slot-eq-WHITE_SPACE_SLOT.false c.emit_content.ensures
+pub returns-in_default : goal.returns-in_default
+returns-in_default c = laws.content-written _ _ _ _ _ (λ z. omega (arith, z)) (λ z. omega (arith, z)) (λ z. omega (arith, z)) (λ z. omega (arith, z)) c.emit_content.ensures

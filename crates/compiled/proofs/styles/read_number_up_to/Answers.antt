@@ -1,9 +1,13 @@
 -- A number in its range is the value, any other a fault where it starts.
-use Rattle.compiled.proofs.StyleCode as laws
+use mathlib.Core.Path.{◌∙◌}
+use Rattle.compiled.specs.Style.{number_up_to}
+use Rattle.compiled.proofs.Answers.{raised, mapped_answer, mapped-answer}
 use Rattle.compiled.proofs.styles.read_number_up_to.Goals as goal
 
-pub returns-in-Number : goal.returns-in-Number
-returns-in-Number c = laws.number-up-to _ _ _ _ _ c.read_ranged.ensures.value _ _ c.in-Number.is
+pub returns-in_err-number : goal.returns-in_err-number
+unfolding number_up_to
+returns-in_err-number c = raised _ _ c.from_residual.ensures.1 ∙ mapped-answer _ _ _ c.read_ranged.ensures.value _ c.in_err-number.was
 
-pub returns-in-Fault : goal.returns-in-Fault
-returns-in-Fault c = laws.number-up-to-fault _ _ _ _ _ c.read_ranged.ensures.value _ c.in-Fault.is
+pub returns : goal.returns
+unfolding number_up_to
+returns c = mapped_answer _ _ _ c.read_ranged.ensures.value _ c.in_ok-number.was

@@ -1,9 +1,11 @@
 -- The declaration has a style of its own, which takes one row, or none.
+use mathlib.Core.Path.{◌∙◌, ap}
+use Rattle.std.specs.Int.{from_bool}
 use Rattle.compiler.proofs.StyleWriting as laws
 use Rattle.compiler.proofs.styles.count_own_style.Goals as goal
 
-pub returns-in-Style : goal.returns-in-Style
-returns-in-Style c = let t : goal.returns-in-Style-raw c = laws.own-one _ _ c.own_style_at.ensures _ c.in-Style.is in record { result_value = t.0; upper_bound = t.1 }
-
-pub returns-in-NoStyle : goal.returns-in-NoStyle
-returns-in-NoStyle c = let t : goal.returns-in-NoStyle-raw c = laws.own-none _ _ c.own_style_at.ensures c.in-NoStyle.is in record { result_value = t.0; upper_bound = t.1 }
+pub returns : goal.returns
+returns c =
+    let e = c.from.ensures ∙ ap from_bool c.is_some.ensures in
+    let t = laws.own-count _ _ c.own_style_at.ensures in
+    record { result_value = rw e t.0; upper_bound = rw e t.1 }

@@ -1,9 +1,7 @@
 -- The smaller of the buffer's length and the limit.
+use mathlib.Core.Path.{◌∙◌}
 use Rattle.compiler.proofs.WritingLaws as laws
 use Rattle.compiler.proofs.writing.room_of.Goals as goal
 
-pub returns-then-n-gt-COMPILED_LIMIT : goal.returns-then-n-gt-COMPILED_LIMIT
-returns-then-n-gt-COMPILED_LIMIT c = laws.room-limit _ c.if-n-gt-COMPILED_LIMIT.true
-
 pub returns : goal.returns
-returns c = laws.room_whole _ c.if-n-gt-COMPILED_LIMIT.false
+returns c = c.min.ensures ∙ laws.room_least _

@@ -5,5 +5,5 @@ use Rattle.declarations.proofs.attributes.parse_faulty_color.Goals as goal
 pub returns-then-t-lt-PAIRS_END : goal.returns-then-t-lt-PAIRS_END
 returns-then-t-lt-PAIRS_END c = laws.trimmed-short _ _ c.trim_start.ensures.value c.if-t-lt-PAIRS_END.true
 
-pub returns : goal.returns
-returns c = laws.trimmed-long _ _ c.trim_start.ensures.value c.if-t-lt-PAIRS_END.false _ c.pair_colour.ensures
+pub returns-else-t-lt-PAIRS_END : goal.returns-else-t-lt-PAIRS_END
+returns-else-t-lt-PAIRS_END c = laws.trimmed-long _ _ c.trim_start.ensures.value c.if-t-lt-PAIRS_END.false _ c.pair_colour.ensures

@@ -1,12 +1,12 @@
 -- An unknown declaration loses its name where names are not kept.
-use Rattle.declarations.proofs.RowLaws as laws
+use Rattle.combinators.specs.Choice.{pick}
+use Rattle.declarations.specs.DeclRow.{named_by}
 use Rattle.declarations.proofs.rows.named.Goals as goal
 
 pub returns-then-names : goal.returns-then-names
-returns-then-names c = laws.named-kept _ _ c.if-decl-eq-UNKNOWN.true c.if-names.true
+unfolding named_by pick
+returns-then-names c = rw (c.in-Unknown.is, c.if-names.true)
 
-pub returns-then-decl-eq-UNKNOWN : goal.returns-then-decl-eq-UNKNOWN
-returns-then-decl-eq-UNKNOWN c = laws.named-dropped _ _ c.if-decl-eq-UNKNOWN.true c.if-names.false
-
-pub returns : goal.returns
-returns c = laws.named_other _ _ c.if-decl-eq-UNKNOWN.false
+pub returns-else-names : goal.returns-else-names
+unfolding named_by pick
+returns-else-names c = rw (c.in-Unknown.is, c.if-names.false)

@@ -16,22 +16,22 @@ pub parse_value-requires : goal.parse_value-requires
 parse_value-requires c = laws.value_room c.args.names c.args.at c.args.s.now c.args.rules.now c.args.place c.args.tokens.now c.args.brackets.now c.args.store.now c.args.fill c.args.v c.args.length c.requires.rules_room c.requires.property_read
 
 pub wipe_work-requires : goal.wipe_work-requires
-wipe_work-requires c = laws.none-count c.args.names c.args.at c.args.s.now c.args.rules.now c.args.place c.args.tokens.now c.args.brackets.now c.args.store.now c.args.fill c.args.v c.args.length c.requires.rules_room c.requires.property_read c.parse_value.ensures c.in-NoValue.is
+wipe_work-requires c = laws.none-count c.args.names c.args.at c.args.s.now c.args.rules.now c.args.place c.args.tokens.now c.args.brackets.now c.args.store.now c.args.fill c.args.v c.args.length c.requires.rules_room c.requires.property_read c.parse_value.ensures c.in-Err.is
 
 pub overflow_add-length : goal.overflow_add-length
-overflow_add-length c = omega (arith, laws.none-text c.args.names c.args.at c.args.s.now c.args.rules.now c.args.place c.args.tokens.now c.args.brackets.now c.args.store.now c.args.fill c.args.v c.args.length c.requires.rules_room c.requires.property_read c.parse_value.ensures c.in-NoValue.is)
+overflow_add-length c = omega (arith, laws.none-text c.args.names c.args.at c.args.s.now c.args.rules.now c.args.place c.args.tokens.now c.args.brackets.now c.args.store.now c.args.fill c.args.v c.args.length c.requires.rules_room c.requires.property_read c.parse_value.ensures c.in-Err.is)
 
-pub returns-in-NoValue : goal.returns-in-NoValue
-returns-in-NoValue c = laws.none_left c.args.names c.args.at c.args.s.now c.args.rules.now c.args.place c.args.tokens.now c.args.brackets.now c.args.store.now c.args.fill c.args.v c.args.length c.requires.rules_room c.requires.property_read c.parse_value.ensures c.in-NoValue.is c.wipe_work.ensures.tokens_after c.wipe_work.ensures.brackets_after c.wipe_bytes.ensures
+pub returns-in-Err : goal.returns-in-Err
+returns-in-Err c = laws.none_left c.args.names c.args.at c.args.s.now c.args.rules.now c.args.place c.args.tokens.now c.args.brackets.now c.args.store.now c.args.fill c.args.v c.args.length c.requires.rules_room c.requires.property_read c.parse_value.ensures c.in-Err.is c.wipe_work.ensures.tokens_after c.wipe_work.ensures.brackets_after c.wipe_bytes.ensures
 
 pub put_declared-kept-requires : goal.put_declared-kept-requires
-put_declared-kept-requires c = laws.put-room c.args.names c.args.at c.args.s.now c.args.rules.now c.args.place c.args.tokens.now c.args.brackets.now c.args.store.now c.args.fill c.args.v c.args.length c.requires.rules_room c.requires.property_read c.parse_value.ensures c.in-Value.is c.unmarked.ensures c.skip_optional_whitespace.ensures.value
+put_declared-kept-requires c = laws.put-room c.args.names c.args.at c.args.s.now c.args.rules.now c.args.place c.args.tokens.now c.args.brackets.now c.args.store.now c.args.fill c.args.v c.args.length c.requires.rules_room c.requires.property_read c.parse_value.ensures c.in-Ok.is c.unmarked.ensures c.skip_optional_whitespace.ensures.value
 
-pub wipe_work-requires-in-Value : goal.wipe_work-requires-in-Value
-wipe_work-requires-in-Value c = laws.some-count c.args.names c.args.at c.args.s.now c.args.rules.now c.args.place c.args.tokens.now c.args.brackets.now c.args.store.now c.args.fill c.args.v c.args.length c.requires.rules_room c.requires.property_read c.parse_value.ensures c.in-Value.is
+pub wipe_work-requires-in-Ok : goal.wipe_work-requires-in-Ok
+wipe_work-requires-in-Ok c = laws.some-count c.args.names c.args.at c.args.s.now c.args.rules.now c.args.place c.args.tokens.now c.args.brackets.now c.args.store.now c.args.fill c.args.v c.args.length c.requires.rules_room c.requires.property_read c.parse_value.ensures c.in-Ok.is
 
 pub overflow_add-result : goal.overflow_add-result
-overflow_add-result c = omega (arith, laws.some-taken c.args.names c.args.at c.args.s.now c.args.rules.now c.args.place c.args.tokens.now c.args.brackets.now c.args.store.now c.args.fill c.args.v c.args.length c.requires.rules_room c.requires.property_read c.parse_value.ensures c.in-Value.is)
+overflow_add-result c = omega (arith, laws.some-taken c.args.names c.args.at c.args.s.now c.args.rules.now c.args.place c.args.tokens.now c.args.brackets.now c.args.store.now c.args.fill c.args.v c.args.length c.requires.rules_room c.requires.property_read c.parse_value.ensures c.in-Ok.is)
 
-pub returns-in-Value : goal.returns-in-Value
-returns-in-Value c = laws.some_left c.args.names c.args.at c.args.s.now c.args.rules.now c.args.place c.args.tokens.now c.args.brackets.now c.args.store.now c.args.fill c.args.v c.args.length c.requires.rules_room c.requires.property_read c.parse_value.ensures c.in-Value.is c.unmarked.ensures c.skip_optional_whitespace.ensures.value c.put_declared-kept.ensures c.wipe_work-in-Value.ensures.tokens_after c.wipe_work-in-Value.ensures.brackets_after
+pub returns-in-Ok : goal.returns-in-Ok
+returns-in-Ok c = laws.some_left c.args.names c.args.at c.args.s.now c.args.rules.now c.args.place c.args.tokens.now c.args.brackets.now c.args.store.now c.args.fill c.args.v c.args.length c.requires.rules_room c.requires.property_read c.parse_value.ensures c.in-Ok.is c.unmarked.ensures c.skip_optional_whitespace.ensures.value c.put_declared-kept.ensures c.wipe_work-in-Ok.ensures.tokens_after c.wipe_work-in-Ok.ensures.brackets_after

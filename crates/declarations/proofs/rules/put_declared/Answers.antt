@@ -9,4 +9,4 @@ pub put_declaration-requires : goal.put_declaration-requires
 put_declaration-requires c = laws.put-narrow c.args.names c.args.important c.requires c.part_of.ensures c.decl_of-read.ensures c.named-decl.ensures
 
 pub returns : goal.returns
-returns c = laws.put-done c.args.names c.args.important c.requires c.part_of.ensures c.decl_of-read.ensures c.named-decl.ensures c.keep_text.ensures c.put_declaration.ensures
+returns c = rw c.text_length.ensures (laws.put-done c.args.names c.args.important c.requires c.part_of.ensures c.decl_of-read.ensures c.named-decl.ensures c.keep_text.ensures c.put_declaration.ensures)

@@ -4,30 +4,30 @@ use Rattle.syntax.specs.Layout.{flag_of}
 use Rattle.declarations.specs.StyleNumbers.{own_numbers}
 use Rattle.declarations.proofs.styles.own_style.Goals as goal
 
-pub returns-then-kind-eq-COLOR : goal.returns-then-kind-eq-COLOR
+pub returns-in-1 : goal.returns-in-1
 unfolding own_numbers flag_of
-returns-then-kind-eq-COLOR c = search cases
+returns-in-1 c = search cases
 
-pub returns-then-kind-eq-BACKGROUND_COLOR : goal.returns-then-kind-eq-BACKGROUND_COLOR
+pub returns-in-2 : goal.returns-in-2
 unfolding own_numbers flag_of
-returns-then-kind-eq-BACKGROUND_COLOR c = search cases
+returns-in-2 c = search cases
 
-pub returns-then-value-eq-FLAG_TRUE : goal.returns-then-value-eq-FLAG_TRUE
+pub returns-then-value-ne-FLAG_TRUE : goal.returns-then-value-ne-FLAG_TRUE
 unfolding own_numbers flag_of
-returns-then-value-eq-FLAG_TRUE c = search cases
+returns-then-value-ne-FLAG_TRUE c = search cases
 
-pub returns-then-kind-eq-DISPLAY : goal.returns-then-kind-eq-DISPLAY
+pub returns-else-value-ne-FLAG_TRUE : goal.returns-else-value-ne-FLAG_TRUE
 unfolding own_numbers flag_of
-returns-then-kind-eq-DISPLAY c = search cases
+returns-else-value-ne-FLAG_TRUE c = search cases
 
-pub returns-then-kind-eq-WHITE_SPACE : goal.returns-then-kind-eq-WHITE_SPACE
+pub returns-in-8 : goal.returns-in-8
 unfolding own_numbers flag_of
-returns-then-kind-eq-WHITE_SPACE c = search cases
+returns-in-8 c = search cases
 
-pub returns-then-kind-eq-CONTENT : goal.returns-then-kind-eq-CONTENT
+pub returns-in-9 : goal.returns-in-9
 unfolding own_numbers flag_of
-returns-then-kind-eq-CONTENT c = search cases
+returns-in-9 c = search cases
 
-pub returns : goal.returns
+pub returns-in_default : goal.returns-in_default
 unfolding own_numbers flag_of
-returns c = search cases depth 16
+returns-in_default c = search cases depth 16

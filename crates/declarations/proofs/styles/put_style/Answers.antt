@@ -1,10 +1,6 @@
 -- The five numbers are emitted one behind the other.
-use mathlib.Core.Path.{◌∙◌}
 use Rattle.declarations.proofs.Styling as laws
 use Rattle.declarations.proofs.styles.put_style.Goals as goal
-
-pub shape_of-styles : goal.shape_of-styles
-shape_of-styles c = c.emit_number.auto.store ∙ c.emit_number-after_second.auto.store ∙ c.emit_number-after_number.auto.store ∙ c.emit_number-after_important.auto.store ∙ c.emit_number-after_slot.auto.store
 
 pub returns : goal.returns
 returns c = laws.row_put _ _ c.flag_of.ensures _ _ _ _ _ _ c.emit_number-after_slot.ensures c.emit_number-after_important.ensures c.emit_number-after_number.ensures c.emit_number-after_second.ensures c.emit_number.ensures

@@ -1,10 +1,6 @@
 -- What is left to put from the declaration on is the rest of the whole; at the end a zero height with a hidden overflow adds one.
-use Prim.Native.Nat.{◌-◌}
 use Rattle.declarations.proofs.Styling as laws
 use Rattle.declarations.proofs.styles.styles_from_properties.Given as goal
 
 abbrev pub invariant-loop-i : goal.invariant-loop-i
-invariant-loop-i l = laws.Styling l.rows l.count l.initial.styles l.styles l.place l.height_zero l.zero_start l.overflow_hidden l.at l.i
-
-abbrev pub decreases-loop-i : goal.decreases-loop-i
-decreases-loop-i l = l.count - l.i
+invariant-loop-i l = laws.Styling l.rows l.count l.initial.styles l.styles l.place l.zero_start l.overflow_hidden l.i

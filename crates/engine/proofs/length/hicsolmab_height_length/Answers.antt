@@ -3,4 +3,4 @@ use Rattle.engine.proofs.Results as results
 use Rattle.engine.proofs.length.hicsolmab_height_length.Goals as goal
 
 pub returns : goal.returns
-returns c = results.length-called c.height_length.ensures c.result_of.ensures
+returns c = results.length-called c.height_length.ensures c.into.ensures

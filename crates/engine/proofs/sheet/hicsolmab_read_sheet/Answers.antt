@@ -3,4 +3,4 @@ use Rattle.engine.proofs.Results as results
 use Rattle.engine.proofs.sheet.hicsolmab_read_sheet.Goals as goal
 
 pub returns : goal.returns
-returns c = results.sheet-called c.read_sheet.ensures c.result_of.ensures
+returns c = results.sheet-called c.read_sheet.ensures c.into.ensures

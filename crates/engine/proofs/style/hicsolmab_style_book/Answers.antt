@@ -2,10 +2,9 @@
 use Rattle.cascade.specs.declared.slots.Cascade.TheVariants.{Book}
 use Rattle.styling.specs.StyleAnswer.{style_of}
 use Rattle.engine.proofs.Results as results
-use borrow.Author.Rules.{rules}
 use Rattle.engine.proofs.style.hicsolmab_style_book.Goals as goal
 
 pub returns : goal.returns
 returns c = let a = c.args in
     results.style-called (λ s. style_of Book s (record { agent = a.agent.now; user = a.user.now; author = a.author.now }) (record { nodes = a.nodes.now; attributes = a.attributes.now; text = a.text.now }) a.row a.out.now a.texts.now a.rules.now a.tokens.now a.brackets.now)
-    c.settings_from.ensures c.style_book.ensures c.result_of.ensures
+    c.settings_from.ensures c.style_book.ensures c.into.ensures

@@ -11,7 +11,7 @@ pub returns-then-n-eq0 : goal.returns-then-n-eq0
 returns-then-n-eq0 c = let t : goal.returns-then-n-eq0-raw c = laws.words-none _ _ _ _ c.loop-i.invariant c.loop-i-test.true _ c.white_space_length.ensures.value _ c.word_length-n.ensures.value c.if-n-eq0.true in record { keeps = t.0; by_index = t.1 }
 
 pub loop-i-preserved : goal.loop-i-preserved
-loop-i-preserved c = laws.words_more _ _ _ _ c.loop-i.invariant c.loop-i-test.true _ c.white_space_length.ensures.value _ c.word_length-n.ensures.value c.if-n-eq0.false _ (c.wide.ensures.value ∙ c.peek.ensures) _ c.with_start-starts.ensures.keeps c.with_start-starts.ensures.byte_value (search rules)
+loop-i-preserved c = laws.words_more _ _ _ _ c.loop-i.invariant c.loop-i-test.true _ c.white_space_length.ensures.value _ c.word_length-n.ensures.value c.if-n-eq0.false _ (c.from.ensures ∙ c.peek.ensures) _ c.with_start-starts.ensures.keeps c.with_start-starts.ensures.byte_value (search rules)
 
 pub returns : goal.returns
 returns c = let t : goal.returns-raw c = laws.words-end _ _ _ _ c.loop-i.invariant c.loop-i-test.false in record { keeps = t.0; by_index = t.1 }

@@ -1,16 +1,6 @@
 -- Each test says one field of the record, and the last call that the test fails.
-use Rattle.combinators.proofs.Rules.{never}
 use Rattle.hints.proofs.CodeStayLaws as laws
 use Rattle.hints.proofs.skipping.block_stays.Goals as goal
 
 pub returns-then-state-at-eq-WITH_TESTS : goal.returns-then-state-at-eq-WITH_TESTS
-returns-then-state-at-eq-WITH_TESTS c = λ e. laws.stays _ _ _ _ _ _ c.if-p-ne-NO_PLACE.true c.if-p-width.true c.if-state-at-eq-WITH_TESTS.true _ c.pair_there-awaited.ensures.value _ c.pair_there-tests.ensures.value (c.tests_fail.ensures e)
-
-pub returns-else-state-at-eq-WITH_TESTS : goal.returns-else-state-at-eq-WITH_TESTS
-returns-else-state-at-eq-WITH_TESTS c = λ e. never e
-
-pub returns-else-p-width : goal.returns-else-p-width
-returns-else-p-width c = λ e. never e
-
-pub returns-else-p-ne-NO_PLACE : goal.returns-else-p-ne-NO_PLACE
-returns-else-p-ne-NO_PLACE c = λ e. never e
+returns-then-state-at-eq-WITH_TESTS c = λ e. laws.stays _ _ _ _ _ _ c.if-p-ne-NO_PLACE.true c.if-p-parts.true c.if-state-at-eq-WITH_TESTS.true _ c.pair_there-awaited.ensures.value _ c.pair_there-tests.ensures.value (c.tests_fail.ensures e)

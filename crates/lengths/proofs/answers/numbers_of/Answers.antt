@@ -1,29 +1,18 @@
--- Each arm makes the numbers that the definition gives its answer.
-use Rattle.lengths.specs.HeightLength.{without_length, numbers_of}
+-- In each arm the answer is known, and the definition gives the same numbers.
+use mathlib.Core.Path.{sym, ap, ap₂, ◌∙◌}
+use Rattle.std.proofs.Common.{ℕ, Ok}
 use Rattle.combinators.specs.declared.refusals.Refusal.{Refusal}
-use mathlib.Core.Path.{sym, ap, ◌∙◌}
+use Rattle.lengths.specs.HeightLength.{without_length, numbers_of}
 use Rattle.lengths.proofs.answers.numbers_of.Goals as goal
 
-pub returns-in-NoLength : goal.returns-in-NoLength
+pub returns-in-Err : goal.returns-in-Err
 unfolding numbers_of
-returns-in-NoLength c = c.without_length.ensures ∙ ap without_length c.no_refusal.ensures ∙ ap numbers_of (sym c.in-NoLength.is)
+returns-in-Err c = c.without_length.ensures ∙ ap without_length c.from.ensures ∙ ap numbers_of (sym c.in-Err.is)
 
-pub returns-in-Length : goal.returns-in-Length
+pub returns-in-Some : goal.returns-in-Some
 unfolding numbers_of
-returns-in-Length c = ap (λ (r : Refusal). record { refusal = r; kind = c.in-Length.kind; amount = c.in-Length.amount }) c.no_refusal-refusal.ensures ∙ ap numbers_of (sym c.in-Length.is)
+returns-in-Some c = ap₂ (λ (r : Refusal) (k : ℕ). record { refusal = r; kind = k; amount = c.in-Some.length.amount }) c.no_refusal.ensures c.number.ensures ∙ ap numbers_of (sym (c.in-Ok.is ∙ ap Ok c.in-Some.is))
 
-pub returns-in-TooLong : goal.returns-in-TooLong
+pub returns-in-None : goal.returns-in-None
 unfolding numbers_of
-returns-in-TooLong c = c.without_length-in-TooLong.ensures ∙ ap without_length c.refused.ensures ∙ ap numbers_of (sym c.in-TooLong.is)
-
-pub returns-in-ShortStore : goal.returns-in-ShortStore
-unfolding numbers_of
-returns-in-ShortStore c = c.without_length-in-ShortStore.ensures ∙ ap without_length c.refused-in-ShortStore.ensures ∙ ap numbers_of (sym c.in-ShortStore.is)
-
-pub returns-in-NotUtf8 : goal.returns-in-NotUtf8
-unfolding numbers_of
-returns-in-NotUtf8 c = c.without_length-in-NotUtf8.ensures ∙ ap without_length c.refused-in-NotUtf8.ensures ∙ ap numbers_of (sym c.in-NotUtf8.is)
-
-pub returns-in-BadLength : goal.returns-in-BadLength
-unfolding numbers_of
-returns-in-BadLength c = c.without_length-in-BadLength.ensures ∙ ap without_length c.refused_at.ensures ∙ ap numbers_of (sym c.in-BadLength.is)
+returns-in-None c = c.without_length-in-None.ensures ∙ ap without_length c.no_refusal-in-None.ensures ∙ ap numbers_of (sym (c.in-Ok.is ∙ ap Ok c.in-None.is))

@@ -1,16 +1,9 @@
--- A '-' at the start is one byte, which is then in the text; without it there are 0.
-use mathlib.Core.Path.{sym, ◌∙◌}
-use native.Mathlib.Omega.{arith}
-use Rattle.combinators.proofs.Rules.{cases}
-use Rattle.combinators.proofs.Lists.{byte-there}
-use Rattle.lexer.specs.Name.{dash}
-use borrow.Author.Rules.{rules}
+-- A byte that is '-' is there.
+use Rattle.lexer.proofs.Idents as laws
 use Rattle.lexer.proofs.names.dash_of.Goals as goal
 
-pub returns-then-byte_is : goal.returns-then-byte_is
-unfolding dash
-returns-then-byte_is c = record { value = search cases; upper_bound = omega (arith, byte-there c.args.t.now 0 _ (search rules) (sym c.byte_is.ensures ∙ c.if-byte_is.true)) }
+pub returns-clause-value : goal.returns-clause-value
+returns-clause-value c = laws.dash-is _ _ c.byte_is.ensures _ c.from.ensures
 
-pub returns : goal.returns
-unfolding dash
-returns c = record { value = search cases; upper_bound = search rules }
+pub returns-clause-upper_bound : goal.returns-clause-upper_bound
+returns-clause-upper_bound c = laws.dash-there _ _ c.byte_is.ensures _ c.from.ensures

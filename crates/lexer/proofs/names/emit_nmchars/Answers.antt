@@ -8,25 +8,19 @@ pub loop-i-init : goal.loop-i-init
 loop-i-init c = writing-begin _ _ _ _ _
 
 pub overflow_add-n : goal.overflow_add-n
-overflow_add-n c = omega (arith, laws.chars-small _ _ _ _ _ _ _ ((laws.chars-more _ _ _ _ _ _ _ c.loop-i.invariant _ c.nmchar.ensures _ _ c.in-Value.is _ _ c.emit_scalar-f.ensures c.emit_scalar-f.auto.store _ c.length_of-n.ensures)))
+overflow_add-n c = omega (arith, laws.chars-small _ _ _ _ _ _ _ (laws.chars-more _ _ _ _ _ _ _ c.loop-i.invariant _ c.nmchar.ensures _ _ c.in-Some.is _ _ c.emit_scalar-f.ensures c.emit_scalar-f.auto.store _ c.length_of-n.ensures))
 
 pub overflow_add-i : goal.overflow_add-i
-overflow_add-i c = omega (arith, ((laws.chars-more _ _ _ _ _ _ _ c.loop-i.invariant _ c.nmchar.ensures _ _ c.in-Value.is _ _ c.emit_scalar-f.ensures c.emit_scalar-f.auto.store _ c.length_of-n.ensures)).within_text)
+overflow_add-i c = omega (arith, (laws.chars-more _ _ _ _ _ _ _ c.loop-i.invariant _ c.nmchar.ensures _ _ c.in-Some.is _ _ c.emit_scalar-f.ensures c.emit_scalar-f.auto.store _ c.length_of-n.ensures).within_text)
 
 pub loop-i-smaller : goal.loop-i-smaller
-loop-i-smaller c = omega (arith, ((laws.chars-more _ _ _ _ _ _ _ c.loop-i.invariant _ c.nmchar.ensures _ _ c.in-Value.is _ _ c.emit_scalar-f.ensures c.emit_scalar-f.auto.store _ c.length_of-n.ensures)).within_text, laws.chars-some _ _ c.nmchar.ensures _ _ c.in-Value.is)
+loop-i-smaller c = omega (arith, (laws.chars-more _ _ _ _ _ _ _ c.loop-i.invariant _ c.nmchar.ensures _ _ c.in-Some.is _ _ c.emit_scalar-f.ensures c.emit_scalar-f.auto.store _ c.length_of-n.ensures).within_text, laws.chars-some _ _ c.nmchar.ensures _ _ c.in-Some.is)
 
 pub loop-i-preserved : goal.loop-i-preserved
-loop-i-preserved c = (laws.chars-more _ _ _ _ _ _ _ c.loop-i.invariant _ c.nmchar.ensures _ _ c.in-Value.is _ _ c.emit_scalar-f.ensures c.emit_scalar-f.auto.store _ c.length_of-n.ensures)
+loop-i-preserved c = (laws.chars-more _ _ _ _ _ _ _ c.loop-i.invariant _ c.nmchar.ensures _ _ c.in-Some.is _ _ c.emit_scalar-f.ensures c.emit_scalar-f.auto.store _ c.length_of-n.ensures)
 
-pub shape_of-store-in-NoScalar : goal.shape_of-store-in-NoScalar
-shape_of-store-in-NoScalar c = c.loop-i.invariant.long
+pub returns-in_default : goal.returns-in_default
+returns-in_default c = let t : goal.returns-in_default-raw c = laws.chars-stop _ _ _ _ _ _ _ c.loop-i.invariant _ c.nmchar.ensures c.in_default.is in record { taken_value = t.0; store_after = t.1 }
 
-pub returns-in-NoScalar : goal.returns-in-NoScalar
-returns-in-NoScalar c = let t : goal.returns-in-NoScalar-raw c = laws.chars-stop _ _ _ _ _ _ _ c.loop-i.invariant _ c.nmchar.ensures c.in-NoScalar.is in record { taken_value = t.0; store_after = t.1 }
-
-pub shape_of-store : goal.shape_of-store
-shape_of-store c = c.loop-i.invariant.long
-
-pub returns : goal.returns
-returns c = let t : goal.returns-raw c = laws.chars-end _ _ _ _ _ _ _ c.loop-i.invariant c.loop-i-test.false in record { taken_value = t.0; store_after = t.1 }
+pub returns-after-loop-i : goal.returns-after-loop-i
+returns-after-loop-i c = let t : goal.returns-after-loop-i-raw c = laws.chars-end _ _ _ _ _ _ _ c.loop-i.invariant c.loop-i-test.false in record { taken_value = t.0; store_after = t.1 }

@@ -1,28 +1,28 @@
 -- The cases of `escaped_of` in their order: the end of the text, hex digits, of which there are at most six, and the next character.
-use mathlib.Core.Path.{sym, ◌∙◌}
-use native.Mathlib.Omega.{arith}
+use Rattle.std.proofs.Common.{arith, sym, ◌∙◌, eqb-true}
+use Rattle.std.proofs.lemmas.Bool.{eqb-false}
 use Rattle.characters.proofs.Scalars.{scalar-some}
 use Rattle.lexer.proofs.Escapes as laws
 use Rattle.lexer.proofs.Characters.{count-six}
 use Rattle.lexer.proofs.names.escaped.Goals as goal
 
-pub returns-then-t-eq0 : goal.returns-then-t-eq0
-returns-then-t-eq0 c = laws.escaped-end _ c.if-t-eq0.true
-
-pub hex_value_of-requires : goal.hex_value_of-requires
-hex_value_of-requires c = omega (arith, c.hex_count-n.ensures, count-six c.args.t.now)
+pub returns-then-is_empty : goal.returns-then-is_empty
+returns-then-is_empty c = laws.escaped-end _ (eqb-true _ _ (sym c.is_empty.ensures ∙ c.if-is_empty.true))
 
 pub overflow_add-result : goal.overflow_add-result
 overflow_add-result c = omega (arith, c.hex_count-n.ensures, count-six c.args.t.now)
 
+pub hex_value_of-requires : goal.hex_value_of-requires
+hex_value_of-requires c = omega (arith, c.hex_count-n.ensures, count-six c.args.t.now)
+
 pub returns-then-is_hex_digit : goal.returns-then-is_hex_digit
-returns-then-is_hex_digit c = laws.escaped-hex _ c.if-t-eq0.false _ c.peek.ensures _ c.is_hex_digit.ensures c.if-is_hex_digit.true _ _ _ c.hex_count-n.ensures c.hex_value_of.ensures c.or_replacement-v.ensures
+returns-then-is_hex_digit c = laws.escaped-hex _ (eqb-false _ _ (sym c.is_empty.ensures ∙ c.if-is_empty.false)) _ c.peek.ensures _ c.is_hex_digit.ensures c.if-is_hex_digit.true _ _ _ c.hex_count-n.ensures c.hex_value_of.ensures c.or_replacement.ensures
 
-pub overflow_add-result-in-Value : goal.overflow_add-result-in-Value
-overflow_add-result-in-Value c = let e = sym c.scalar_at.ensures ∙ c.in-Value.is in omega (arith, scalar-some _ _ _ e)
+pub returns-in_err-c : goal.returns-in_err-c
+returns-in_err-c c = c.from_residual.ensures ∙ laws.escaped-none _ (eqb-false _ _ (sym c.is_empty.ensures ∙ c.if-is_empty.false)) _ c.peek.ensures _ c.is_hex_digit.ensures c.if-is_hex_digit.false _ c.scalar_at.ensures c.in_err-c.was
 
-pub returns-in-Value : goal.returns-in-Value
-returns-in-Value c = laws.escaped-char _ c.if-t-eq0.false _ c.peek.ensures _ c.is_hex_digit.ensures c.if-is_hex_digit.false _ c.scalar_at.ensures _ _ c.in-Value.is
+pub overflow_add-result-2 : goal.overflow_add-result-2
+overflow_add-result-2 c = let e = sym c.scalar_at.ensures ∙ c.in_ok-c.was in omega (arith, scalar-some _ _ _ e)
 
-pub returns-in-NoScalar : goal.returns-in-NoScalar
-returns-in-NoScalar c = laws.escaped-none _ c.if-t-eq0.false _ c.peek.ensures _ c.is_hex_digit.ensures c.if-is_hex_digit.false _ c.scalar_at.ensures c.in-NoScalar.is
+pub returns : goal.returns
+returns c = laws.escaped-char _ (eqb-false _ _ (sym c.is_empty.ensures ∙ c.if-is_empty.false)) _ c.peek.ensures _ c.is_hex_digit.ensures c.if-is_hex_digit.false _ c.scalar_at.ensures _ _ c.in_ok-c.was

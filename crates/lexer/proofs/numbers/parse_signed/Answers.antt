@@ -1,15 +1,13 @@
--- The sign and what `parse_unsigned` takes behind it, or 0 where it takes nothing: `signed`, which lies within the text (`signed_le`).
-use Rattle.combinators.proofs.Repeating.{bounded}
+-- What `parse_unsigned` takes of the rest and what stands before it, or 0 where it takes nothing.
+use Rattle.std.proofs.Common.{arith}
 use Rattle.lexer.specs.Number.{unsigned, signed}
-use Rattle.lexer.proofs.Digits.{signed_le, followed-none, followed-some}
+use Rattle.lexer.proofs.Digits.{followed-none, followed-some}
 use Rattle.lexer.proofs.numbers.parse_signed.Goals as goal
 
-pub returns-then-n-eq0 : goal.returns-then-n-eq0
+pub returns-in-0-clause-value : goal.returns-in-0-clause-value
 unfolding signed
-returns-then-n-eq0 c = let t : goal.returns-then-n-eq0-raw c = bounded signed signed_le c.args.s.now _
-    (followed-none unsigned _ _ _ _ c.parse_sign-k.ensures.value c.parse_unsigned-n.ensures.value c.if-n-eq0.true) in record { value = t.0; upper_bound = t.1 }
+returns-in-0-clause-value c = followed-none unsigned _ _ _ _ c.parse_sign-k.ensures.value c.parse_unsigned.ensures.value c.in-0.is
 
-pub returns : goal.returns
+pub returns-in_default-clause-value : goal.returns-in_default-clause-value
 unfolding signed
-returns c = let t : goal.returns-raw c = bounded signed signed_le c.args.s.now _
-    (followed-some unsigned _ _ _ _ c.parse_sign-k.ensures.value c.parse_unsigned-n.ensures.value c.if-n-eq0.false) in record { value = t.0; upper_bound = t.1 }
+returns-in_default-clause-value c = followed-some unsigned _ _ _ _ c.parse_sign-k.ensures.value c.parse_unsigned.ensures.value (λ z. omega arith)

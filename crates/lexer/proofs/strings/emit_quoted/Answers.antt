@@ -3,10 +3,10 @@ use Rattle.lexer.proofs.Quotes as laws
 use Rattle.lexer.proofs.strings.emit_quoted.Goals as goal
 
 pub returns-in-Byte : goal.returns-in-Byte
-returns-in-Byte c = let t : goal.returns-in-Byte-raw c = laws.turn_byte _ _ _ c.quoted_byte-c.ensures _ _ _ _ c.in-Byte.is _ _ c.emit-f.ensures in record { taken_value = t.0; fill_after = t.1 }
+returns-in-Byte c = let t : goal.returns-in-Byte-raw c = laws.turn_byte _ _ _ c.quoted_byte.ensures _ _ _ _ c.in-Byte.is _ _ c.emit.ensures in record { taken_value = t.0; fill_after = t.1 }
 
 pub returns-in-Skip : goal.returns-in-Skip
-returns-in-Skip c = let t : goal.returns-in-Skip-raw c = laws.turn-skip _ _ _ c.quoted_byte-c.ensures _ _ _ c.in-Skip.is in record { taken_value = t.0; fill_after = t.1 }
+returns-in-Skip c = let t : goal.returns-in-Skip-raw c = laws.turn-skip _ _ _ c.quoted_byte.ensures _ _ _ c.in-Skip.is in record { taken_value = t.0; fill_after = t.1 }
 
 pub returns-in-Stop : goal.returns-in-Stop
-returns-in-Stop c = let t : goal.returns-in-Stop-raw c = laws.turn-stop _ _ _ c.quoted_byte-c.ensures _ _ c.in-Stop.is in record { taken_value = t.0; fill_after = t.1 }
+returns-in-Stop c = let t : goal.returns-in-Stop-raw c = laws.turn-stop _ _ _ c.quoted_byte.ensures _ _ c.in-Stop.is in record { taken_value = t.0; fill_after = t.1 }

@@ -5,10 +5,10 @@ use Rattle.lexer.proofs.TokenReaders as laws
 use Rattle.lexer.proofs.tokens.hash_token.Goals as goal
 
 pub overflow_add-result : goal.overflow_add-result
-overflow_add-result c = omega (arith, answer_le _ _ (identstring-keeps _) _ c.parse_identstring.ensures.value _ _ c.in-Text.is)
+overflow_add-result c = omega (arith, answer_le _ _ (identstring-keeps _) _ c.parse_identstring.ensures.value _ _ c.in-Some.is)
 
-pub returns-in-Text : goal.returns-in-Text
-returns-in-Text c = let t : goal.returns-in-Text-raw c = laws.hashed _ _ _ _ _ _ (c.parse_identstring.ensures.value, c.parse_identstring.ensures.store_after) _ _ c.in-Text.is in record { value = t.0; store_after = t.1 }
+pub returns-in-Some : goal.returns-in-Some
+returns-in-Some c = let t : goal.returns-in-Some-raw c = laws.hashed _ _ _ _ _ _ (c.parse_identstring.ensures.value, c.parse_identstring.ensures.store_after) _ _ c.in-Some.is in record { value = t.0; store_after = t.1 }
 
-pub returns-in-NoName : goal.returns-in-NoName
-returns-in-NoName c = let t : goal.returns-in-NoName-raw c = laws.not-hashed _ _ _ _ _ _ (c.parse_identstring.ensures.value, c.parse_identstring.ensures.store_after) c.in-NoName.is in record { value = t.0; store_after = t.1 }
+pub returns-in-None : goal.returns-in-None
+returns-in-None c = let t : goal.returns-in-None-raw c = laws.not-hashed _ _ _ _ _ _ (c.parse_identstring.ensures.value, c.parse_identstring.ensures.store_after) c.in-None.is in record { value = t.0; store_after = t.1 }

@@ -1,9 +1,7 @@
--- What was read is kept; where nothing was, the delimiter takes its one byte: the two cases of `or_delim`.
+-- What was read is kept; where nothing was, the delimiter is made.
+use Rattle.std.proofs.Common.{◌∙◌}
 use Rattle.lexer.proofs.TokenAnswers as laws
 use Rattle.lexer.proofs.tokens.or_delim.Goals as goal
 
-pub returns-in-Took : goal.returns-in-Took
-returns-in-Took c = laws.delim-kept _ _ _ _ c.in-Took.is
-
-pub returns-in-NoToken : goal.returns-in-NoToken
-returns-in-NoToken c = laws.delim-made _ _ c.in-NoToken.is
+pub returns : goal.returns
+returns c = c.or.ensures ∙ laws.delim-by _ _

@@ -11,17 +11,17 @@ returns-then-n-eq0 c = let t : goal.returns-then-n-eq0-raw c = laws.no_number _ 
 pub returns-then-byte_is : goal.returns-then-byte_is
 returns-then-byte_is c = let t : goal.returns-then-byte_is-raw c = laws.percent _ _ c.parse_number-n.ensures.value c.if-n-eq0.false _ _ _ _ c.emit_part-f.ensures _ c.byte_is.ensures c.if-byte_is.true in record { value = t.0; store_after = t.1 }
 
-pub overflow_add-result-in-Text : goal.overflow_add-result-in-Text
-overflow_add-result-in-Text c = omega (arith, c.parse_number-n.ensures.upper_bound, answer_le _ _ (ident-keeps _) _ c.parse_ident.ensures.value _ _ c.in-Text.is)
+pub overflow_add-result-in-Some : goal.overflow_add-result-in-Some
+overflow_add-result-in-Some c = omega (arith, c.parse_number-n.ensures.upper_bound, answer_le _ _ (ident-keeps _) _ c.parse_ident.ensures.value _ _ c.in-Some.is)
 
-pub shape_of-store-in-Text : goal.shape_of-store-in-Text
-shape_of-store-in-Text c = c.parse_ident.auto.store ∙ c.emit_part-f.auto.store
+pub shape_of-store-in-Some : goal.shape_of-store-in-Some
+shape_of-store-in-Some c = c.parse_ident.auto.store ∙ c.emit_part-f.auto.store
 
-pub returns-in-Text : goal.returns-in-Text
-returns-in-Text c = let t : goal.returns-in-Text-raw c = laws.unit _ _ c.parse_number-n.ensures.value c.if-n-eq0.false _ _ _ _ c.emit_part-f.ensures _ c.byte_is.ensures c.if-byte_is.false _ _ (c.parse_ident.ensures.value, c.parse_ident.ensures.store_after) _ _ c.in-Text.is in record { value = t.0; store_after = t.1 }
+pub returns-in-Some : goal.returns-in-Some
+returns-in-Some c = let t : goal.returns-in-Some-raw c = laws.unit _ _ c.parse_number-n.ensures.value c.if-n-eq0.false _ _ _ _ c.emit_part-f.ensures _ c.byte_is.ensures c.if-byte_is.false _ _ (c.parse_ident.ensures.value, c.parse_ident.ensures.store_after) _ _ c.in-Some.is in record { value = t.0; store_after = t.1 }
 
-pub shape_of-store-in-NoName : goal.shape_of-store-in-NoName
-shape_of-store-in-NoName c = c.parse_ident.auto.store ∙ c.emit_part-f.auto.store
+pub shape_of-store-in-None : goal.shape_of-store-in-None
+shape_of-store-in-None c = c.parse_ident.auto.store ∙ c.emit_part-f.auto.store
 
-pub returns-in-NoName : goal.returns-in-NoName
-returns-in-NoName c = let t : goal.returns-in-NoName-raw c = laws.bare _ _ c.parse_number-n.ensures.value c.if-n-eq0.false _ _ _ _ c.emit_part-f.ensures _ c.byte_is.ensures c.if-byte_is.false _ _ (c.parse_ident.ensures.value, c.parse_ident.ensures.store_after) c.in-NoName.is in record { value = t.0; store_after = t.1 }
+pub returns-in-None : goal.returns-in-None
+returns-in-None c = let t : goal.returns-in-None-raw c = laws.bare _ _ c.parse_number-n.ensures.value c.if-n-eq0.false _ _ _ _ c.emit_part-f.ensures _ c.byte_is.ensures c.if-byte_is.false _ _ (c.parse_ident.ensures.value, c.parse_ident.ensures.store_after) c.in-None.is in record { value = t.0; store_after = t.1 }

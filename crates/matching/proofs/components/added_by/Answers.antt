@@ -1,22 +1,20 @@
--- Each kind by its own test, as the definition splits components.
-use Rattle.matching.proofs.ComponentLaws.{adds-star, adds-element, adds-hash, adds-child, adds-descendant, adds-class}
+-- Each kind by its own arm, as the definition splits components.
 use mathlib.Core.Path.{◌∙◌}
+use native.Mathlib.Omega.{arith}
+use Rattle.matching.proofs.ComponentLaws.{adds-star, adds-element, adds-hash, adds-combinator, adds-class}
 use Rattle.matching.proofs.components.added_by.Goals as goal
 
-pub returns-then-kind-eq-STAR : goal.returns-then-kind-eq-STAR
-returns-then-kind-eq-STAR c = λ store f a b. adds-star store _ f a b c.if-kind-eq-STAR.true
+pub returns-in-0 : goal.returns-in-0
+returns-in-0 c = λ store f a b. adds-star store _ f a b c.in-0.is
 
-pub returns-then-kind-eq-ELEMENT : goal.returns-then-kind-eq-ELEMENT
-returns-then-kind-eq-ELEMENT c = λ store f a b. c.new.ensures ∙ adds-element store _ f a b c.if-kind-eq-ELEMENT.true
+pub returns-in-0-2 : goal.returns-in-0-2
+returns-in-0-2 c = λ store f a b. adds-combinator store _ f a b (omega arith) (omega arith)
 
-pub returns-then-kind-eq-HASH : goal.returns-then-kind-eq-HASH
-returns-then-kind-eq-HASH c = λ store f a b. c.new-then-kind-eq-HASH.ensures ∙ adds-hash store _ f a b c.if-kind-eq-HASH.true
+pub returns-in-2 : goal.returns-in-2
+returns-in-2 c = λ store f a b. c.new.ensures ∙ adds-element store _ f a b c.in-2.is
 
-pub returns-then-kind-eq-CHILD : goal.returns-then-kind-eq-CHILD
-returns-then-kind-eq-CHILD c = λ store f a b. adds-child store _ f a b c.if-kind-eq-CHILD.true
+pub returns-in-3 : goal.returns-in-3
+returns-in-3 c = λ store f a b. c.new-in-3.ensures ∙ adds-hash store _ f a b c.in-3.is
 
-pub returns-then-kind-eq-DESCENDANT : goal.returns-then-kind-eq-DESCENDANT
-returns-then-kind-eq-DESCENDANT c = λ store f a b. adds-descendant store _ f a b c.if-kind-eq-DESCENDANT.true
-
-pub returns : goal.returns
-returns c = λ store f a b. c.new-2.ensures ∙ adds-class store _ f a b c.if-kind-eq-STAR.false c.if-kind-eq-ELEMENT.false c.if-kind-eq-HASH.false c.if-kind-eq-CHILD.false c.if-kind-eq-DESCENDANT.false
+pub returns-in_default : goal.returns-in_default
+returns-in_default c = λ store f a b. c.new-in_default.ensures ∙ adds-class store _ f a b (omega arith) (omega arith) (omega arith) (omega arith) (omega arith)

@@ -1,5 +1,5 @@
 -- What was added, of the components so far, is their specificity; each adds at most one to a count, so the sums fit.
-use Rattle.matching.proofs.ComponentLaws.{add_begin, add-fits, add-more, add-end}
+use Rattle.matching.proofs.ComponentLaws.{add_begin, add-fits, add-more}
 use borrow.Author.Rules.{rules}
 use Rattle.matching.proofs.components.specificity.Goals as goal
 
@@ -11,6 +11,3 @@ add-result-requires c = add-fits _ _ _ _ c.loop-i.invariant c.loop-i-test.true _
 
 pub loop-i-preserved : goal.loop-i-preserved
 loop-i-preserved c = add-more _ _ _ _ c.loop-i.invariant c.loop-i-test.true _ c.kind_at-kind.ensures _ c.added_by.ensures _ c.add-result.ensures
-
-pub returns : goal.returns
-returns c = add-end _ _ _ _ c.loop-i.invariant c.loop-i-test.false

@@ -1,10 +1,6 @@
 -- What was added, of the components so far, is their specificity; each adds at most one to a count, so the sums fit.
-use Prim.Native.Nat.{◌-◌}
 use Rattle.matching.proofs.ComponentLaws.{Adding}
 use Rattle.matching.proofs.components.specificity.Given as goal
 
 abbrev pub invariant-loop-i : goal.invariant-loop-i
 invariant-loop-i l = Adding l.components l.n l.i l.result
-
-abbrev pub decreases-loop-i : goal.decreases-loop-i
-decreases-loop-i l = l.n - l.i

@@ -1,16 +1,18 @@
--- The attributes that are left have the answer of all; the first of the name decides.
-use Rattle.matching.proofs.AttributeLaws.{look-begin, first_found, first_more, first-end}
+-- The first row of the name is found, and its value decides.
+use mathlib.Core.Path.{refl, sym, ◌∙◌}
+use native.Mathlib.Omega.{arith}
+use Rattle.std.proofs.lemmas.Iterator.{YieldsList-from_range}
+use Rattle.std.proofs.lemmas.Iterator.Adapters.{option_map_id}
+use Rattle.std.proofs.lemmas.Iterator.Search.{find_from_yields_List}
 use borrow.Author.Rules.{rules}
+use Rattle.matching.specs.Matches.{is_named}
+use Rattle.matching.specs.Rows.{attribute_of}
+use Rattle.matching.proofs.AttributeLaws.{first-answer}
 use Rattle.matching.proofs.elements.attribute_is.Goals as goal
 
-pub loop-i-init : goal.loop-i-init
-loop-i-init c = look-begin _ _ _ _ _
-
-pub returns-then-is_named : goal.returns-then-is_named
-returns-then-is_named c = search (rules, first_found)
-
-pub loop-i-preserved : goal.loop-i-preserved
-loop-i-preserved c = search (rules, first_more)
-
 pub returns : goal.returns
-returns c = search (rules, first-end)
+returns c =
+    first-answer _ _ _ _ _ _ _
+    (sym (option_map_id _)
+    ∙ find_from_yields_List (λ row. is_named c.args.name.now (attribute_of c.args.attributes.now c.args.text.now row)) _ _ _ c.find.ensures.ran (YieldsList-from_range _ _ c.args.count refl (omega arith)) (λ x b q k. search rules))
+    _ _ c.is_some_and.ensures (λ row k. search rules)

@@ -1,16 +1,15 @@
--- The attributes that are left have the answer of all; the first that passes decides.
-use Rattle.matching.proofs.AttributeLaws.{look-begin, any_found, any-more, any-end}
+-- The rows of the range are asked one by one.
+use mathlib.Core.Path.{refl, ◌∙◌}
+use native.Mathlib.Omega.{arith}
+use Rattle.std.proofs.lemmas.Iterator.{YieldsList-from_range}
+use Rattle.std.proofs.lemmas.Iterator.Search.{any_from_yields_List}
 use borrow.Author.Rules.{rules}
+use Rattle.matching.specs.Matches.{is_class}
+use Rattle.matching.specs.Rows.{attribute_of}
+use Rattle.matching.proofs.AttributeLaws.{any-row}
 use Rattle.matching.proofs.elements.has_class.Goals as goal
 
-pub loop-i-init : goal.loop-i-init
-loop-i-init c = look-begin _ _ _ _ _
-
-pub returns-then-is_class : goal.returns-then-is_class
-returns-then-is_class c = search (rules, any_found)
-
-pub loop-i-preserved : goal.loop-i-preserved
-loop-i-preserved c = search (rules, any-more)
-
 pub returns : goal.returns
-returns c = search (rules, any-end)
+returns c =
+    any_from_yields_List (λ row. is_class c.args.class.now (attribute_of c.args.attributes.now c.args.text.now row)) _ _ _ c.any.ensures.ran (YieldsList-from_range _ _ c.args.count refl (omega arith)) (λ x b q k. search rules)
+    ∙ any-row _ _ _ _ _

@@ -3,14 +3,14 @@ use Rattle.matching.proofs.PassLaws.{class-asked, hash-asked, attribute-asked, v
 use borrow.Author.Rules.{rules}
 use Rattle.matching.proofs.matcher.attributes_asked.Goals as goal
 
-pub returns-then-kind-eq-CLASS : goal.returns-then-kind-eq-CLASS
-returns-then-kind-eq-CLASS c = search (rules, class-asked)
+pub returns-in-1 : goal.returns-in-1
+returns-in-1 c = search (rules, class-asked)
 
-pub returns-then-kind-eq-HASH : goal.returns-then-kind-eq-HASH
-returns-then-kind-eq-HASH c = search (rules, hash-asked)
+pub returns-in-3 : goal.returns-in-3
+returns-in-3 c = search (rules, hash-asked)
 
-pub returns-then-kind-eq-ATTRIBUTE : goal.returns-then-kind-eq-ATTRIBUTE
-returns-then-kind-eq-ATTRIBUTE c = search (rules, attribute-asked)
+pub returns-in-7 : goal.returns-in-7
+returns-in-7 c = search (rules, attribute-asked)
 
-pub returns : goal.returns
-returns c = search (rules, value-asked)
+pub returns-in_default : goal.returns-in_default
+returns-in_default c = search (rules, value-asked)

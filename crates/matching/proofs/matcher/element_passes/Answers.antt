@@ -3,11 +3,11 @@ use Rattle.matching.proofs.PassLaws.{name-passes, nth-passes, attributes-passes}
 use borrow.Author.Rules.{rules}
 use Rattle.matching.proofs.matcher.element_passes.Goals as goal
 
-pub returns-then-kind-eq-ELEMENT : goal.returns-then-kind-eq-ELEMENT
-returns-then-kind-eq-ELEMENT c = search (rules, name-passes)
+pub returns-in-2 : goal.returns-in-2
+returns-in-2 c = search (rules, name-passes)
 
-pub returns-then-kind-eq-NTH : goal.returns-then-kind-eq-NTH
-returns-then-kind-eq-NTH c = search (rules, nth-passes)
+pub returns-in-6 : goal.returns-in-6
+returns-in-6 c = search (rules, nth-passes)
 
-pub returns : goal.returns
-returns c = search (rules, attributes-passes)
+pub returns-in_default : goal.returns-in_default
+returns-in_default c = search (rules, attributes-passes)

@@ -3,9 +3,6 @@ use Rattle.matching.proofs.ClimbLaws as laws
 use native.Mathlib.Omega.{arith}
 use Rattle.matching.proofs.matcher.match_locally.Goals as goal
 
-pub loop-n-init : goal.loop-n-init
-loop-n-init c = laws.hand-begin _ _ _ _ _ _ _ c.requires
-
 pub returns-then-kind-eq-DESCENDANT : goal.returns-then-kind-eq-DESCENDANT
 returns-then-kind-eq-DESCENDANT c = laws.at-descendant _ _ _ _ _ _ _ _ _ c.loop-n.invariant c.loop-n-test.true _ c.kind_at-kind.ensures c.if-kind-eq-DESCENDANT.true
 
@@ -15,14 +12,11 @@ returns-then-at-eq0 c = laws.child-ends _ _ _ _ _ _ _ _ _ c.loop-n.invariant c.l
 pub loop-n-preserved-then-kind-eq-CHILD : goal.loop-n-preserved-then-kind-eq-CHILD
 loop-n-preserved-then-kind-eq-CHILD c = laws.hand-up _ _ _ _ _ _ _ _ _ c.loop-n.invariant c.loop-n-test.true _ c.kind_at-kind.ensures c.if-kind-eq-CHILD.true c.if-at-eq0.false _ c.parent_of-at.ensures.value
 
-pub passes-requires : goal.passes-requires
-passes-requires c = record { kind_value = c.kind_at-kind.ensures; simple_at = laws.is-test _ _ _ _ _ _ _ _ _ c.loop-n.invariant c.loop-n-test.true _ c.kind_at-kind.ensures c.if-kind-eq-CHILD.false c.if-kind-eq-DESCENDANT.false; rooted = c.loop-n.invariant.rooted }
-
 pub loop-n-preserved : goal.loop-n-preserved
-loop-n-preserved c = laws.hand_on _ _ _ _ _ _ _ _ _ c.loop-n.invariant c.loop-n-test.true _ c.kind_at-kind.ensures c.if-kind-eq-CHILD.false c.if-kind-eq-DESCENDANT.false _ c.passes.ensures c.if-passes.true
+loop-n-preserved c = laws.hand_on _ _ _ _ _ _ _ _ _ c.loop-n.invariant c.loop-n-test.true _ c.kind_at-kind.ensures c.if-kind-eq-CHILD.false c.if-kind-eq-DESCENDANT.false _ c.passes.ensures c.if-not-passes.false
 
-pub returns-else-passes : goal.returns-else-passes
-returns-else-passes c = laws.test-ends _ _ _ _ _ _ _ _ _ c.loop-n.invariant c.loop-n-test.true _ c.kind_at-kind.ensures c.if-kind-eq-CHILD.false c.if-kind-eq-DESCENDANT.false _ c.passes.ensures c.if-passes.false
+pub returns-then-not-passes : goal.returns-then-not-passes
+returns-then-not-passes c = laws.test-ends _ _ _ _ _ _ _ _ _ c.loop-n.invariant c.loop-n-test.true _ c.kind_at-kind.ensures c.if-kind-eq-CHILD.false c.if-kind-eq-DESCENDANT.false _ c.passes.ensures c.if-not-passes.true
 
 pub returns : goal.returns
 returns c = laws.none_left _ _ _ _ _ _ _ _ _ c.loop-n.invariant (omega (arith, c.loop-n-test.false))

@@ -4,6 +4,3 @@ use Rattle.matching.proofs.matcher.match_locally.Given as goal
 
 abbrev pub invariant-loop-n : goal.invariant-loop-n
 invariant-loop-n l = laws.Handed l.store l.components l.nodes l.attributes l.text l.left l.row l.n l.at
-
-abbrev pub decreases-loop-n : goal.decreases-loop-n
-decreases-loop-n l = l.n

@@ -1,16 +1,16 @@
--- A descendant combinator is among all components exactly where it is among those that are left.
-use Rattle.matching.proofs.NumberLaws as laws
+-- The rows of the components are asked one by one.
+use mathlib.Core.Path.{refl, ◌∙◌}
 use native.Mathlib.Omega.{arith}
+use lib.Dec.{eqb}
+use Rattle.std.proofs.lemmas.Iterator.{YieldsList-from_range}
+use Rattle.std.proofs.lemmas.Iterator.Search.{any_from_yields_List}
+use borrow.Author.Rules.{rules}
+use Rattle.syntax.specs.RuleLayout.{descendant_kind, component_kind_at}
+use Rattle.matching.specs.Rows.{component_number}
+use Rattle.matching.proofs.NumberLaws.{any-descendant}
 use Rattle.matching.proofs.topmost.has_descendant.Goals as goal
 
-pub loop-n-init : goal.loop-n-init
-loop-n-init c = laws.look-begin _ _
-
-pub returns-then-kind_at-eq-DESCENDANT : goal.returns-then-kind_at-eq-DESCENDANT
-returns-then-kind_at-eq-DESCENDANT c = laws.look-found _ _ _ c.loop-n.invariant c.loop-n-test.true _ c.kind_at.ensures c.if-kind_at-eq-DESCENDANT.true
-
-pub loop-n-preserved : goal.loop-n-preserved
-loop-n-preserved c = laws.look-on _ _ _ c.loop-n.invariant c.loop-n-test.true _ c.kind_at.ensures c.if-kind_at-eq-DESCENDANT.false
-
 pub returns : goal.returns
-returns c = laws.look-end _ _ _ c.loop-n.invariant (omega (arith, c.loop-n-test.false))
+returns c = λ store.
+    any_from_yields_List (λ i. eqb (component_number c.args.components.now i component_kind_at) descendant_kind) _ _ _ c.any.ensures.ran (YieldsList-from_range _ _ c.args.left refl (omega arith)) (λ x b q k. search rules)
+    ∙ any-descendant _ _ _

@@ -3,7 +3,7 @@ use Rattle.matching.proofs.NumberLaws as laws
 use Rattle.matching.proofs.topmost.parent_reached.Goals as goal
 
 pub returns-in-Descendant : goal.returns-in-Descendant
-returns-in-Descendant c = laws.parent-found _ _ _ _ _ _ c.match_locally-climbed.ensures c.in-Descendant.is _ c.parent_of.ensures.value
+returns-in-Descendant c = laws.parent-found _ _ _ _ _ _ c.match_locally.ensures c.in-Descendant.is _ c.parent_of.ensures.value
 
 pub returns-in-Ended : goal.returns-in-Ended
-returns-in-Ended c = laws.parent-none _ _ _ _ _ _ c.match_locally-climbed.ensures c.in-Ended.is
+returns-in-Ended c = laws.parent-none _ _ _ _ _ _ c.match_locally.ensures c.in-Ended.is

@@ -1,58 +1,59 @@
 -- Each sheet is read behind those before it, and the three answers are joined; where one panics, what the sheets before it left is wiped.
-use mathlib.Core.Path.{◌∙◌}
+use mathlib.Core.Path.{◌∙◌, ap}
+use Rattle.std.proofs.Common.{Err}
 use Rattle.origins.proofs.SheetsLaws as laws
 use Rattle.origins.proofs.reading.read_sheets.Goals as goal
 
 pub read_behind-requires : goal.read_behind-requires
 read_behind-requires c = laws.first-room c.requires
 
-pub returns-in-Panic : goal.returns-in-Panic
-returns-in-Panic c = let t : goal.returns-in-Panic-raw c = laws.agent-panics c.requires c.read_behind.ensures.value c.read_behind.ensures.rules_after c.read_behind.ensures.tokens_unchanged c.read_behind.ensures.brackets_unchanged c.read_behind.ensures.texts_after c.read_behind.ensures.rules_bounds c.in-Panic.is in record { value = t.0; rules_after = t.1.0; tokens_unchanged = t.1.1.0; brackets_unchanged = t.1.1.1.0; texts_after = t.1.1.1.1 }
+pub returns-in-Err : goal.returns-in-Err
+returns-in-Err c = let t = laws.agent-panics c.requires c.read_behind.ensures.value c.read_behind.ensures.rules_after c.read_behind.ensures.tokens_unchanged c.read_behind.ensures.brackets_unchanged c.read_behind.ensures.texts_after c.read_behind.ensures.rules_bounds c.in-Err.is in record { value = ap Err c.in_sheet.ensures ∙ t.0; rules_after = t.1.0; tokens_unchanged = t.1.1.0; brackets_unchanged = t.1.1.1.0; texts_after = t.1.1.1.1 }
 
-pub read_behind-requires-in-Rules : goal.read_behind-requires-in-Rules
-read_behind-requires-in-Rules c = laws.second-room c.requires c.read_behind.ensures.value c.read_behind.ensures.rules_after c.read_behind.ensures.tokens_unchanged c.read_behind.ensures.brackets_unchanged c.read_behind.ensures.texts_after c.read_behind.ensures.rules_bounds c.in-Rules.is
+pub read_behind-requires-2 : goal.read_behind-requires-2
+read_behind-requires-2 c = laws.second-room c.requires c.read_behind.ensures.value c.read_behind.ensures.rules_after c.read_behind.ensures.tokens_unchanged c.read_behind.ensures.brackets_unchanged c.read_behind.ensures.texts_after c.read_behind.ensures.rules_bounds c.in-Ok.is
 
-pub returns-in-Panic-read_behind : goal.returns-in-Panic-read_behind
-returns-in-Panic-read_behind c = let t : goal.returns-in-Panic-read_behind-raw c = laws.user-panics c.requires c.read_behind.ensures.value c.read_behind.ensures.rules_after c.read_behind.ensures.tokens_unchanged c.read_behind.ensures.brackets_unchanged c.read_behind.ensures.texts_after c.read_behind.ensures.rules_bounds c.in-Rules.is c.read_behind-in-Rules.ensures.value c.read_behind-in-Rules.ensures.rules_after c.read_behind-in-Rules.ensures.tokens_unchanged c.read_behind-in-Rules.ensures.brackets_unchanged c.read_behind-in-Rules.ensures.texts_after c.read_behind-in-Rules.ensures.rules_bounds c.in-Panic-read_behind.is c.forget.ensures.rules_after c.forget.ensures.texts_after in record { value = t.0; rules_after = t.1.0; tokens_unchanged = t.1.1.0; brackets_unchanged = t.1.1.1.0; texts_after = t.1.1.1.1 }
+pub returns-in-Err-read_behind : goal.returns-in-Err-read_behind
+returns-in-Err-read_behind c = let t = laws.user-panics c.requires c.read_behind.ensures.value c.read_behind.ensures.rules_after c.read_behind.ensures.tokens_unchanged c.read_behind.ensures.brackets_unchanged c.read_behind.ensures.texts_after c.read_behind.ensures.rules_bounds c.in-Ok.is c.read_behind-2.ensures.value c.read_behind-2.ensures.rules_after c.read_behind-2.ensures.tokens_unchanged c.read_behind-2.ensures.brackets_unchanged c.read_behind-2.ensures.texts_after c.read_behind-2.ensures.rules_bounds c.in-Err-read_behind.is c.forget.ensures.rules_after c.forget.ensures.texts_after in record { value = ap Err c.in_sheet-in-Err-read_behind.ensures ∙ t.0; rules_after = t.1.0; tokens_unchanged = t.1.1.0; brackets_unchanged = t.1.1.1.0; texts_after = t.1.1.1.1 }
 
 pub overflow_add-place : goal.overflow_add-place
-overflow_add-place c = record { fits = laws.places-fit c.requires c.read_behind.ensures.value c.read_behind.ensures.rules_after c.read_behind.ensures.tokens_unchanged c.read_behind.ensures.brackets_unchanged c.read_behind.ensures.texts_after c.read_behind.ensures.rules_bounds c.in-Rules.is c.read_behind-in-Rules.ensures.value c.read_behind-in-Rules.ensures.rules_after c.read_behind-in-Rules.ensures.tokens_unchanged c.read_behind-in-Rules.ensures.brackets_unchanged c.read_behind-in-Rules.ensures.texts_after c.read_behind-in-Rules.ensures.rules_bounds c.in-Rules-read_behind.is }
+overflow_add-place c = record { fits = laws.places-fit c.requires c.read_behind.ensures.value c.read_behind.ensures.rules_after c.read_behind.ensures.tokens_unchanged c.read_behind.ensures.brackets_unchanged c.read_behind.ensures.texts_after c.read_behind.ensures.rules_bounds c.in-Ok.is c.read_behind-2.ensures.value c.read_behind-2.ensures.rules_after c.read_behind-2.ensures.tokens_unchanged c.read_behind-2.ensures.brackets_unchanged c.read_behind-2.ensures.texts_after c.read_behind-2.ensures.rules_bounds c.in-Ok-read_behind.is }
 
-pub overflow_add-fill : goal.overflow_add-fill
-overflow_add-fill c = record { fits = laws.fills-fit c.requires c.read_behind.ensures.value c.read_behind.ensures.rules_after c.read_behind.ensures.tokens_unchanged c.read_behind.ensures.brackets_unchanged c.read_behind.ensures.texts_after c.read_behind.ensures.rules_bounds c.in-Rules.is c.read_behind-in-Rules.ensures.value c.read_behind-in-Rules.ensures.rules_after c.read_behind-in-Rules.ensures.tokens_unchanged c.read_behind-in-Rules.ensures.brackets_unchanged c.read_behind-in-Rules.ensures.texts_after c.read_behind-in-Rules.ensures.rules_bounds c.in-Rules-read_behind.is }
+pub overflow_add-from : goal.overflow_add-from
+overflow_add-from c = record { fits = laws.fills-fit c.requires c.read_behind.ensures.value c.read_behind.ensures.rules_after c.read_behind.ensures.tokens_unchanged c.read_behind.ensures.brackets_unchanged c.read_behind.ensures.texts_after c.read_behind.ensures.rules_bounds c.in-Ok.is c.read_behind-2.ensures.value c.read_behind-2.ensures.rules_after c.read_behind-2.ensures.tokens_unchanged c.read_behind-2.ensures.brackets_unchanged c.read_behind-2.ensures.texts_after c.read_behind-2.ensures.rules_bounds c.in-Ok-read_behind.is }
 
-pub read_behind-requires-in-Rules-read_behind : goal.read_behind-requires-in-Rules-read_behind
-read_behind-requires-in-Rules-read_behind c = laws.third-room c.requires c.read_behind.ensures.value c.read_behind.ensures.rules_after c.read_behind.ensures.tokens_unchanged c.read_behind.ensures.brackets_unchanged c.read_behind.ensures.texts_after c.read_behind.ensures.rules_bounds c.in-Rules.is c.read_behind-in-Rules.ensures.value c.read_behind-in-Rules.ensures.rules_after c.read_behind-in-Rules.ensures.tokens_unchanged c.read_behind-in-Rules.ensures.brackets_unchanged c.read_behind-in-Rules.ensures.texts_after c.read_behind-in-Rules.ensures.rules_bounds c.in-Rules-read_behind.is
+pub read_behind-requires-3 : goal.read_behind-requires-3
+read_behind-requires-3 c = laws.third-room c.requires c.read_behind.ensures.value c.read_behind.ensures.rules_after c.read_behind.ensures.tokens_unchanged c.read_behind.ensures.brackets_unchanged c.read_behind.ensures.texts_after c.read_behind.ensures.rules_bounds c.in-Ok.is c.read_behind-2.ensures.value c.read_behind-2.ensures.rules_after c.read_behind-2.ensures.tokens_unchanged c.read_behind-2.ensures.brackets_unchanged c.read_behind-2.ensures.texts_after c.read_behind-2.ensures.rules_bounds c.in-Ok-read_behind.is
 
-pub shape_of-rules-in-Panic-read_behind-2 : goal.shape_of-rules-in-Panic-read_behind-2
-shape_of-rules-in-Panic-read_behind-2 c = c.forget-in-Panic-read_behind-2.auto.rules ∙ c.read_behind-in-Rules-read_behind.auto.rules ∙ c.read_behind-in-Rules.auto.rules ∙ c.read_behind.auto.rules
+pub shape_of-rules-in-Err-read_behind-2 : goal.shape_of-rules-in-Err-read_behind-2
+shape_of-rules-in-Err-read_behind-2 c = c.forget-in-Err-read_behind-2.auto.rules ∙ c.read_behind-3.auto.rules ∙ c.read_behind-2.auto.rules ∙ c.read_behind.auto.rules
 
-pub shape_of-tokens-in-Panic-read_behind-2 : goal.shape_of-tokens-in-Panic-read_behind-2
-shape_of-tokens-in-Panic-read_behind-2 c = c.read_behind-in-Rules-read_behind.auto.tokens ∙ c.read_behind-in-Rules.auto.tokens ∙ c.read_behind.auto.tokens
+pub shape_of-tokens-in-Err-read_behind-2 : goal.shape_of-tokens-in-Err-read_behind-2
+shape_of-tokens-in-Err-read_behind-2 c = c.read_behind-3.auto.tokens ∙ c.read_behind-2.auto.tokens ∙ c.read_behind.auto.tokens
 
-pub shape_of-brackets-in-Panic-read_behind-2 : goal.shape_of-brackets-in-Panic-read_behind-2
-shape_of-brackets-in-Panic-read_behind-2 c = c.read_behind-in-Rules-read_behind.auto.brackets ∙ c.read_behind-in-Rules.auto.brackets ∙ c.read_behind.auto.brackets
+pub shape_of-brackets-in-Err-read_behind-2 : goal.shape_of-brackets-in-Err-read_behind-2
+shape_of-brackets-in-Err-read_behind-2 c = c.read_behind-3.auto.brackets ∙ c.read_behind-2.auto.brackets ∙ c.read_behind.auto.brackets
 
-pub shape_of-texts-in-Panic-read_behind-2 : goal.shape_of-texts-in-Panic-read_behind-2
-shape_of-texts-in-Panic-read_behind-2 c = c.forget-in-Panic-read_behind-2.auto.texts ∙ c.read_behind-in-Rules-read_behind.auto.texts ∙ c.read_behind-in-Rules.auto.texts ∙ c.read_behind.auto.texts
+pub shape_of-texts-in-Err-read_behind-2 : goal.shape_of-texts-in-Err-read_behind-2
+shape_of-texts-in-Err-read_behind-2 c = c.forget-in-Err-read_behind-2.auto.texts ∙ c.read_behind-3.auto.texts ∙ c.read_behind-2.auto.texts ∙ c.read_behind.auto.texts
 
-pub returns-in-Panic-read_behind-2 : goal.returns-in-Panic-read_behind-2
-returns-in-Panic-read_behind-2 c = let t : goal.returns-in-Panic-read_behind-2-raw c = laws.author-panics c.requires c.read_behind.ensures.value c.read_behind.ensures.rules_after c.read_behind.ensures.tokens_unchanged c.read_behind.ensures.brackets_unchanged c.read_behind.ensures.texts_after c.read_behind.ensures.rules_bounds c.in-Rules.is c.read_behind-in-Rules.ensures.value c.read_behind-in-Rules.ensures.rules_after c.read_behind-in-Rules.ensures.tokens_unchanged c.read_behind-in-Rules.ensures.brackets_unchanged c.read_behind-in-Rules.ensures.texts_after c.read_behind-in-Rules.ensures.rules_bounds c.in-Rules-read_behind.is c.read_behind-in-Rules-read_behind.ensures.value c.read_behind-in-Rules-read_behind.ensures.rules_after c.read_behind-in-Rules-read_behind.ensures.tokens_unchanged c.read_behind-in-Rules-read_behind.ensures.brackets_unchanged c.read_behind-in-Rules-read_behind.ensures.texts_after c.read_behind-in-Rules-read_behind.ensures.rules_bounds c.in-Panic-read_behind-2.is c.forget-in-Panic-read_behind-2.ensures.rules_after c.forget-in-Panic-read_behind-2.ensures.texts_after in record { value = t.0; rules_after = t.1.0; tokens_unchanged = t.1.1.0; brackets_unchanged = t.1.1.1.0; texts_after = t.1.1.1.1 }
+pub returns-in-Err-read_behind-2 : goal.returns-in-Err-read_behind-2
+returns-in-Err-read_behind-2 c = let t = laws.author-panics c.requires c.read_behind.ensures.value c.read_behind.ensures.rules_after c.read_behind.ensures.tokens_unchanged c.read_behind.ensures.brackets_unchanged c.read_behind.ensures.texts_after c.read_behind.ensures.rules_bounds c.in-Ok.is c.read_behind-2.ensures.value c.read_behind-2.ensures.rules_after c.read_behind-2.ensures.tokens_unchanged c.read_behind-2.ensures.brackets_unchanged c.read_behind-2.ensures.texts_after c.read_behind-2.ensures.rules_bounds c.in-Ok-read_behind.is c.read_behind-3.ensures.value c.read_behind-3.ensures.rules_after c.read_behind-3.ensures.tokens_unchanged c.read_behind-3.ensures.brackets_unchanged c.read_behind-3.ensures.texts_after c.read_behind-3.ensures.rules_bounds c.in-Err-read_behind-2.is c.forget-in-Err-read_behind-2.ensures.rules_after c.forget-in-Err-read_behind-2.ensures.texts_after in record { value = ap Err c.in_sheet-in-Err-read_behind-2.ensures ∙ t.0; rules_after = t.1.0; tokens_unchanged = t.1.1.0; brackets_unchanged = t.1.1.1.0; texts_after = t.1.1.1.1 }
 
-pub overflow_add-end : goal.overflow_add-end
-overflow_add-end c = record { fits = laws.texts-fit c.requires c.read_behind.ensures.value c.read_behind.ensures.rules_after c.read_behind.ensures.tokens_unchanged c.read_behind.ensures.brackets_unchanged c.read_behind.ensures.texts_after c.read_behind.ensures.rules_bounds c.in-Rules.is c.read_behind-in-Rules.ensures.value c.read_behind-in-Rules.ensures.rules_after c.read_behind-in-Rules.ensures.tokens_unchanged c.read_behind-in-Rules.ensures.brackets_unchanged c.read_behind-in-Rules.ensures.texts_after c.read_behind-in-Rules.ensures.rules_bounds c.in-Rules-read_behind.is c.read_behind-in-Rules-read_behind.ensures.value c.read_behind-in-Rules-read_behind.ensures.rules_after c.read_behind-in-Rules-read_behind.ensures.tokens_unchanged c.read_behind-in-Rules-read_behind.ensures.brackets_unchanged c.read_behind-in-Rules-read_behind.ensures.texts_after c.read_behind-in-Rules-read_behind.ensures.rules_bounds c.in-Rules-read_behind-2.is }
+pub overflow_add-result : goal.overflow_add-result
+overflow_add-result c = record { fits = laws.texts-fit c.requires c.read_behind.ensures.value c.read_behind.ensures.rules_after c.read_behind.ensures.tokens_unchanged c.read_behind.ensures.brackets_unchanged c.read_behind.ensures.texts_after c.read_behind.ensures.rules_bounds c.in-Ok.is c.read_behind-2.ensures.value c.read_behind-2.ensures.rules_after c.read_behind-2.ensures.tokens_unchanged c.read_behind-2.ensures.brackets_unchanged c.read_behind-2.ensures.texts_after c.read_behind-2.ensures.rules_bounds c.in-Ok-read_behind.is c.read_behind-3.ensures.value c.read_behind-3.ensures.rules_after c.read_behind-3.ensures.tokens_unchanged c.read_behind-3.ensures.brackets_unchanged c.read_behind-3.ensures.texts_after c.read_behind-3.ensures.rules_bounds c.in-Ok-read_behind-2.is }
 
-pub shape_of-rules-in-Rules-read_behind-2 : goal.shape_of-rules-in-Rules-read_behind-2
-shape_of-rules-in-Rules-read_behind-2 c = c.read_behind-in-Rules-read_behind.auto.rules ∙ c.read_behind-in-Rules.auto.rules ∙ c.read_behind.auto.rules
+pub shape_of-rules : goal.shape_of-rules
+shape_of-rules c = c.read_behind-3.auto.rules ∙ c.read_behind-2.auto.rules ∙ c.read_behind.auto.rules
 
-pub shape_of-tokens-in-Rules-read_behind-2 : goal.shape_of-tokens-in-Rules-read_behind-2
-shape_of-tokens-in-Rules-read_behind-2 c = c.read_behind-in-Rules-read_behind.auto.tokens ∙ c.read_behind-in-Rules.auto.tokens ∙ c.read_behind.auto.tokens
+pub shape_of-tokens : goal.shape_of-tokens
+shape_of-tokens c = c.read_behind-3.auto.tokens ∙ c.read_behind-2.auto.tokens ∙ c.read_behind.auto.tokens
 
-pub shape_of-brackets-in-Rules-read_behind-2 : goal.shape_of-brackets-in-Rules-read_behind-2
-shape_of-brackets-in-Rules-read_behind-2 c = c.read_behind-in-Rules-read_behind.auto.brackets ∙ c.read_behind-in-Rules.auto.brackets ∙ c.read_behind.auto.brackets
+pub shape_of-brackets : goal.shape_of-brackets
+shape_of-brackets c = c.read_behind-3.auto.brackets ∙ c.read_behind-2.auto.brackets ∙ c.read_behind.auto.brackets
 
-pub shape_of-texts-in-Rules-read_behind-2 : goal.shape_of-texts-in-Rules-read_behind-2
-shape_of-texts-in-Rules-read_behind-2 c = c.read_behind-in-Rules-read_behind.auto.texts ∙ c.read_behind-in-Rules.auto.texts ∙ c.read_behind.auto.texts
+pub shape_of-texts : goal.shape_of-texts
+shape_of-texts c = c.read_behind-3.auto.texts ∙ c.read_behind-2.auto.texts ∙ c.read_behind.auto.texts
 
-pub returns-in-Rules-read_behind-2 : goal.returns-in-Rules-read_behind-2
-returns-in-Rules-read_behind-2 c = let t : goal.returns-in-Rules-read_behind-2-raw c = laws.all_read c.requires c.read_behind.ensures.value c.read_behind.ensures.rules_after c.read_behind.ensures.tokens_unchanged c.read_behind.ensures.brackets_unchanged c.read_behind.ensures.texts_after c.read_behind.ensures.rules_bounds c.in-Rules.is c.read_behind-in-Rules.ensures.value c.read_behind-in-Rules.ensures.rules_after c.read_behind-in-Rules.ensures.tokens_unchanged c.read_behind-in-Rules.ensures.brackets_unchanged c.read_behind-in-Rules.ensures.texts_after c.read_behind-in-Rules.ensures.rules_bounds c.in-Rules-read_behind.is c.read_behind-in-Rules-read_behind.ensures.value c.read_behind-in-Rules-read_behind.ensures.rules_after c.read_behind-in-Rules-read_behind.ensures.tokens_unchanged c.read_behind-in-Rules-read_behind.ensures.brackets_unchanged c.read_behind-in-Rules-read_behind.ensures.texts_after c.read_behind-in-Rules-read_behind.ensures.rules_bounds c.in-Rules-read_behind-2.is in record { value = t.0; rules_after = t.1.0; tokens_unchanged = t.1.1.0; brackets_unchanged = t.1.1.1.0; texts_after = t.1.1.1.1 }
+pub returns : goal.returns
+returns c = let t : goal.returns-raw c = laws.all_read c.requires c.read_behind.ensures.value c.read_behind.ensures.rules_after c.read_behind.ensures.tokens_unchanged c.read_behind.ensures.brackets_unchanged c.read_behind.ensures.texts_after c.read_behind.ensures.rules_bounds c.in-Ok.is c.read_behind-2.ensures.value c.read_behind-2.ensures.rules_after c.read_behind-2.ensures.tokens_unchanged c.read_behind-2.ensures.brackets_unchanged c.read_behind-2.ensures.texts_after c.read_behind-2.ensures.rules_bounds c.in-Ok-read_behind.is c.read_behind-3.ensures.value c.read_behind-3.ensures.rules_after c.read_behind-3.ensures.tokens_unchanged c.read_behind-3.ensures.brackets_unchanged c.read_behind-3.ensures.texts_after c.read_behind-3.ensures.rules_bounds c.in-Ok-read_behind-2.is in record { value = t.0; rules_after = t.1.0; tokens_unchanged = t.1.1.0; brackets_unchanged = t.1.1.1.0; texts_after = t.1.1.1.1 }

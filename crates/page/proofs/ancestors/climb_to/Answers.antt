@@ -1,11 +1,7 @@
 -- The climb from here arrives where it would from the start, and the depth that is left is that of the row.
-use mathlib.Core.Path.{refl}
 use Rattle.page.proofs.Ancestry as laws
 use borrow.Author.Rules.{rules}
 use Rattle.page.proofs.ancestors.climb_to.Goals as goal
-
-pub loop-row-init : goal.loop-row-init
-loop-row-init c = record { same = refl; deep = c.requires }
 
 pub returns-then-parent-row : goal.returns-then-parent-row
 returns-then-parent-row c = laws.climb-stop _ _ _ _ _ c.loop-row.invariant c.loop-row-test.true _ c.parent_of-parent.ensures.value c.if-parent-row.true

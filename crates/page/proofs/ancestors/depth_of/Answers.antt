@@ -1,11 +1,7 @@
 -- The steps so far and the depth of the row above are the depth of the row.
-use native.Mathlib.Omega.{arith}
 use Rattle.page.proofs.Ancestry as laws
 use borrow.Author.Rules.{rules}
 use Rattle.page.proofs.ancestors.depth_of.Goals as goal
-
-pub loop-above-init : goal.loop-above-init
-loop-above-init c = omega arith
 
 pub returns-then-parent-above : goal.returns-then-parent-above
 returns-then-parent-above c = laws.depth-done _ _ _ _ _ c.loop-above.invariant c.parent_of-parent.ensures.value c.if-parent-above.true

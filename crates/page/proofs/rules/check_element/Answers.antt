@@ -1,20 +1,26 @@
 -- Each rule by its own test; where the texts follow on, the totals behind the element are those of the definition.
+use mathlib.Core.Path.{◌∙◌}
 use Rattle.page.proofs.RowLaws as laws
+use Rattle.page.proofs.rules.check_element.Goals.{then-name_start-totals-via-then-name_start-totals, then-name_start-totals-via-else-name_start-totals+then-first_attribute-totals}
 use Rattle.page.proofs.rules.check_element.Goals as goal
 
-pub returns-then-name_start-start : goal.returns-then-name_start-start
-returns-then-name_start-start c = laws.element-start _ _ _ _ _ c.name_start.ensures.value c.if-name_start-start.true
+pub returns-then-name_start-totals : goal.returns-then-name_start-totals
+returns-then-name_start-totals c =
+    elim c.then-name_start-totals.branch [
+      | then-name_start-totals-via-then-name_start-totals w ↦ laws.element-start _ _ _ _ _ c.name_start.ensures.value w.if-name_start-totals.true
+      | then-name_start-totals-via-else-name_start-totals+then-first_attribute-totals w ↦ laws.element-first _ _ _ _ _ c.name_start.ensures.value _ w.first_attribute.ensures.value w.if-first_attribute-totals.true
+    ]
 
-pub returns-then-first_attribute-first : goal.returns-then-first_attribute-first
-returns-then-first_attribute-first c = laws.element-first _ _ _ _ _ c.name_start.ensures.value _ c.first_attribute.ensures.value c.if-first_attribute-first.true
+pub returns-then-first-attribute_rows : goal.returns-then-first-attribute_rows
+returns-then-first-attribute_rows c = laws.element-past _ _ _ _ _ c.name_start.ensures.value _ c.first_attribute.ensures.value _ _ c.attribute_count-count.ensures.value c.attribute_rows.ensures c.if-first-attribute_rows.true
 
-pub returns-then-first-count : goal.returns-then-first-count
-returns-then-first-count c = laws.element-past _ _ _ _ _ c.name_start.ensures.value _ c.first_attribute.ensures.value _ _ c.attribute_count-count.ensures.value c.attribute_rows.ensures c.if-first-count.true
+pub returns-in_err-start : goal.returns-in_err-start
+returns-in_err-start c =
+    c.from_residual.ensures
+    ∙ laws.element-breaks _ _ _ _ _ c.name_start.ensures.value _ c.first_attribute.ensures.value _ _ c.attribute_count-count.ensures.value c.attribute_rows.ensures
+    _ c.name_length.ensures.value _ c.follow_attributes.ensures c.in_err-start.was
 
-pub returns-in-End : goal.returns-in-End
-returns-in-End c = laws.element-ends _ _ _ _ _ c.name_start.ensures.value _ c.first_attribute.ensures.value _ _ c.attribute_count-count.ensures.value c.attribute_rows.ensures
-    _ c.name_length.ensures.value _ c.follow_attributes.ensures c.if-name_start-start.false c.if-first_attribute-first.false c.if-first-count.false _ c.in-End.is
-
-pub returns-in-Broken : goal.returns-in-Broken
-returns-in-Broken c = laws.element-breaks _ _ _ _ _ c.name_start.ensures.value _ c.first_attribute.ensures.value _ _ c.attribute_count-count.ensures.value c.attribute_rows.ensures
-    _ c.name_length.ensures.value _ c.follow_attributes.ensures c.in-Broken.is
+pub returns : goal.returns
+returns c =
+    laws.element-ends _ _ _ _ _ c.name_start.ensures.value _ c.first_attribute.ensures.value _ _ c.attribute_count-count.ensures.value c.attribute_rows.ensures
+    _ c.name_length.ensures.value _ c.follow_attributes.ensures c.if-name_start-totals.false c.if-first_attribute-totals.false c.if-first-attribute_rows.false _ c.in_ok-start.was

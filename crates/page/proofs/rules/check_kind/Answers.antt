@@ -1,15 +1,16 @@
 -- Each kind is asked what the rules ask of it; a number that is no kind is against them.
+use native.Mathlib.Omega.{arith}
 use Rattle.page.proofs.RowLaws as laws
 use Rattle.page.proofs.rules.check_kind.Goals as goal
 
-pub returns-then-ends_in_zeros : goal.returns-then-ends_in_zeros
-returns-then-ends_in_zeros c = laws.other-right _ _ _ _ _ c.kind_of-kind.ensures c.if-kind-eq-OTHER.true _ c.ends_in_zeros.ensures c.if-ends_in_zeros.true
+pub returns-in-1 : goal.returns-in-1
+returns-in-1 c = laws.element-decides _ _ _ _ _ c.kind_of.ensures (omega arith) c.in-1.is _ c.check_element.ensures
 
-pub returns-then-kind-eq-OTHER : goal.returns-then-kind-eq-OTHER
-returns-then-kind-eq-OTHER c = laws.other-wrong _ _ _ _ _ c.kind_of-kind.ensures c.if-kind-eq-OTHER.true _ c.ends_in_zeros.ensures c.if-ends_in_zeros.false
+pub returns-in-2 : goal.returns-in-2
+returns-in-2 c = laws.other-right _ _ _ _ _ c.kind_of.ensures c.in-2.is _ c.ends_in_zeros.ensures c.if-ends_in_zeros.true
 
-pub returns-then-kind-eq-ELEMENT : goal.returns-then-kind-eq-ELEMENT
-returns-then-kind-eq-ELEMENT c = laws.element-decides _ _ _ _ _ c.kind_of-kind.ensures c.if-kind-eq-OTHER.false c.if-kind-eq-ELEMENT.true _ c.check_element.ensures
+pub returns-in_default : goal.returns-in_default
+returns-in_default c = laws.other-wrong _ _ _ _ _ c.kind_of.ensures c.in-2.is _ c.ends_in_zeros.ensures c.if-ends_in_zeros.false
 
-pub returns : goal.returns
-returns c = laws.no_kind _ _ _ _ _ c.kind_of-kind.ensures c.if-kind-eq-OTHER.false c.if-kind-eq-ELEMENT.false
+pub returns-in_default-2 : goal.returns-in_default-2
+returns-in_default-2 c = laws.no_kind _ _ _ _ _ c.kind_of.ensures (omega arith) (omega arith)

@@ -1,16 +1,14 @@
 -- Each number by its own test.
+use Rattle.std.proofs.Common.{arith}
+use Rattle.std.proofs.lemmas.Grind.{common_steps}
+use Rattle.combinators.specs.Choice.{and, is}
 use Rattle.page.specs.Accepted.{is_document}
-use Rattle.combinators.proofs.Rules.{cases}
 use Rattle.page.proofs.rules.is_document.Goals as goal
 
-pub returns-then-kind_of-ne-DOCUMENT : goal.returns-then-kind_of-ne-DOCUMENT
-unfolding is_document
-returns-then-kind_of-ne-DOCUMENT c = search cases
+pub returns-then-parent_of-eq0 : goal.returns-then-parent_of-eq0
+unfolding is_document and is
+returns-then-parent_of-eq0 c = grind (arith, common_steps)
 
-pub returns-then-parent_of-ne0 : goal.returns-then-parent_of-ne0
-unfolding is_document
-returns-then-parent_of-ne0 c = search cases
-
-pub returns : goal.returns
-unfolding is_document
-returns c = search cases
+pub returns-else-parent_of-eq0 : goal.returns-else-parent_of-eq0
+unfolding is_document and is
+returns-else-parent_of-eq0 c = grind (arith, common_steps)

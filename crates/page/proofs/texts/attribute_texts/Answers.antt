@@ -1,16 +1,13 @@
--- The attributes that are left have the answer of all; the first that fails decides.
-use mathlib.Core.Path.{refl}
+-- The rows of the range are asked one by one.
+use Rattle.std.proofs.Common.{◌∙◌, refl, arith}
+use Rattle.std.proofs.lemmas.Iterator.{YieldsList-from_range}
+use Rattle.std.proofs.lemmas.Iterator.Search.{all_from_yields_List}
+use borrow.Author.Rules.{rules}
+use Rattle.page.specs.Accepted.{attribute_text_right}
 use Rattle.page.proofs.TextLaws as laws
 use Rattle.page.proofs.texts.attribute_texts.Goals as goal
 
-pub loop-left-init : goal.loop-left-init
-loop-left-init c = record { work = refl; sum = refl }
-
-pub loop-left-preserved : goal.loop-left-preserved
-loop-left-preserved c = laws.reading-on _ _ _ _ _ _ c.loop-left.invariant c.loop-left-test.true _ c.attribute_text.ensures c.if-attribute_text.true
-
-pub returns-else-attribute_text : goal.returns-else-attribute_text
-returns-else-attribute_text c = laws.reading-stop _ _ _ _ _ _ c.loop-left.invariant c.loop-left-test.true _ c.attribute_text.ensures c.if-attribute_text.false
-
 pub returns : goal.returns
-returns c = laws.reading-done _ _ _ _ _ _ c.loop-left.invariant c.loop-left-test.false
+returns c =
+    all_from_yields_List (attribute_text_right c.args.attributes.now c.args.text.now) _ _ _ c.all.ensures.ran (YieldsList-from_range _ _ _ refl (omega arith)) (λ x b q k. search rules)
+    ∙ laws.all-texts _ _ _ _

@@ -1,17 +1,17 @@
--- The rows so far pass; the first that does not is the answer.
-use Rattle.combinators.proofs.Rules.{told}
-use Rattle.page.proofs.FirstFault.{seek-begin, seek-on}
-use Rattle.page.proofs.TextLaws as laws
+-- The first number of the range that fails is found.
+use Rattle.std.specs.Prelude.{not}
+use Rattle.std.proofs.Common.{◌∙◌, sym, refl, arith}
+use Rattle.std.proofs.lemmas.Iterator.{YieldsList-from_range}
+use Rattle.std.proofs.lemmas.Iterator.Adapters.{option_map_id}
+use Rattle.std.proofs.lemmas.Iterator.Search.{find_from_yields_List}
+use borrow.Author.Rules.{rules}
+use Rattle.page.specs.Accepted.{texts_right, first_bad_text}
+use Rattle.page.proofs.FirstFault.{fault-found}
 use Rattle.page.proofs.texts.first_bad_text.Goals as goal
 
-pub loop-row-init : goal.loop-row-init
-loop-row-init c = seek-begin _ _
-
-pub loop-row-preserved : goal.loop-row-preserved
-loop-row-preserved c = seek-on _ _ _ c.loop-row.invariant c.loop-row-test.true (told _ _ _ c.row_texts.ensures c.if-row_texts.true)
-
-pub returns-else-row_texts : goal.returns-else-row_texts
-returns-else-row_texts c = laws.texts-stop _ _ _ _ _ c.node_count-rows.ensures c.loop-row.invariant c.loop-row-test.true (told _ _ _ c.row_texts.ensures c.if-row_texts.false)
-
 pub returns : goal.returns
-returns c = laws.texts-done _ _ _ _ _ c.node_count-rows.ensures c.loop-row.invariant c.loop-row-test.false
+unfolding first_bad_text
+returns c =
+    sym (option_map_id _)
+    ∙ find_from_yields_List (λ r. not (texts_right c.args.nodes.now c.args.attributes.now c.args.text.now r)) _ _ _ c.find.ensures.ran (YieldsList-from_range _ _ _ refl (omega (arith, c.node_count.ensures))) (λ x b q k. search rules)
+    ∙ fault-found _ _ _

@@ -1,14 +1,15 @@
 -- A text has to start and to end within the byte text, and its bytes are asked.
-use native.Mathlib.Omega.{arith}
-use Rattle.page.proofs.TextLaws as laws
-use borrow.Author.Rules.{rules}
+use Rattle.std.proofs.Common.{arith}
+use Rattle.std.proofs.lemmas.Grind.{common_steps}
+use Rattle.combinators.specs.Choice.{and}
+use Rattle.combinators.specs.Part.{part}
+use Rattle.page.specs.Accepted.{text_right}
 use Rattle.page.proofs.texts.is_text.Goals as goal
 
-pub returns-then-start-text : goal.returns-then-start-text
-returns-then-start-text c = laws.text-past _ _ _ (omega arith)
-
 pub returns-then-n-text : goal.returns-then-n-text
-returns-then-n-text c = laws.text-past _ _ _ (omega arith)
+unfolding text_right and part
+returns-then-n-text c = grind (arith, common_steps)
 
-pub returns : goal.returns
-returns c = laws.text-inside _ _ _ (search rules) (search rules) _ c.part_of.ensures _ c.is_valid.ensures
+pub returns-else-n-text : goal.returns-else-n-text
+unfolding text_right and part
+returns-else-n-text c = grind (arith, common_steps)

@@ -1,10 +1,14 @@
 -- The name and then the attributes, each by its own test.
-use Rattle.page.proofs.TextLaws as laws
+use Rattle.std.proofs.Common.{arith}
+use Rattle.std.proofs.lemmas.Grind.{common_steps}
+use Rattle.combinators.specs.Choice.{and}
+use Rattle.page.specs.Accepted.{texts_right}
 use Rattle.page.proofs.texts.row_texts.Goals as goal
 
 pub returns-then-is_text : goal.returns-then-is_text
-returns-then-is_text c = laws.row-attributes-decide _ _ _ _ _ _ c.name_start.ensures.value c.name_length.ensures.value _ c.is_text.ensures c.if-is_text.true
-    _ _ c.first_attribute.ensures.value c.attribute_count.ensures.value _ c.attribute_texts.ensures
+unfolding texts_right and
+returns-then-is_text c = grind (arith, common_steps)
 
-pub returns : goal.returns
-returns c = laws.row-name-fails _ _ _ _ _ _ c.name_start.ensures.value c.name_length.ensures.value _ c.is_text.ensures c.if-is_text.false
+pub returns-else-is_text : goal.returns-else-is_text
+unfolding texts_right and
+returns-else-is_text c = grind (arith, common_steps)

@@ -5,7 +5,7 @@ use Rattle.path_styles.proofs.rules.merge_rule.Goals as goal
 
 pub returns-then-count-eq0 : goal.returns-then-count-eq0
 returns-then-count-eq0 c = let t : goal.returns-then-count-eq0-raw c = let a = c.args in
-    (laws.rule-unstyled _ a.origin (path_of a.nodes.now a.attributes.now a.text.now a.row) a.texts.now a.rows.now a.at a.styles.now a.first _ c.number_at-count.ensures c.if-count-eq0.true _, c.skip_rule.ensures a.texts.now) in record { out_after = t.0; rows_value = t.1 }
+    (laws.rule-unstyled _ a.origin (path_of a.page.nodes.now a.page.attributes.now a.page.text.now a.row) a.texts.now a.rows.now a.at a.styles.now a.first _ c.number_at-count.ensures c.if-count-eq0.true _, c.skip_rule.ensures a.texts.now) in record { out_after = t.0; rows_value = t.1 }
 
 pub merge_selectors-behind-requires : goal.merge_selectors-behind-requires
 merge_selectors-behind-requires c =
@@ -13,12 +13,12 @@ merge_selectors-behind-requires c =
     record {
       row_room = c.requires.row_room;
       rooted = c.requires.rooted;
-      right_tops = laws.lent-tops a.nodes.now a.attributes.now a.text.now a.row a.texts.now a.rows.now a.at _ c.forward.result c.number_at.ensures c.forward.ensures.rows_value _ c.requires.right_tops;
+      right_tops = laws.lent-tops a.page.nodes.now a.page.attributes.now a.page.text.now a.row a.texts.now a.rows.now a.at _ c.forward.result c.number_at.ensures c.forward.ensures.rows_value _ c.requires.right_tops;
     }
 
 pub returns : goal.returns
 returns c = let t : goal.returns-raw c = let a = c.args in (
-  laws.rule-merged _ a.origin (path_of a.nodes.now a.attributes.now a.text.now a.row) a.texts.now a.rows.now a.at a.styles.now a.first _ c.number_at-count.ensures c.forward-2.result
+  laws.rule-merged _ a.origin (path_of a.page.nodes.now a.page.attributes.now a.page.text.now a.row) a.texts.now a.rows.now a.at a.styles.now a.first _ c.number_at-count.ensures c.forward-2.result
       c.forward-2.ensures.rows_value _ c.forward.result c.number_at.ensures c.forward.ensures.rows_value _ _ c.merge_selectors-behind.ensures.out_after,
   laws.behind-merged a.texts.now a.rows.now a.at _ c.forward.result c.number_at.ensures c.forward.ensures.rows_value c.merge_selectors-behind.result c.merge_selectors-behind.ensures.rows_value _ c.forward-3.result
       c.number_at-declarations.ensures c.forward-3.ensures.rows_value,

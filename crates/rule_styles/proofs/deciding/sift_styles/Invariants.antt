@@ -1,12 +1,10 @@
 -- What is left to sift always comes to what all styles come to.
 use mathlib.Core.Path.{◌≡◌}
+use Prim.Native.Nat.{◌-◌}
 use Rattle.rule_styles.specs.Deciding.{nothing_sifted}
 use Rattle.rule_styles.specs.Sifting.{sifted_in}
 use Rattle.rule_styles.proofs.DecidingRows.{sifted_from}
 use Rattle.rule_styles.proofs.deciding.sift_styles.Given as goal
 
-abbrev pub invariant-loop-left : goal.invariant-loop-left
-invariant-loop-left l = sifted_from l.rows l.slot (sifted_in l.sifted) l.left l.place ≡ sifted_from l.rows l.slot nothing_sifted l.count l.at
-
-abbrev pub decreases-loop-left : goal.decreases-loop-left
-decreases-loop-left l = l.left
+abbrev pub invariant-loop : goal.invariant-loop
+invariant-loop l = sifted_from l.rows l.slot (sifted_in l.sifted) (l.count - l.counter) l.place ≡ sifted_from l.rows l.slot nothing_sifted l.count l.at

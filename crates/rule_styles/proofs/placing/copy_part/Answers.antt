@@ -3,14 +3,23 @@ use Rattle.rule_styles.proofs.PlacingCopies as laws
 use borrow.Author.Rules.{rules}
 use Rattle.rule_styles.proofs.placing.copy_part.Goals as goal
 
-pub returns-then-size-eq0 : goal.returns-then-size-eq0
-returns-then-size-eq0 c = let t : goal.returns-then-size-eq0-raw c = laws.part-empty c.args.texts.now c.args.from c.args.end c.args.start c.args.n c.args.fill _ c.part_of-size.ensures c.if-size-eq0.true in record { texts_after = t.0; value = t.1 }
+pub overflow_add-first : goal.overflow_add-first
+overflow_add-first c = search (rules, laws.part-inside c.args.texts.now c.args.from c.args.end c.args.start c.args.n c.args.fill _ c.part_of-size.ensures c.if-size-gt0.true c.requires.ordered)
 
-pub overflow_add-from : goal.overflow_add-from
-overflow_add-from c = search (rules, laws.part-inside c.args.texts.now c.args.from c.args.end c.args.start c.args.n c.args.fill _ c.part_of-size.ensures c.if-size-eq0.false c.requires.ordered)
+pub overflow_add-first-then-size-gt0 : goal.overflow_add-first-then-size-gt0
+overflow_add-first-then-size-gt0 c = search (rules, laws.part-inside c.args.texts.now c.args.from c.args.end c.args.start c.args.n c.args.fill _ c.part_of-size.ensures c.if-size-gt0.true c.requires.ordered)
 
-pub copy_up-requires : goal.copy_up-requires
-copy_up-requires c = laws.part_room c.args.texts.now c.args.from c.args.end c.args.start c.args.n c.args.fill _ c.part_of-size.ensures c.if-size-eq0.false c.requires
+pub copy_within-requires : goal.copy_within-requires
+copy_within-requires c =
+    record {
+      start_le_end = search rules;
+      in_bounds = laws.part-before c.args.texts.now c.args.from c.args.end c.args.start c.args.n c.args.fill _ c.part_of-size.ensures c.if-size-gt0.true c.requires;
+      dest_in_bounds = laws.part-fits c.args.texts.now c.args.from c.args.end c.args.start c.args.n c.args.fill _ c.part_of-size.ensures c.if-size-gt0.true c.requires;
+      not_exhausted = tt;
+    }
 
-pub returns : goal.returns
-returns c = let t : goal.returns-raw c = laws.part-copied c.args.texts.now c.args.from c.args.end c.args.start c.args.n c.args.fill _ c.part_of-size.ensures _ c.copy_up.ensures in record { texts_after = t.0; value = t.1 }
+pub returns-then-size-gt0 : goal.returns-then-size-gt0
+returns-then-size-gt0 c = let t : goal.returns-then-size-gt0-raw c = laws.part-copied c.args.texts.now c.args.from c.args.end c.args.start c.args.n c.args.fill _ c.part_of-size.ensures c.if-size-gt0.true c.requires _ c.copy_within.ensures.after in record { texts_after = t.0; value = t.1 }
+
+pub returns-else-size-gt0 : goal.returns-else-size-gt0
+returns-else-size-gt0 c = let t : goal.returns-else-size-gt0-raw c = laws.part-empty c.args.texts.now c.args.from c.args.end c.args.start c.args.n c.args.fill _ c.part_of-size.ensures c.if-size-gt0.false in record { texts_after = t.0; value = t.1 }

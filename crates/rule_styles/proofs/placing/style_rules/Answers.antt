@@ -1,22 +1,23 @@
 -- What is left to keep leaves what the whole leaves; what is kept of a rule takes no more numbers than the rule, so the room of the whole is that of each step.
 use Rattle.rule_styles.proofs.PlacingRules as laws
+use native.Mathlib.Omega.{arith}
 use Rattle.rule_styles.proofs.placing.style_rules.Goals as goal
 
-pub loop-left-init : goal.loop-left-init
-loop-left-init c = laws.styling-begin _ _ _ _ _ _ _ _ _ c.requires.rules_kept_room c.requires.contents_room
+pub loop-init : goal.loop-init
+loop-init c = laws.styling-begin _ _ _ _ _ _ _ _ _ c.requires.rules_kept_room c.requires.contents_room _ (omega arith)
 
 pub style_rule-placed-requires : goal.style_rule-placed-requires
 style_rule-placed-requires c =
-    let t = laws.styling-room _ _ _ _ _ _ _ _ _ c.requires.rules_kept_room c.requires.contents_room _ _ _ _ _ _ c.loop-left.invariant c.loop-left-test.true in record { rule_kept_room = t.0; contents_room = t.1 }
+    let t = laws.styling-room _ _ _ _ _ _ _ _ _ c.requires.rules_kept_room c.requires.contents_room _ _ _ _ _ _ c.loop.invariant (omega arith) in record { rule_kept_room = t.0; contents_room = t.1 }
 
-pub loop-left-preserved : goal.loop-left-preserved
-loop-left-preserved c = laws.styling-more _ _ _ _ _ _ _ _ _ c.requires.rules_kept_room c.requires.contents_room _ _ _ _ _ _ c.loop-left.invariant c.loop-left-test.true _ _ _ c.style_rule-placed.ensures.tokens_after c.style_rule-placed.ensures.texts_after c.style_rule-placed.ensures.value _ c.skip_rule-rows.ensures
+pub loop-preserved : goal.loop-preserved
+loop-preserved c = laws.styling-more _ _ _ _ _ _ _ _ _ c.requires.rules_kept_room c.requires.contents_room _ _ _ _ _ _ _ c.loop.invariant (omega arith) _ _ _ c.style_rule-placed.ensures.tokens_after c.style_rule-placed.ensures.texts_after c.style_rule-placed.ensures.value _ c.skip_rule-rows.ensures
 
 pub shape_of-tokens : goal.shape_of-tokens
-shape_of-tokens c = c.loop-left.invariant.row-length
+shape_of-tokens c = c.loop.invariant.row-length
 
 pub shape_of-texts : goal.shape_of-texts
-shape_of-texts c = c.loop-left.invariant.text-length
+shape_of-texts c = c.loop.invariant.text-length
 
 pub returns : goal.returns
-returns c = let t : goal.returns-raw c = laws.styling-done _ _ _ _ _ _ _ _ _ c.requires.rules_kept_room c.requires.contents_room _ _ _ _ _ _ c.loop-left.invariant c.loop-left-test.false in record { tokens_after = t.0; texts_after = t.1.0; rules_value = t.1.1.0; place_value = t.1.1.1.0; fill_value = t.1.1.1.1 }
+returns c = let t : goal.returns-raw c = laws.styling-done _ _ _ _ _ _ _ _ _ c.requires.rules_kept_room c.requires.contents_room _ _ _ _ _ _ c.loop.invariant (omega arith) in record { tokens_after = t.0; texts_after = t.1.0; rules_value = t.1.1.0; place_value = t.1.1.1.0; fill_value = t.1.1.1.1 }

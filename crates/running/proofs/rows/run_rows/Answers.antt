@@ -1,6 +1,5 @@
 -- The work left from a row on is the whole work.
 use Rattle.running.proofs.RowSteps as laws
-use native.Mathlib.Omega.{arith}
 use Rattle.running.proofs.rows.run_rows.Goals as goal
 
 pub loop-row-init : goal.loop-row-init
@@ -8,12 +7,6 @@ loop-row-init c = let a = c.args in laws.begins a.compiled.now a.settings (recor
 
 pub run_row-fill-requires : goal.run_row-fill-requires
 run_row-fill-requires c = laws.row-ready c.loop-row.invariant c.requires _ c.node_count-count.ensures c.loop-row-test.true
-
-pub overflow_add-row : goal.overflow_add-row
-overflow_add-row c = omega (arith, c.loop-row-test.true)
-
-pub loop-row-smaller : goal.loop-row-smaller
-loop-row-smaller c = omega (arith, c.loop-row-test.true)
 
 pub loop-row-preserved : goal.loop-row-preserved
 loop-row-preserved c = laws.again c.loop-row.invariant _ c.node_count-count.ensures c.loop-row-test.true _ _ _ _ _ _ _ c.run_row-fill.ensures.texts_after c.run_row-fill.ensures.upper_bound c.run_row-fill.ensures.upper_bound_2 c.run_row-fill.auto.rows c.run_row-fill.auto.state c.run_row-fill.auto.rules c.run_row-fill.auto.tokens c.run_row-fill.auto.brackets c.run_row-fill.auto.texts

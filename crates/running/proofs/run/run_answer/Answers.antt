@@ -3,4 +3,4 @@ use mathlib.Core.Path.{ap}
 use Rattle.running.proofs.run.run_answer.Goals as goal
 
 pub returns : goal.returns
-returns c = ap (λ x. record { refusal = x; texts = c.args.texts }) c.no_refusal-refusal.ensures
+returns c = ap (λ x. record { refusal = x; texts = c.args.texts }) c.no_refusal.ensures

@@ -1,12 +1,10 @@
 -- The name is read to the store, compared and wiped, so that the store is as it was.
+use mathlib.Core.Path.{◌∙◌}
 use Rattle.selectors.proofs.PseudoLaws as laws
 use Rattle.selectors.proofs.components.nth_child_name.Goals as goal
 
-pub returns-then-known : goal.returns-then-known
-returns-then-known c = let t : goal.returns-then-known-raw c = laws.child-known _ _ _ _ _ (c.parse_ident.ensures.value, c.parse_ident.ensures.store_after) c.requires _ _ c.in-Text.is _ c.part_of.ensures _ c.same_text-known.ensures _ c.wipe_bytes.ensures c.if-known.true in record { value = t.0; store_unchanged = t.1 }
+pub returns-in_err-name : goal.returns-in_err-name
+returns-in_err-name c = let t = laws.child-unnamed _ _ _ _ _ (c.parse_ident.ensures.value, c.parse_ident.ensures.store_after) c.in_err-name.was in record { value = c.from_residual.ensures ∙ t.0; store_unchanged = t.1 }
 
-pub returns-in-Text : goal.returns-in-Text
-returns-in-Text c = let t : goal.returns-in-Text-raw c = laws.child-other _ _ _ _ _ (c.parse_ident.ensures.value, c.parse_ident.ensures.store_after) c.requires _ _ c.in-Text.is _ c.part_of.ensures _ c.same_text-known.ensures _ c.wipe_bytes.ensures c.if-known.false in record { value = t.0; store_unchanged = t.1 }
-
-pub returns-in-NoName : goal.returns-in-NoName
-returns-in-NoName c = let t : goal.returns-in-NoName-raw c = laws.child-unnamed _ _ _ _ _ (c.parse_ident.ensures.value, c.parse_ident.ensures.store_after) c.in-NoName.is in record { value = t.0; store_unchanged = t.1 }
+pub returns : goal.returns
+returns c = let t = laws.child-named _ _ _ _ _ (c.parse_ident.ensures.value, c.parse_ident.ensures.store_after) c.requires _ _ c.in_ok-name.was _ c.part_of.ensures _ c.same_text-known.ensures _ c.wipe_bytes.ensures in record { value = c.then_some.ensures ∙ t.0; store_unchanged = t.1 }

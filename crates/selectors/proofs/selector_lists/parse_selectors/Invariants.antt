@@ -4,8 +4,8 @@ use lib.ListN.{length}
 use Rattle.selectors.proofs.SelectorLists as laws
 use Rattle.selectors.proofs.selector_lists.parse_selectors.Given as goal
 
-abbrev pub invariant-loop-p : goal.invariant-loop-p
-invariant-loop-p l = laws.Reading-on l.s l.initial.rules l.place l.initial.store l.fill l.rules l.store l.taken l.count l.numbers l.text l.next
+abbrev pub invariant-loop-selector : goal.invariant-loop-selector
+invariant-loop-selector l = laws.Reading-on l.s l.initial.rules l.place l.initial.store l.fill l.rules l.store l.taken l.count l.numbers l.text l.next
 
-abbrev pub decreases-loop-p : goal.decreases-loop-p
-decreases-loop-p l = length l.s - l.next
+abbrev pub decreases-loop-selector : goal.decreases-loop-selector
+decreases-loop-selector l = length l.s - l.next

@@ -9,5 +9,5 @@ returns-then-kind-eq-NTH c = laws.text-none _ _ _ c.if-kind-eq-NTH.true
 pub overflow_add-result : goal.overflow_add-result
 overflow_add-result c = omega (arith, laws.text-fits _ _ _ _ c.if-kind-eq-NTH.false c.requires)
 
-pub returns : goal.returns
-returns c = laws.text-both _ _ _ c.if-kind-eq-NTH.false
+pub returns-else-kind-eq-NTH : goal.returns-else-kind-eq-NTH
+returns-else-kind-eq-NTH c = laws.text-both _ _ _ c.if-kind-eq-NTH.false

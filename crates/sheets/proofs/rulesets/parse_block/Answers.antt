@@ -4,28 +4,28 @@ use Rattle.sheets.proofs.BlockLaws as laws
 use Rattle.sheets.proofs.rulesets.parse_block.Goals as goal
 
 pub skip_from-d-requires : goal.skip_from-d-requires
-skip_from-d-requires c = omega (arith, laws.brace-there c.args.s.now c.args.n c.args.at c.args.rules.now c.args.place c.args.tokens.now c.args.brackets.now c.args.store.now c.args.fill c.requires c.skip_from-o.ensures.value c.byte_is.ensures c.if-byte_is.true)
+skip_from-d-requires c = omega (arith, laws.brace-there c.args.s.now c.args.n c.args.at c.args.rules.now c.args.place c.args.tokens.now c.args.brackets.now c.args.store.now c.args.fill c.requires c.skip_from-o.ensures.value c.byte_is.ensures c.if-not-byte_is.false)
 
 pub overflow_mul-numbers : goal.overflow_mul-numbers
-overflow_mul-numbers c = omega (arith, laws.numbers_fit c.args.s.now c.args.n c.args.at c.args.rules.now c.args.place c.args.tokens.now c.args.brackets.now c.args.store.now c.args.fill c.requires c.skip_from-o.ensures.value c.byte_is.ensures c.if-byte_is.true c.skip_from-d.ensures.value c.skip_from-d.ensures.upper_bound c.parse_rules-read.ensures)
+overflow_mul-numbers c = omega (arith, laws.numbers_fit c.args.s.now c.args.n c.args.at c.args.rules.now c.args.place c.args.tokens.now c.args.brackets.now c.args.store.now c.args.fill c.requires c.skip_from-o.ensures.value c.byte_is.ensures c.if-not-byte_is.false c.skip_from-d.ensures.value c.skip_from-d.ensures.upper_bound c.parse_rules-read.ensures)
 
 pub overflow_add-d : goal.overflow_add-d
-overflow_add-d c = omega (arith, laws.taken-within c.args.s.now c.args.n c.args.at c.args.rules.now c.args.place c.args.tokens.now c.args.brackets.now c.args.store.now c.args.fill c.requires c.skip_from-o.ensures.value c.byte_is.ensures c.if-byte_is.true c.skip_from-d.ensures.value c.skip_from-d.ensures.upper_bound c.parse_rules-read.ensures)
+overflow_add-d c = omega (arith, laws.taken-within c.args.s.now c.args.n c.args.at c.args.rules.now c.args.place c.args.tokens.now c.args.brackets.now c.args.store.now c.args.fill c.requires c.skip_from-o.ensures.value c.byte_is.ensures c.if-not-byte_is.false c.skip_from-d.ensures.value c.skip_from-d.ensures.upper_bound c.parse_rules-read.ensures)
 
 pub before_end-f-requires : goal.before_end-f-requires
-before_end-f-requires c = laws.taken-within c.args.s.now c.args.n c.args.at c.args.rules.now c.args.place c.args.tokens.now c.args.brackets.now c.args.store.now c.args.fill c.requires c.skip_from-o.ensures.value c.byte_is.ensures c.if-byte_is.true c.skip_from-d.ensures.value c.skip_from-d.ensures.upper_bound c.parse_rules-read.ensures
+before_end-f-requires c = laws.taken-within c.args.s.now c.args.n c.args.at c.args.rules.now c.args.place c.args.tokens.now c.args.brackets.now c.args.store.now c.args.fill c.requires c.skip_from-o.ensures.value c.byte_is.ensures c.if-not-byte_is.false c.skip_from-d.ensures.value c.skip_from-d.ensures.upper_bound c.parse_rules-read.ensures
 
 pub overflow_add-f : goal.overflow_add-f
-overflow_add-f c = omega (arith, laws.end-there c.args.s.now c.args.n c.args.at c.args.rules.now c.args.place c.args.tokens.now c.args.brackets.now c.args.store.now c.args.fill c.requires c.skip_from-o.ensures.value c.byte_is.ensures c.if-byte_is.true c.skip_from-d.ensures.value c.skip_from-d.ensures.upper_bound c.parse_rules-read.ensures c.before_end-f.ensures.value c.byte_is-then-byte_is.ensures c.if-byte_is-2.true)
+overflow_add-f c = omega (arith, laws.end-there c.args.s.now c.args.n c.args.at c.args.rules.now c.args.place c.args.tokens.now c.args.brackets.now c.args.store.now c.args.fill c.requires c.skip_from-o.ensures.value c.byte_is.ensures c.if-not-byte_is.false c.skip_from-d.ensures.value c.skip_from-d.ensures.upper_bound c.parse_rules-read.ensures c.before_end-f.ensures.value c.byte_is-2.ensures c.if-byte_is.true)
 
 pub skip_from-requires : goal.skip_from-requires
-skip_from-requires c = omega (arith, laws.end-there c.args.s.now c.args.n c.args.at c.args.rules.now c.args.place c.args.tokens.now c.args.brackets.now c.args.store.now c.args.fill c.requires c.skip_from-o.ensures.value c.byte_is.ensures c.if-byte_is.true c.skip_from-d.ensures.value c.skip_from-d.ensures.upper_bound c.parse_rules-read.ensures c.before_end-f.ensures.value c.byte_is-then-byte_is.ensures c.if-byte_is-2.true)
-
-pub returns-then-byte_is-2 : goal.returns-then-byte_is-2
-returns-then-byte_is-2 c = let t : goal.returns-then-byte_is-2-raw c = laws.block_read c.args.s.now c.args.n c.args.at c.args.rules.now c.args.place c.args.tokens.now c.args.brackets.now c.args.store.now c.args.fill c.requires c.skip_from-o.ensures.value c.byte_is.ensures c.if-byte_is.true c.skip_from-d.ensures.value c.skip_from-d.ensures.upper_bound c.parse_rules-read.ensures c.before_end-f.ensures.value c.byte_is-then-byte_is.ensures c.if-byte_is-2.true c.skip_from.ensures.value in record { value = t.0; rules_after = t.1.0; tokens_unchanged = t.1.1.0; brackets_unchanged = t.1.1.1.0; store_after = t.1.1.1.1 }
+skip_from-requires c = omega (arith, laws.end-there c.args.s.now c.args.n c.args.at c.args.rules.now c.args.place c.args.tokens.now c.args.brackets.now c.args.store.now c.args.fill c.requires c.skip_from-o.ensures.value c.byte_is.ensures c.if-not-byte_is.false c.skip_from-d.ensures.value c.skip_from-d.ensures.upper_bound c.parse_rules-read.ensures c.before_end-f.ensures.value c.byte_is-2.ensures c.if-byte_is.true)
 
 pub returns-then-byte_is : goal.returns-then-byte_is
-returns-then-byte_is c = let t : goal.returns-then-byte_is-raw c = laws.end-missing c.args.s.now c.args.n c.args.at c.args.rules.now c.args.place c.args.tokens.now c.args.brackets.now c.args.store.now c.args.fill c.requires c.skip_from-o.ensures.value c.byte_is.ensures c.if-byte_is.true c.skip_from-d.ensures.value c.skip_from-d.ensures.upper_bound c.parse_rules-read.ensures c.before_end-f.ensures.value c.byte_is-then-byte_is.ensures c.if-byte_is-2.false c.take_back.ensures.rules_after c.take_back.ensures.store_after in record { value = t.0; rules_after = t.1.0; tokens_unchanged = t.1.1.0; brackets_unchanged = t.1.1.1.0; store_after = t.1.1.1.1 }
+returns-then-byte_is c = let t : goal.returns-then-byte_is-raw c = laws.block_read c.args.s.now c.args.n c.args.at c.args.rules.now c.args.place c.args.tokens.now c.args.brackets.now c.args.store.now c.args.fill c.requires c.skip_from-o.ensures.value c.byte_is.ensures c.if-not-byte_is.false c.skip_from-d.ensures.value c.skip_from-d.ensures.upper_bound c.parse_rules-read.ensures c.before_end-f.ensures.value c.byte_is-2.ensures c.if-byte_is.true c.skip_from.ensures.value in record { value = t.0; rules_after = t.1.0; tokens_unchanged = t.1.1.0; brackets_unchanged = t.1.1.1.0; store_after = t.1.1.1.1 }
 
 pub returns : goal.returns
-returns c = let t : goal.returns-raw c = laws.brace-missing c.args.s.now c.args.n c.args.at c.args.rules.now c.args.place c.args.tokens.now c.args.brackets.now c.args.store.now c.args.fill c.requires c.skip_from-o.ensures.value c.byte_is.ensures c.if-byte_is.false in record { value = t.0; rules_after = t.1.0; tokens_unchanged = t.1.1.0; brackets_unchanged = t.1.1.1.0; store_after = t.1.1.1.1 }
+returns c = let t : goal.returns-raw c = laws.end-missing c.args.s.now c.args.n c.args.at c.args.rules.now c.args.place c.args.tokens.now c.args.brackets.now c.args.store.now c.args.fill c.requires c.skip_from-o.ensures.value c.byte_is.ensures c.if-not-byte_is.false c.skip_from-d.ensures.value c.skip_from-d.ensures.upper_bound c.parse_rules-read.ensures c.before_end-f.ensures.value c.byte_is-2.ensures c.if-byte_is.false c.take_back.ensures.rules_after c.take_back.ensures.store_after in record { value = t.0; rules_after = t.1.0; tokens_unchanged = t.1.1.0; brackets_unchanged = t.1.1.1.0; store_after = t.1.1.1.1 }
+
+pub returns-then-not-byte_is : goal.returns-then-not-byte_is
+returns-then-not-byte_is c = let t : goal.returns-then-not-byte_is-raw c = laws.brace-missing c.args.s.now c.args.n c.args.at c.args.rules.now c.args.place c.args.tokens.now c.args.brackets.now c.args.store.now c.args.fill c.requires c.skip_from-o.ensures.value c.byte_is.ensures c.if-not-byte_is.true in record { value = t.0; rules_after = t.1.0; tokens_unchanged = t.1.1.0; brackets_unchanged = t.1.1.1.0; store_after = t.1.1.1.1 }

@@ -2,11 +2,11 @@
 use Rattle.stepping.proofs.FoundLaws as laws
 use Rattle.stepping.proofs.merging.merge_found.Goals as goal
 
-pub returns-in-Added : goal.returns-in-Added
-returns-in-Added c = laws.found-merged _ _ _ c.read_head.ensures.value _ _ _ _ c.in-Head.is _ c.read_weights.ensures _ _ c.in-Added.is _ _ c.merge_styles.ensures
+pub returns-in_default : goal.returns-in_default
+returns-in_default c = laws.head-none _ _ _ c.read_head.ensures.value _ c.in_default.is _
 
-pub returns-in-Fault-read_weights : goal.returns-in-Fault-read_weights
-returns-in-Fault-read_weights c = laws.components-none _ _ _ c.read_head.ensures.value _ _ _ _ c.in-Head.is _ c.read_weights.ensures _ c.in-Fault-read_weights.is _
+pub returns-in-Ok-read_weights : goal.returns-in-Ok-read_weights
+returns-in-Ok-read_weights c = laws.found-merged _ _ _ c.read_head.ensures.value _ c.in-Ok.is _ c.read_weights.ensures _ c.in-Ok-read_weights.is _ _ c.merge_styles.ensures
 
-pub returns-in-Fault : goal.returns-in-Fault
-returns-in-Fault c = laws.head-none _ _ _ c.read_head.ensures.value _ c.in-Fault.is _
+pub returns-in_default-read_weights : goal.returns-in_default-read_weights
+returns-in_default-read_weights c = laws.components-none _ _ _ c.read_head.ensures.value _ c.in-Ok.is _ c.read_weights.ensures _ c.in_default-read_weights.is _

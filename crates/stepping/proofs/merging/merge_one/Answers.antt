@@ -2,8 +2,8 @@
 use Rattle.stepping.proofs.StyleLaws as laws
 use Rattle.stepping.proofs.merging.merge_one.Goals as goal
 
-pub returns-in-Style : goal.returns-in-Style
-returns-in-Style c = laws.one-merged _ _ _ _ _ _ _ c.read_style.ensures.value _ _ c.in-Style.is _ c.merge_computed_style.ensures
+pub returns-in-Ok : goal.returns-in-Ok
+returns-in-Ok c = laws.one-merged _ _ _ _ _ _ _ c.read_style.ensures.value _ c.in-Ok.is _ c.merge_computed_style.ensures
 
-pub returns-in-Fault : goal.returns-in-Fault
-returns-in-Fault c = laws.one-unmerged _ _ _ _ _ _ _ c.read_style.ensures.value _ c.in-Fault.is
+pub returns-in_default : goal.returns-in_default
+returns-in_default c = laws.one-unmerged _ _ _ _ _ _ _ c.read_style.ensures.value _ c.in_default.is

@@ -1,12 +1,13 @@
 -- The kinds of one text, each by its own test: what they add does not depend on the text.
+use native.Mathlib.Omega.{arith}
 use Rattle.stepping.proofs.WeightLaws as laws
 use Rattle.stepping.proofs.specificity.name_weight.Goals as goal
 
-pub returns-then-kind-eq-ELEMENT : goal.returns-then-kind-eq-ELEMENT
-returns-then-kind-eq-ELEMENT c = laws.element-weight _ _ c.if-kind-eq-ELEMENT.true c.new.ensures
+pub returns-in-2 : goal.returns-in-2
+returns-in-2 c = let k = c.in-2.is in laws.element-weight _ _ k c.new.ensures
 
-pub returns-then-kind-eq-HASH : goal.returns-then-kind-eq-HASH
-returns-then-kind-eq-HASH c = laws.hash-weight _ _ c.if-kind-eq-HASH.true c.new-then-kind-eq-HASH.ensures
+pub returns-in-3 : goal.returns-in-3
+returns-in-3 c = let k = c.in-3.is in laws.hash-weight _ _ k c.new-in-3.ensures
 
-pub returns : goal.returns
-returns c = laws.class-weight _ _ c.if-kind-eq-ELEMENT.false c.if-kind-eq-HASH.false c.new-2.ensures
+pub returns-in_default : goal.returns-in_default
+returns-in_default c = laws.class-weight _ _ (λ z. omega (arith, z)) (λ z. omega (arith, z)) c.new-in_default.ensures

@@ -1,18 +1,11 @@
 -- Each kind of component adds what its kind says.
+use mathlib.Core.Path.{◌∙◌}
+use Rattle.compiled.proofs.Answers.{raised}
 use Rattle.stepping.proofs.WeightLaws as laws
 use Rattle.stepping.proofs.specificity.read_long_weight.Goals as goal
 
-pub returns-in-Mark : goal.returns-in-Mark
-returns-in-Mark c = laws.mark-weight _ _ _ c.read_component.ensures.value _ _ c.in-Mark.is
+pub returns-in_err-component : goal.returns-in_err-component
+returns-in_err-component c = raised _ _ c.from_residual.ensures.1 ∙ laws.fault-weight _ _ _ c.read_component.ensures.value _ c.in_err-component.was
 
-pub returns-in-Name : goal.returns-in-Name
-returns-in-Name c = laws.name-weight _ _ _ c.read_component.ensures.value _ _ _ _ c.in-Name.is _ c.name_weight.ensures
-
-pub returns-in-Numbers : goal.returns-in-Numbers
-returns-in-Numbers c = laws.numbers-weight _ _ _ c.read_component.ensures.value _ _ _ c.in-Numbers.is _ c.new.ensures
-
-pub returns-in-Names : goal.returns-in-Names
-returns-in-Names c = laws.names-weight _ _ _ c.read_component.ensures.value _ _ _ _ _ c.in-Names.is _ c.new-in-Names.ensures
-
-pub returns-in-Fault : goal.returns-in-Fault
-returns-in-Fault c = laws.fault-weight _ _ _ c.read_component.ensures.value _ c.in-Fault.is
+pub returns : goal.returns
+returns c = laws.long-weight _ _ _ c.read_component.ensures.value _ c.in_ok-component.was _ c.written_weight.ensures

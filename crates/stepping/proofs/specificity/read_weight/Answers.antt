@@ -2,11 +2,8 @@
 use Rattle.stepping.proofs.WeightLaws as laws
 use Rattle.stepping.proofs.specificity.read_weight.Goals as goal
 
-pub returns-then-size-eq-MARK_SIZE : goal.returns-then-size-eq-MARK_SIZE
-returns-then-size-eq-MARK_SIZE c = laws.short-alone _ _ _ c.short_size-size.ensures c.if-size-eq-MARK_SIZE.true
+pub returns-in-Some-eq1 : goal.returns-in-Some-eq1
+returns-in-Some-eq1 c = laws.short-alone _ _ _ c.in-Some-eq1.ensures c.in-Some-eq1.field-0-test
 
-pub returns-then-size-gt-MARK_SIZE : goal.returns-then-size-gt-MARK_SIZE
-returns-then-size-gt-MARK_SIZE c = laws.short-named _ _ _ c.short_size-size.ensures c.if-size-gt-MARK_SIZE.true _ c.wide.ensures _ c.name_weight.ensures
-
-pub returns : goal.returns
-returns c = c.read_long_weight.ensures
+pub returns-in-Some : goal.returns-in-Some
+returns-in-Some c = laws.short-named _ _ _ c.in-Some.ensures c.in-Some.size-test.1 _ c.from.ensures _ c.name_weight.ensures

@@ -5,5 +5,5 @@ use Rattle.styling.proofs.style.is_element.Goals as goal
 pub returns-then-row-node_count : goal.returns-then-row-node_count
 returns-then-row-node_count c = laws.element-there _ _ _ c.node_count.ensures c.if-row-node_count.true _ c.kind_of.ensures
 
-pub returns : goal.returns
-returns c = laws.element-beyond _ _ _ c.node_count.ensures c.if-row-node_count.false
+pub returns-else-row-node_count : goal.returns-else-row-node_count
+returns-else-row-node_count c = laws.element-beyond _ _ _ c.node_count.ensures c.if-row-node_count.false

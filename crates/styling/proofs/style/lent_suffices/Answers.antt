@@ -1,19 +1,12 @@
--- A row that is too short, brackets that are fewer than the bytes, or the test of the stores.
-use Prim.Native.Nat.{◌+◌, ◌*◌, ◌/◌}
-use native.Mathlib.Omega.{arith}
-use Rattle.page.specs.Rows.{attribute_width}
+-- A row that is too short, or the test of the stores, if the bytes can be counted.
 use Rattle.styling.proofs.StyleTurns as laws
-use borrow.Author.Rules.{rules}
 use Rattle.styling.proofs.style.lent_suffices.Goals as goal
 
-pub returns-then-out-lt-STYLE_ROW_WIDTH : goal.returns-then-out-lt-STYLE_ROW_WIDTH
-returns-then-out-lt-STYLE_ROW_WIDTH c = laws.short_row _ _ _ _ _ _ c.if-out-lt-STYLE_ROW_WIDTH.true
+pub returns-in_default : goal.returns-in_default
+returns-in_default c = let a = c.args in laws.uncounted _ a.out a.rules a.tokens a.brackets a.texts c.in_default.ensures c.ranges.brackets.fits
 
-pub returns-then-brackets-text : goal.returns-then-brackets-text
-returns-then-brackets-text c = let A = c.args in laws.short-brackets (A.sheets + 2 * (A.attributes / attribute_width) + A.text) A.out A.rules A.tokens A.brackets A.texts (omega (arith, c.if-brackets-text.true))
+pub returns-then-out-ge-STYLE_ROW_WIDTH : goal.returns-then-out-ge-STYLE_ROW_WIDTH
+returns-then-out-ge-STYLE_ROW_WIDTH c = let a = c.args in laws.by-count _ a.out a.rules a.tokens a.brackets a.texts c.if-out-ge-STYLE_ROW_WIDTH.true _ c.in-Some.ensures.1 _ c.stores_suffice.ensures
 
-pub returns-then-brackets-text-2 : goal.returns-then-brackets-text-2
-returns-then-brackets-text-2 c = let A = c.args in laws.short-brackets (A.sheets + 2 * (A.attributes / attribute_width) + A.text) A.out A.rules A.tokens A.brackets A.texts (omega (arith, c.if-brackets-text-2.true, c.if-brackets-text.false))
-
-pub returns : goal.returns
-returns c = laws.by-stores _ _ _ _ _ _ c.if-out-lt-STYLE_ROW_WIDTH.false _ c.stores_suffice.ensures
+pub returns-else-out-ge-STYLE_ROW_WIDTH : goal.returns-else-out-ge-STYLE_ROW_WIDTH
+returns-else-out-ge-STYLE_ROW_WIDTH c = laws.short_row _ _ _ _ _ _ c.if-out-ge-STYLE_ROW_WIDTH.false

@@ -1,20 +1,19 @@
 -- The stores are cleared behind their fronts, and the element is styled in these: what is left in them, with the zeros behind, is what is left in the whole.
 use native.Mathlib.Omega.{arith}
 use Rattle.styling.proofs.FrontLaws as laws
-use borrow.Author.Rules.{rules}
 use Rattle.styling.proofs.style.style_front.Goals as goal
 
 pub overflow_mul-bytes : goal.overflow_mul-bytes
-overflow_mul-bytes c = omega (arith, c.requires.front_lent.least.for-texts, c.well_formed.1.1.1.1.1.1.1.1.1.1.0.0)
+overflow_mul-bytes c = omega (arith, c.requires.front_lent.least.for-texts, c.well_formed.1.1.1.1.1.1.0.0)
 
 pub overflow_add-bytes : goal.overflow_add-bytes
-overflow_add-bytes c = omega (arith, c.requires.front_lent.least.for-texts, c.well_formed.1.1.1.1.1.1.1.1.1.1.0.0)
+overflow_add-bytes c = omega (arith, c.requires.front_lent.least.for-texts, c.well_formed.1.1.1.1.1.1.0.0)
 
 pub overflow_mul-numbers : goal.overflow_mul-numbers
-overflow_mul-numbers c = omega (arith, c.requires.front_lent.least.for-rules, c.well_formed.1.1.1.1.1.1.1.1.1.1.1.0.0)
+overflow_mul-numbers c = omega (arith, c.requires.front_lent.least.for-rules, c.well_formed.1.1.1.1.1.1.1.0.0)
 
 pub overflow_add-numbers : goal.overflow_add-numbers
-overflow_add-numbers c = omega (arith, c.requires.front_lent.least.for-rules, c.well_formed.1.1.1.1.1.1.1.1.1.1.1.0.0)
+overflow_add-numbers c = omega (arith, c.requires.front_lent.least.for-rules, c.well_formed.1.1.1.1.1.1.1.0.0)
 
 pub slice_bounds-style_texts-end : goal.slice_bounds-style_texts-end
 slice_bounds-style_texts-end c = laws.front-within _ c.args.texts.now c.clear_behind.new.texts c.requires.front_lent.least.for-texts c.clear_behind.auto.texts

@@ -1,7 +1,6 @@
 -- The styles are made, the numbers of selectors are found, the path is gone down, its contents are moved to the start; all else is cleared.
 use mathlib.Core.Path.{sym, ◌∙◌}
 use Rattle.styling.proofs.StyleTurns as laws
-use borrow.Author.Rules.{rules}
 use Rattle.styling.proofs.style.style_read.Goals as goal
 
 pub style_sheets-styled-requires : goal.style_sheets-styled-requires

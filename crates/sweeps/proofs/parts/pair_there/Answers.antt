@@ -1,8 +1,9 @@
--- Both bytes are there, so each is what the definition reads.
+-- Two bytes, the lower first.
+use native.Mathlib.Omega.{arith}
 use Rattle.segments.specs.Sweep.{pair_at}
-use borrow.Author.Rules.{rules}
+use Rattle.std.proofs.lemmas.Grind.{common_steps}
 use Rattle.sweeps.proofs.parts.pair_there.Goals as goal
 
-pub returns : goal.returns
+pub returns-clause-value : goal.returns-clause-value
 unfolding pair_at
-returns c = record { value = search rules; upper_bound = search rules }
+returns-clause-value c = grind (arith, common_steps)

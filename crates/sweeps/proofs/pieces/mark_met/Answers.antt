@@ -3,14 +3,14 @@ use Rattle.combinators.proofs.Rules.{cases}
 use Rattle.sweeps.specs.Met.{mark_met}
 use Rattle.sweeps.proofs.pieces.mark_met.Goals as goal
 
-pub returns-then-kind-eq-STAR : goal.returns-then-kind-eq-STAR
+pub returns-in-0 : goal.returns-in-0
 unfolding mark_met
-returns-then-kind-eq-STAR c = search cases
+returns-in-0 c = search cases
 
-pub returns-then-kind-eq-CHILD : goal.returns-then-kind-eq-CHILD
+pub returns-in-4 : goal.returns-in-4
 unfolding mark_met
-returns-then-kind-eq-CHILD c = search cases
+returns-in-4 c = search cases
 
-pub returns : goal.returns
+pub returns-in_default : goal.returns-in_default
 unfolding mark_met
-returns c = search cases
+returns-in_default c = search cases

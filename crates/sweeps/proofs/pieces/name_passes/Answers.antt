@@ -1,16 +1,16 @@
 -- Each of the four kinds asks of the element what `tested` asks: its name, a class, its id, or an attribute; none of them asks for its place.
+use native.Mathlib.Omega.{arith}
 use Rattle.sweeps.proofs.CodePieceLaws as laws
-use borrow.Author.Rules.{rules}
 use Rattle.sweeps.proofs.pieces.name_passes.Goals as goal
 
-pub returns-then-kind-eq-ELEMENT : goal.returns-then-kind-eq-ELEMENT
-returns-then-kind-eq-ELEMENT c = search (rules, laws.name-asked)
+pub returns-in-2 : goal.returns-in-2
+returns-in-2 c = let k = c.in-2.is in laws.name-asked _ _ _ k _ c.same_text.ensures
 
-pub returns-then-kind-eq-CLASS : goal.returns-then-kind-eq-CLASS
-returns-then-kind-eq-CLASS c = search (rules, laws.class-asked)
+pub returns-in-1 : goal.returns-in-1
+returns-in-1 c = let k = c.in-1.is in laws.class-asked _ _ _ k _ c.has_class.ensures
 
-pub returns-then-kind-eq-HASH : goal.returns-then-kind-eq-HASH
-returns-then-kind-eq-HASH c = search (rules, laws.id-asked)
+pub returns-in-3 : goal.returns-in-3
+returns-in-3 c = let k = c.in-3.is in laws.id-asked _ _ _ k _ c.has_id.ensures
 
-pub returns : goal.returns
-returns c = search (rules, laws.attribute-asked)
+pub returns-in_default : goal.returns-in_default
+returns-in_default c = laws.attribute-asked _ _ _ (λ z. omega (arith, z)) (λ z. omega (arith, z)) (λ z. omega (arith, z)) _ c.has_attribute.ensures

@@ -7,4 +7,4 @@ use Rattle.syntax.proofs.styles.style_at.Goals as goal
 pub returns : goal.returns
 unfolding flag_of is
 returns c = let x = c.args in
-    row_read x.rows.now x.at _ _ _ _ _ c.number_at-number.ensures c.number_at-second.ensures c.number_at-start.ensures c.number_at-slot.ensures c.number_at-important.ensures
+    row_read x.rows.now x.at _ _ _ _ _ c.number_at-3.ensures c.number_at-4.ensures c.number_at-5.ensures c.number_at.ensures c.number_at-2.ensures

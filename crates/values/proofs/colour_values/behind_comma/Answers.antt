@@ -1,15 +1,19 @@
--- No token behind the place is a comma; the search goes towards the start and ends at the last comma or at 0.
+-- Of the tokens so far the last comma is known.
+use mathlib.Core.Path.{refl, sym, ◌∙◌}
+use native.Mathlib.Omega.{arith}
+use Rattle.combinators.proofs.Rules.{pick_true, pick-false}
+use Rattle.values.specs.ColourRows.{last_part}
 use Rattle.values.proofs.ColourValues as laws
 use Rattle.values.proofs.colour_values.behind_comma.Goals as goal
+use Rattle.values.proofs.colour_values.behind_comma.Goals.{then-is_kind, else-is_kind}
 
 pub loop-i-init : goal.loop-i-init
-loop-i-init c = laws.seeking-begin _ _
-
-pub returns-then-is_kind : goal.returns-then-is_kind
-returns-then-is_kind c = let t : goal.returns-then-is_kind-raw c = laws.seeking-hit _ _ _ c.loop-i.invariant c.loop-i-test.true _ c.is_kind.ensures c.if-is_kind.true in record { value = t.0; upper_bound = t.1 }
+unfolding last_part
+loop-i-init c = (refl, omega arith)
 
 pub loop-i-preserved : goal.loop-i-preserved
-loop-i-preserved c = laws.seeking-more _ _ _ c.loop-i.invariant c.loop-i-test.true _ c.is_kind.ensures c.if-is_kind.false
-
-pub returns : goal.returns
-returns c = let t : goal.returns-raw c = laws.seeking-done _ _ _ c.loop-i.invariant c.loop-i-test.false in record { value = t.0; upper_bound = t.1 }
+loop-i-preserved c =
+    elim c.if-is_kind.branch [
+      | then-is_kind w ↦ (w.start-is ∙ pick_true _ _ _ _ w.if-is_kind.true refl ∙ sym (laws.last-next _ _ _ c.is_kind.ensures), omega (arith, w.start-is))
+      | else-is_kind w ↦ (w.start-is ∙ c.loop-i.invariant.0 ∙ pick-false _ _ _ _ w.if-is_kind.false refl ∙ sym (laws.last-next _ _ _ c.is_kind.ensures), omega (arith, w.start-is))
+    ]

@@ -1,9 +1,8 @@
--- No token behind the place is a comma; the search goes towards the start and ends at the last comma or at 0.
-use Rattle.values.proofs.ColourValues as laws
+-- Of the tokens so far the last comma is known.
+use mathlib.Core.Path.{◌≡◌}
+use Prim.Native.Nat.{◌≤◌}
+use Rattle.values.specs.ColourRows.{last_part}
 use Rattle.values.proofs.colour_values.behind_comma.Given as goal
 
 abbrev pub invariant-loop-i : goal.invariant-loop-i
-invariant-loop-i l = laws.Seeking l.rows l.count l.i
-
-abbrev pub decreases-loop-i : goal.decreases-loop-i
-decreases-loop-i l = l.i
+invariant-loop-i l = (l.start ≡ last_part l.tokens.rows.now l.i) × (l.start ≤ l.i)

@@ -1,9 +1,13 @@
 -- A function, and its name.
+use Rattle.characters.specs.Literal.{text}
+use Rattle.characters.specs.Utf8.{utf8, continuation}
+use Rattle.combinators.specs.Choice.{pick}
 use Rattle.values.proofs.ColourValues as laws
 use Rattle.values.proofs.colour_values.is_rgb.Goals as goal
 
 pub returns-then-is_kind : goal.returns-then-is_kind
-returns-then-is_kind c = laws.name-there _ _ _ c.is_kind.ensures c.if-is_kind.true _ _ c.text_at.ensures laws.rgb-bytes _ c.same_text.ensures
+unfolding text utf8 continuation pick
+returns-then-is_kind c = laws.name-there _ _ _ c.is_kind.ensures c.if-is_kind.true _ c.text_at.ensures _ (rw c.as_bytes.ensures.value at c.eq.ensures)
 
-pub returns : goal.returns
-returns c = laws.name-none _ _ _ c.is_kind.ensures c.if-is_kind.false
+pub returns-else-is_kind : goal.returns-else-is_kind
+returns-else-is_kind c = laws.name-none _ _ _ c.is_kind.ensures c.if-is_kind.false

@@ -1,16 +1,12 @@
 -- Behind a `+`, or from the start, the digits are read.
-use native.Mathlib.Omega.{arith}
+use mathlib.Core.Path.{ap, ◌∙◌}
+use Rattle.lexer.specs.Name.{hex_digit}
+use Rattle.values.specs.Colour.{digits_in}
+use Rattle.values.specs.ColourAnswer.{is_digit_in, number_answer}
 use Rattle.values.proofs.ColourLaws as laws
 use Rattle.values.proofs.colours.parse_in.Goals as goal
 
-pub slice_bounds-digits_in-count : goal.slice_bounds-digits_in-count
-slice_bounds-digits_in-count c = omega (arith, laws.plus-there c.args.s.now _ c.byte_is.ensures c.if-byte_is.true)
-
-pub slice_bounds-digits_in-start : goal.slice_bounds-digits_in-start
-slice_bounds-digits_in-start c = laws.plus-there c.args.s.now _ c.byte_is.ensures c.if-byte_is.true
-
-pub returns-then-byte_is : goal.returns-then-byte_is
-returns-then-byte_is c = laws.plus-read c.args.s.now _ c.byte_is.ensures _ _ _ _ _ c.if-byte_is.true c.digits_in.ensures
-
 pub returns : goal.returns
-returns c = laws.no-plus-read c.args.s.now _ c.byte_is.ensures _ _ _ _ _ c.if-byte_is.false c.digits_in-2.ensures
+returns c =
+    let rest = ap (λ b. b.now) c.unwrap_or.ensures ∙ laws.plus-stripped c.args.s c.strip_prefix.result c.strip_prefix.ensures.cases in
+    c.digits_in.ensures ∙ ap (λ t. number_answer (digits_in (is_digit_in c.args.base) c.args.base hex_digit c.args.most t)) rest

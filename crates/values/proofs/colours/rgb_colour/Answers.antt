@@ -1,25 +1,26 @@
 -- Each text is a number up to 255 or there is no colour; three of them are one.
 use native.Mathlib.Omega.{arith}
+use mathlib.Core.Path.{◌∙◌}
 use Rattle.values.proofs.ColourLaws as laws
 use Rattle.values.proofs.colours.rgb_colour.Goals as goal
 
-pub returns-in_default : goal.returns-in_default
-returns-in_default c = laws.red-none _ _ _ _ c.parse_u8.ensures c.in_default.is
+pub returns-in_err-red : goal.returns-in_err-red
+returns-in_err-red c = c.from_residual.ensures ∙ laws.red-none _ _ _ _ c.parse_u8.ensures c.in_err-red.was
 
-pub returns-in_default-parse_u8 : goal.returns-in_default-parse_u8
-returns-in_default-parse_u8 c = laws.green-none _ _ _ _ c.parse_u8.ensures _ c.in-Number.is _ c.parse_u8-2.ensures c.in_default-parse_u8.is
+pub returns-in_err-green : goal.returns-in_err-green
+returns-in_err-green c = c.from_residual-in_err-green.ensures ∙ laws.green-none _ _ _ _ c.parse_u8.ensures _ c.in_ok-red.was _ c.parse_u8-2.ensures c.in_err-green.was
 
-pub returns-in_default-parse_u8-2 : goal.returns-in_default-parse_u8-2
-returns-in_default-parse_u8-2 c = laws.blue-none _ _ _ _ c.parse_u8.ensures _ c.in-Number.is _ c.parse_u8-2.ensures _ c.in-Number-parse_u8.is _ c.parse_u8-3.ensures c.in_default-parse_u8-2.is
+pub returns-in_err-blue : goal.returns-in_err-blue
+returns-in_err-blue c = c.from_residual-in_err-blue.ensures ∙ laws.blue-none _ _ _ _ c.parse_u8.ensures _ c.in_ok-red.was _ c.parse_u8-2.ensures _ c.in_ok-green.was _ c.parse_u8-3.ensures c.in_err-blue.was
 
-pub overflow_cast-x : goal.overflow_cast-x
-overflow_cast-x c = omega (arith, laws.byte_le _ _ _ c.parse_u8.ensures c.in-Number.is)
+pub overflow_cast-red : goal.overflow_cast-red
+overflow_cast-red c = omega (arith, laws.byte_le _ _ _ c.parse_u8.ensures c.in_ok-red.was)
 
-pub overflow_cast-y : goal.overflow_cast-y
-overflow_cast-y c = omega (arith, laws.byte_le _ _ _ c.parse_u8-2.ensures c.in-Number-parse_u8.is)
+pub overflow_cast-green : goal.overflow_cast-green
+overflow_cast-green c = omega (arith, laws.byte_le _ _ _ c.parse_u8-2.ensures c.in_ok-green.was)
 
-pub overflow_cast-z : goal.overflow_cast-z
-overflow_cast-z c = omega (arith, laws.byte_le _ _ _ c.parse_u8-3.ensures c.in-Number-parse_u8-2.is)
+pub overflow_cast-blue : goal.overflow_cast-blue
+overflow_cast-blue c = omega (arith, laws.byte_le _ _ _ c.parse_u8-3.ensures c.in_ok-blue.was)
 
 pub returns : goal.returns
-returns c = laws.three-numbers _ _ _ _ c.parse_u8.ensures _ c.in-Number.is _ c.parse_u8-2.ensures _ c.in-Number-parse_u8.is _ c.parse_u8-3.ensures _ c.in-Number-parse_u8-2.is _ c.colour_number.ensures
+returns c = laws.three-numbers _ _ _ _ c.parse_u8.ensures _ c.in_ok-red.was _ c.parse_u8-2.ensures _ c.in_ok-green.was _ c.parse_u8-3.ensures _ c.in_ok-blue.was _ c.colour_number.ensures

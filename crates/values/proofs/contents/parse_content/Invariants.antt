@@ -3,8 +3,5 @@
 use Rattle.values.proofs.ContentLaws as laws
 use Rattle.values.proofs.contents.parse_content.Given as goal
 
-abbrev pub invariant-loop-left : goal.invariant-loop-left
-invariant-loop-left l = laws.Joining l.rows l.store l.count l.at l.left l.length
-
-abbrev pub decreases-loop-left : goal.decreases-loop-left
-decreases-loop-left l = l.left
+abbrev pub invariant-loop-i : goal.invariant-loop-i
+invariant-loop-i l = laws.Joining l.tokens.rows.now l.tokens.store.now l.tokens.count l.i l.length

@@ -1,10 +1,7 @@
--- The tokens so far are no words of the table; the first that is decides.
-use Rattle.values.specs.Words.{split}
+-- The tokens so far stand for nothing in the table; the first that does not decides.
+use Rattle.values.specs.Words.{entries}
 use Rattle.values.proofs.KeywordLaws as laws
 use Rattle.values.proofs.keywords.first_word.Given as goal
 
-abbrev pub invariant-loop-left : goal.invariant-loop-left
-invariant-loop-left l = laws.Finding (split l.joined l.lengths) l.rows l.store l.count l.at l.left
-
-abbrev pub decreases-loop-left : goal.decreases-loop-left
-decreases-loop-left l = l.left
+abbrev pub invariant-loop-i : goal.invariant-loop-i
+invariant-loop-i g l = laws.Finding (entries l.table) l.tokens.rows.now l.tokens.store.now l.tokens.count l.i

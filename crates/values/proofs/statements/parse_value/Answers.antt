@@ -1,12 +1,13 @@
 -- The statement's tokens, and whether their last two are the mark; or the brackets did not close.
+use Rattle.std.proofs.Common.{◌≡◌, Err, rules}
 use Rattle.values.proofs.ValueLaws as laws
 use Rattle.values.proofs.statements.parse_value.Goals as goal
 
-pub is_important-important-requires : goal.is_important-important-requires
-is_important-important-requires c = laws.value-counted _ _ _ _ _ _ c.requires c.parse_to_end_of_statement.ensures.store_after c.in-Statement.is
+pub invariant_of-is_important : goal.invariant_of-is_important
+invariant_of-is_important c = record { counted = laws.value-counted _ _ _ _ _ _ c.requires c.parse_to_end_of_statement.ensures.store_after c.in_ok-taken.was }
 
-pub returns-in-Statement : goal.returns-in-Statement
-returns-in-Statement c = laws.value-left _ _ _ _ _ _ c.requires c.parse_to_end_of_statement.ensures.store_after c.in-Statement.is c.is_important-important.ensures
+pub returns-in_err-taken : goal.returns-in_err-taken
+returns-in_err-taken c = let q : c.from_residual.result ≡ Err c.in_err-taken.field-0.0 = search rules in rw q (laws.no-value-left _ _ _ _ _ _ c.requires c.parse_to_end_of_statement.ensures.store_after c.in_err-taken.was)
 
-pub returns-in-Unbalanced : goal.returns-in-Unbalanced
-returns-in-Unbalanced c = laws.no-value-left _ _ _ _ _ _ c.requires c.parse_to_end_of_statement.ensures.store_after c.in-Unbalanced.is
+pub returns : goal.returns
+returns c = laws.value-left _ _ _ _ _ _ c.requires c.parse_to_end_of_statement.ensures.store_after c.in_ok-taken.was c.is_important-important.ensures

@@ -2,8 +2,8 @@
 use Rattle.visits.proofs.CodeTellLaws as laws
 use Rattle.visits.proofs.document.has_style.Goals as goal
 
-pub returns-in-Number : goal.returns-in-Number
-returns-in-Number c = laws.styled-count _ _ _ c.style_count.ensures _ _ c.in-Number.is
+pub returns-in-Ok : goal.returns-in-Ok
+returns-in-Ok c = laws.styled-count _ _ _ c.style_count.ensures _ c.in-Ok.is
 
-pub returns-in-Fault : goal.returns-in-Fault
-returns-in-Fault c = laws.styled-fault _ _ _ c.style_count.ensures _ c.in-Fault.is
+pub returns-in-Err : goal.returns-in-Err
+returns-in-Err c = laws.styled-fault _ _ _ c.style_count.ensures _ c.in-Err.is

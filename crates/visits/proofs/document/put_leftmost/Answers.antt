@@ -2,8 +2,8 @@
 use Rattle.visits.proofs.CodeDocumentLaws as laws
 use Rattle.visits.proofs.document.put_leftmost.Goals as goal
 
-pub returns-in-Head : goal.returns-in-Head
-returns-in-Head c = laws.leftmost-read _ _ _ _ _ _ _ c.read_head.ensures.value _ _ _ _ _ c.in-Head.is c.put_awaits.ensures
+pub returns-in-Ok : goal.returns-in-Ok
+returns-in-Ok c = laws.leftmost-read _ _ _ _ _ _ _ c.read_head.ensures.value _ _ c.in-Ok.is c.put_awaits.ensures
 
-pub returns-in-Fault : goal.returns-in-Fault
-returns-in-Fault c = laws.leftmost-fault _ _ _ _ _ _ _ c.read_head.ensures.value _ _ c.in-Fault.is c.put_places.ensures _ c.put_fresh.ensures
+pub returns-in-Err : goal.returns-in-Err
+returns-in-Err c = laws.leftmost-fault _ _ _ _ _ _ _ c.read_head.ensures.value _ _ c.in-Err.is c.put_places.ensures _ c.put_fresh.ensures

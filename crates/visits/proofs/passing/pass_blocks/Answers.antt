@@ -1,16 +1,18 @@
 -- Each turn stores the block of one selector, and the visit says where the next one is.
-use mathlib.Core.Path.{refl}
+use mathlib.Core.Path.{◌≡◌, refl}
+use Prim.Native.Nat.{◌+◌, ◌-◌}
+use native.Mathlib.Omega.{arith}
 use Rattle.visits.proofs.CodePassLaws as laws
 use Rattle.visits.proofs.passing.pass_blocks.Goals as goal
 
-pub loop-left-init : goal.loop-left-init
-loop-left-init c = record { whole = refl; long = refl; lent = c.requires }
+pub loop-init : goal.loop-init
+loop-init c = let q : c.args.count - 0 ≡ c.args.count = omega arith in rw q (record { whole = refl; long = refl; lent = c.requires })
 
 pub returns-then-p-eq-NO_PLACE : goal.returns-then-p-eq-NO_PLACE
-returns-then-p-eq-NO_PLACE c = laws.pass-none _ _ _ _ _ _ _ _ _ _ _ _ c.loop-left.invariant c.loop-left-test.true c.if-p-eq-NO_PLACE.true
+returns-then-p-eq-NO_PLACE c = laws.pass-none _ _ _ _ _ _ _ _ _ _ _ _ c.loop.invariant (omega arith) c.if-p-eq-NO_PLACE.true
 
-pub loop-left-preserved : goal.loop-left-preserved
-loop-left-preserved c = laws.pass-more _ _ _ _ _ _ _ _ _ _ _ _ c.loop-left.invariant c.loop-left-test.true c.if-p-eq-NO_PLACE.false _ c.visit-answer.ensures.next_value c.visit-answer.ensures.next_lt_pair_limit _ c.visit-answer.ensures.state_after
+pub loop-preserved : goal.loop-preserved
+loop-preserved c = let q : c.args.count - (c.loop.counter + 1) ≡ c.args.count - c.loop.counter - 1 = omega arith in rw q (laws.pass-more _ _ _ _ _ _ _ _ _ _ _ _ c.loop.invariant (omega arith) c.if-p-eq-NO_PLACE.false _ c.visit-p.ensures.next_value c.visit-p.ensures.next_lt_pair_limit _ c.visit-p.ensures.state_after)
 
 pub returns : goal.returns
-returns c = laws.pass-end _ _ _ _ _ _ _ _ _ _ _ _ c.loop-left.invariant c.loop-left-test.false
+returns c = laws.pass-end _ _ _ _ _ _ _ _ _ _ _ _ c.loop.invariant (omega arith)

@@ -2,14 +2,14 @@
 use Rattle.visits.proofs.CodeVisitLaws as laws
 use Rattle.visits.proofs.visiting.next_awaited.Goals as goal
 
-pub returns-then-awaited-first : goal.returns-then-awaited-first
-returns-then-awaited-first c = laws.awaited-last _ _ _ _ c.if-ends.true _ c.read_head.ensures.value _ _ _ _ c.in-Head.is c.if-awaited-first.true
+pub returns-then-not-ends : goal.returns-then-not-ends
+returns-then-not-ends c = laws.awaited-stays _ _ _ _ c.if-not-ends.true
 
-pub returns-in-Head : goal.returns-in-Head
-returns-in-Head c = laws.awaited-before _ _ _ _ c.if-ends.true _ c.read_head.ensures.value _ _ _ _ c.in-Head.is c.if-awaited-first.false
+pub returns-in_default : goal.returns-in_default
+returns-in_default c = laws.awaited-fault _ _ _ _ c.if-not-ends.false _ c.read_head.ensures.value _ c.in_default.is
 
-pub returns-in-Fault : goal.returns-in-Fault
-returns-in-Fault c = laws.awaited-fault _ _ _ _ c.if-ends.true _ c.read_head.ensures.value _ c.in-Fault.is
+pub returns-then-awaited-head : goal.returns-then-awaited-head
+returns-then-awaited-head c = laws.awaited-last _ _ _ _ c.if-not-ends.false _ c.read_head.ensures.value _ c.in-Ok.is c.if-awaited-head.true
 
-pub returns : goal.returns
-returns c = laws.awaited-stays _ _ _ _ c.if-ends.false
+pub returns-else-awaited-head : goal.returns-else-awaited-head
+returns-else-awaited-head c = laws.awaited-before _ _ _ _ c.if-not-ends.false _ c.read_head.ensures.value _ c.in-Ok.is c.if-awaited-head.false

@@ -1,9 +1,9 @@
 -- A filled slot stays, an empty one takes the value.
-use Rattle.cascade.proofs.SlotLaws.{fill-keeps, fill-takes}
+use Rattle.std.proofs.Common.{arith}
+use Rattle.std.proofs.lemmas.Grind.{common_steps}
+use Rattle.cascade.specs.Slot.{fill_update, held_by}
 use Rattle.cascade.proofs.slots.Slot.fill.Goals as goal
 
-pub returns-then-self : goal.returns-then-self
-returns-then-self c = search fill-keeps
-
 pub returns : goal.returns
-returns c = search fill-takes
+unfolding fill_update held_by
+returns c = grind (arith, common_steps)

@@ -1,12 +1,14 @@
 -- An empty slot takes the value; a filled one keeps its own exactly where that is held against the new.
-use Rattle.cascade.proofs.SlotLaws.{crate-keeps, crate-takes, crate-fills}
+use Rattle.std.proofs.Common.{arith}
+use Rattle.std.proofs.lemmas.Grind.{common_steps}
+use Rattle.combinators.specs.Choice.{pick}
+use Rattle.cascade.specs.Slot.{maybe_update, held_by}
 use Rattle.cascade.proofs.slots.Slot.maybe_update.Goals as goal
 
-pub returns-then-held_against : goal.returns-then-held_against
-returns-then-held_against c = search crate-keeps
+pub returns-in-Some : goal.returns-in-Some
+unfolding maybe_update held_by pick
+returns-in-Some c = grind (arith, common_steps)
 
-pub returns-then-self : goal.returns-then-self
-returns-then-self c = search crate-takes
-
-pub returns : goal.returns
-returns c = search crate-fills
+pub returns-in_default : goal.returns-in_default
+unfolding maybe_update held_by pick
+returns-in_default c = grind (arith, common_steps)

@@ -1,9 +1,8 @@
--- The fields are those of the definition.
-use mathlib.Core.Path.{refl}
-use Rattle.combinators.specs.Choice.{pick}
-use Rattle.cascade.specs.Slot.{slot_by}
+-- The slot that holds a candidate is what the definition says of it.
+use Rattle.std.proofs.Common.{refl}
+use Rattle.cascade.specs.Slot.{held_by}
 use Rattle.cascade.proofs.slots.Slot.new.Goals as goal
 
 pub returns : goal.returns
-unfolding slot_by pick
+unfolding held_by
 returns c = refl

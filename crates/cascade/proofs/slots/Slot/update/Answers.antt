@@ -1,10 +1,13 @@
--- Each cascade by its own method.
-use Rattle.cascade.proofs.SlotLaws.{by-crate, by-book}
-use borrow.Author.Rules.{rules}
+-- Each cascade by its own function.
+use Rattle.std.proofs.Common.{arith}
+use Rattle.std.proofs.lemmas.Grind.{common_steps}
+use Rattle.cascade.specs.Slot.{update_by}
 use Rattle.cascade.proofs.slots.Slot.update.Goals as goal
 
 pub returns-in-Crate : goal.returns-in-Crate
-returns-in-Crate c = search (rules, by-crate)
+unfolding update_by
+returns-in-Crate c = grind (arith, common_steps)
 
 pub returns-in-Book : goal.returns-in-Book
-returns-in-Book c = search (rules, by-book)
+unfolding update_by
+returns-in-Book c = grind (arith, common_steps)

@@ -1,12 +1,14 @@
 -- An empty slot takes the value; a filled one keeps its own exactly where that is held in the book order.
-use Rattle.cascade.proofs.SlotLaws.{book-keeps, book-takes, book-fills}
+use Rattle.std.proofs.Common.{arith}
+use Rattle.std.proofs.lemmas.Grind.{common_steps}
+use Rattle.combinators.specs.Choice.{pick}
+use Rattle.cascade.specs.Slot.{book_update, held_by}
 use Rattle.cascade.proofs.slots.Slot.update_in_book_order.Goals as goal
 
-pub returns-then-held_in_book : goal.returns-then-held_in_book
-returns-then-held_in_book c = search book-keeps
+pub returns-in-Some : goal.returns-in-Some
+unfolding book_update held_by pick
+returns-in-Some c = grind (arith, common_steps)
 
-pub returns-then-self : goal.returns-then-self
-returns-then-self c = search book-takes
-
-pub returns : goal.returns
-returns c = search book-fills
+pub returns-in_default : goal.returns-in_default
+unfolding book_update held_by pick
+returns-in_default c = grind (arith, common_steps)

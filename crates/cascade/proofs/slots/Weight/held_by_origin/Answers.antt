@@ -1,12 +1,14 @@
 -- The order of origins, turned round where the new value is important.
+use Rattle.std.proofs.Common.{arith}
+use Rattle.std.proofs.lemmas.Grind.{common_steps}
+use Rattle.combinators.specs.Choice.{pick}
 use Rattle.cascade.specs.Slot.{held_by_origin}
-use Rattle.combinators.proofs.Rules.{cases}
 use Rattle.cascade.proofs.slots.Weight.held_by_origin.Goals as goal
 
 pub returns-then-new : goal.returns-then-new
-unfolding held_by_origin
-returns-then-new c = search cases
+unfolding held_by_origin pick
+returns-then-new c = grind (arith, common_steps)
 
-pub returns : goal.returns
-unfolding held_by_origin
-returns c = search cases
+pub returns-else-new : goal.returns-else-new
+unfolding held_by_origin pick
+returns-else-new c = grind (arith, common_steps)

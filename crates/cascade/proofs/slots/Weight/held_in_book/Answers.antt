@@ -1,13 +1,19 @@
 -- The ranks decide, and where they are equal the specificity.
-use Rattle.cascade.proofs.SlotLaws.{lower-rank, higher-rank, same_rank}
-use borrow.Author.Rules.{rules}
+use Rattle.std.proofs.Common.{arith}
+use Rattle.std.proofs.lemmas.Grind.{common_steps}
+use Rattle.combinators.specs.Choice.{pick}
+use Rattle.cascade.specs.Slot.{rank_of, weaker, held_in_book}
+use Rattle.cascade.specs.Specificity.{less_then}
 use Rattle.cascade.proofs.slots.Weight.held_in_book.Goals as goal
 
-pub returns-then-theirs-own : goal.returns-then-theirs-own
-returns-then-theirs-own c = search (rules, lower-rank)
+pub returns-then-lt : goal.returns-then-lt
+unfolding held_in_book weaker rank_of less_then pick
+returns-then-lt c = grind (arith, common_steps)
 
-pub returns-then-own-theirs : goal.returns-then-own-theirs
-returns-then-own-theirs c = search (rules, higher-rank)
+pub returns-then-eq : goal.returns-then-eq
+unfolding held_in_book weaker rank_of less_then pick
+returns-then-eq c = grind (arith, common_steps)
 
-pub returns : goal.returns
-returns c = search (rules, same_rank)
+pub returns-else-eq : goal.returns-else-eq
+unfolding held_in_book weaker rank_of less_then pick
+returns-else-eq c = grind (arith, common_steps)

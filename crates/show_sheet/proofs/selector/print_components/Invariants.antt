@@ -1,9 +1,0 @@
--- The count falls to zero.
-use Prim.Native.Nat.{◌≤◌}
-use Rattle.show_sheet.proofs.selector.print_components.Given as goal
-
-abbrev pub invariant-loop-left : goal.invariant-loop-left
-invariant-loop-left l = l.left ≤ l.initial.left
-
-abbrev pub decreases-loop-left : goal.decreases-loop-left
-decreases-loop-left l = l.left

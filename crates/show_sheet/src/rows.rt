@@ -1,0 +1,6 @@
+// Rows as slices.
+
+/// The first `n` numbers of rows, or as many as there are, and those behind them.
+pub fn cut(rows: &[u32], n: usize) -> (&[u32], &[u32]) {
+    rows.split_at(n.min(rows.len()))
+}
