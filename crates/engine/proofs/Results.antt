@@ -6,14 +6,13 @@ use mathlib.Core.Path.{◌≡◌, refl, sym, ap, ◌∙◌}
 use Rattle.combinators.specs.Refusal.{no_refusal, refused_in, refused_at, bad_row, bad_text, bad_bytes}
 use Rattle.combinators.specs.declared.refusals.Refusal.{Refusal}
 use Rattle.sheets.specs.SheetAnswer as sheets
-use Rattle.sheets.specs.SheetAnswer.{numbers_of, SheetLeft}
+use Rattle.sheets.specs.SheetAnswer.{numbers_of}
 use Rattle.std.proofs.Common.{Option, Some, None, Result, Ok, Err}
 use Rattle.sheets.specs.declared.answers.SheetNumbers.{SheetNumbers}
 use Rattle.sheets.specs.declared.sheet.Sheet.{Sheet}
 use Rattle.sheets.specs.declared.sheet.SheetError.{SheetError}
 use Rattle.sheets.specs.declared.sheet.SheetError.TheVariants as sheet
 use Rattle.lengths.specs.HeightLength as lengths
-use Rattle.lengths.specs.HeightLength.{LengthLeft}
 use Rattle.lengths.specs.declared.answers.LengthNumbers.{LengthNumbers}
 use Rattle.lengths.specs.declared.answers.Length.{Length}
 use Rattle.lengths.specs.declared.answers.LengthError.{LengthError}
@@ -21,13 +20,10 @@ use Rattle.lengths.specs.declared.answers.LengthError.TheVariants as length
 use Rattle.page.specs.Accepted.{error_refusal, refusal_of}
 use Rattle.page.specs.declared.check.PageError.{PageError}
 use Rattle.page.specs.declared.check.PageError.TheVariants as page
-use Rattle.compiler.specs.CompileAnswer.{CompileLeft}
-use Rattle.compiler.specs.declared.answers.CompileNumbers.{CompileNumbers}
 use lib.Dec.{eqb}
 use Rattle.combinators.specs.Choice.{pick, is}
 use Rattle.combinators.proofs.Rules.{pick-holds}
 use Rattle.styles.specs.declared.settings.Settings.{Settings}
-use Rattle.styling.specs.StyleAnswer.{StyleAnswer, StyleLeft}
 use Rattle.page.specs.Accepted.{first_bad_row, first_bad_text, refused_row, page_refusal, rows_refusal}
 use Rattle.compiled.specs.Answer.{bytes_refusal}
 use Rattle.compiled.specs.Decoded.{Decoded, read, fault, on_decoded}
@@ -88,29 +84,11 @@ length-numbers a {n} e =
     let t : n.refusal.text ≡ 0 = ap (λ (m : LengthNumbers). m.refusal.text) e ∙ length-text a in
     ap (λ (r : Refusal). record { refusal = r; kind = n.kind; amount = n.amount }) (one-text n.refusal t) ∙ e
 
--- the refusal of a page
-pub page-refused : (a : Result Unit PageError) {r q : Refusal} → r ≡ refusal_of a → refusal_of a ≡ q → refused_at r.number r.place ≡ q
-page-refused a {r} e f = one-text r (ap (λ (x : Refusal). x.text) e ∙ page-text a) ∙ e ∙ f
+-- the refusal of a page, made of its number and place, is that of the answer
+pub page-refused : (a : Result Unit PageError) {r : Refusal} → r ≡ refusal_of a → refused_at r.number r.place ≡ refusal_of a
+page-refused a {r} e = one-text r (ap (λ (x : Refusal). x.text) e ∙ page-text a) ∙ e
 
--- ---- what is left of a call, with its answer in numbers
--- where the numbers are those of the answer, a sheet call leaves what its definition says
-pub sheet-called : {n m : SheetNumbers} {y x b z : List ℕ} {l : SheetLeft} → record { answer = m; rules = y; tokens = x; brackets = b; texts = z } ≡ l
-    → n ≡ m → record { answer = n; rules = y; tokens = x; brackets = b; texts = z } ≡ l
-sheet-called {n} {m} {y} {x} {b} {z} e f = ap (λ (q : SheetNumbers). record { answer = q; rules = y; tokens = x; brackets = b; texts = z }) f ∙ e
-
--- where the numbers are those of the answer, a length call leaves what its definition says
-pub length-called : {n m : LengthNumbers} {y x b z : List ℕ} {l : LengthLeft} → record { answer = m; rules = y; tokens = x; brackets = b; texts = z } ≡ l
-    → n ≡ m → record { answer = n; rules = y; tokens = x; brackets = b; texts = z } ≡ l
-length-called {n} {m} {y} {x} {b} {z} e f = ap (λ (q : LengthNumbers). record { answer = q; rules = y; tokens = x; brackets = b; texts = z }) f ∙ e
-
--- where the numbers are those of the answer, a compile call leaves what its definition says
-pub compile-called : {n m : CompileNumbers} {k t y x b : List ℕ} {l : CompileLeft}
-    → record { answer = m; compiled = k; texts = t; rules = y; tokens = x; brackets = b } ≡ l → n ≡ m
-    → record { answer = n; compiled = k; texts = t; rules = y; tokens = x; brackets = b } ≡ l
-compile-called {n} {m} {k} {t} {y} {x} {b} e f =
-    ap (λ (q : CompileNumbers). record { answer = q; compiled = k; texts = t; rules = y; tokens = x; brackets = b }) f ∙ e
-
--- ---- a style call: the switch as a number, and its answer
+-- ---- the switch as a number
 -- off at one number, and on at any other
 switched_by : (t : Bool) → not t ≡ pick t false true
 unfolding pick
@@ -120,13 +98,6 @@ switched_by false = refl
 pub switched : (n : ℕ) → ◌≡◌ {A = Settings} (record { document_styles = not (eqb n switch_off) }) (settings_from n)
 unfolding settings_from is
 switched n = ap (λ (b : Bool). record { document_styles = b }) (switched_by (eqb n switch_off))
-
--- with the switch as a setting and the numbers of the answer, a style call leaves what its definition says
-pub style-called : (left : Settings → StyleLeft) {s₁ s₂ : Settings} {n m : StyleAnswer} {k t y x b : List ℕ}
-    → s₁ ≡ s₂ → record { answer = m; row = k; texts = t; rules = y; tokens = x; brackets = b } ≡ left s₁ → n ≡ m
-    → record { answer = n; row = k; texts = t; rules = y; tokens = x; brackets = b } ≡ left s₂
-style-called left {s₁} {s₂} {n} {m} {k} {t} {y} {x} {b} es e f =
-    ap (λ (q : StyleAnswer). record { answer = q; row = k; texts = t; rules = y; tokens = x; brackets = b }) f ∙ e ∙ ap left es
 
 -- ---- a run, which reads no sheet: its refusals have the text 0
 abbrev textless : Refusal → Type 0
