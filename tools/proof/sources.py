@@ -14,7 +14,7 @@ LIBRARIES = {"Prim", "mathlib", "lib", "native", "borrow", "denote", "mir", "typ
 # Words of antt that name nothing, and what its prelude and a contract's brackets bring into every file.
 RESERVED = set("""data record deriving module where use mod pub package using open as unfoldable abbrev axiom unfold unfolding ruleset mutual infix infixl infixr elim let in
     do λ ∀ Type = → : | _ ← ↦ Σ rw simp search omega cc grw""".split())
-PRELUDE = {"⊥", "¬", "Unit", "tt", "absurd", "Dec", "yes", "no", "×", "↔", "≢", "⌜", "⌝", "∗", "grind", "hlevel", "assumption", "first_of"}
+PRELUDE = {"⊥", "¬", "IsProp", "Unit", "tt", "absurd", "Dec", "yes", "no", "×", "↔", "≢", "⌜", "⌝", "∗", "grind", "hlevel", "assumption", "first_of"}
 # Constructors of the libraries: on the left of a clause these stand for themselves, where any other name that is no constructor is bound.
 LIBRARY_CONSTRUCTORS = {"zero", "suc", "[]", "∷", "true", "false", "refl", "pos", "negsuc", "tt", "some", "none", "inl", "inr", "yes", "no", "true₂"}
 

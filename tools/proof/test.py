@@ -291,7 +291,7 @@ class Paths(unittest.TestCase):
 
     def test_a_callee_of_another_file(self):
         paths = tool("paths")
-        function = paths.function_of("matching", "place_of")
+        function = paths.function_of("matching", "elements/place")
         for step in ("parent_of", "parent_of-p", "parent_of-2"):
             self.assertEqual(paths.callee(function, step).file.path.parts[-3:], ("page", "src", "rows.rt"))
         self.assertIsNone(paths.callee(function, "shared_slice_known-1"))

@@ -25,7 +25,7 @@ use Rattle.styles.specs.Computed.{computed_style}
 use Rattle.styles.specs.StyleCall.{call_store, call_row}
 use Rattle.styles.specs.Says.{Says}
 use Rattle.styles.proofs.Called.{call-says-alone}
-use Rattle.styles.specs.Lent.{Page}
+use Rattle.page.specs.Lent.{Page}
 use Rattle.agreement.specs.Demand.{AllRows}
 use Rattle.agreement.proofs.PageRight.{rows-computed}
 

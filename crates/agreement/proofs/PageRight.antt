@@ -21,7 +21,7 @@ use Rattle.compiled.specs.Sheet.{encode}
 use Rattle.compiled.proofs.Fits.{SheetFits}
 use Rattle.compiled.proofs.RoundTrip.{round_trip}
 use Rattle.styles.specs.declared.settings.Settings.{Settings}
-use Rattle.styles.specs.Lent.{Page}
+use Rattle.page.specs.Lent.{Page}
 use Rattle.styles.specs.Computed.{computed_style}
 use Rattle.styles.specs.Said.{Rules}
 use Rattle.styles.specs.Says.{Says}

@@ -16,7 +16,8 @@ use Rattle.compiler.specs.CompileAnswer.{room_of, CompileLeft, zeroed, unchanged
 use Rattle.compiler.specs.Selectors.{selectors_of}
 use Rattle.compiler.specs.declared.answers.CompileNumbers.{CompileNumbers}
 use Rattle.styles.specs.declared.settings.Settings.{Settings}
-use Rattle.styles.specs.Lent.{SheetTexts, Page}
+use Rattle.page.specs.Lent.{Page}
+use Rattle.styles.specs.Lent.{SheetTexts}
 use Rattle.styling.specs.StyleAnswer.{StyleLeft}
 use Rattle.running.specs.RunAnswer.{RunLeft}
 use Rattle.agreement.specs.Agreed.{Agreed}

@@ -19,7 +19,7 @@ use Rattle.compiled.specs.Answer.{bytes_refusal}
 use Rattle.compiled.specs.Decoded.{Decoded, read, fault, on_decoded}
 use Rattle.compiled.specs.Sheet.{CompiledSelector, compiled_limit, decode}
 use Rattle.styles.specs.declared.settings.Settings.{Settings}
-use Rattle.styles.specs.Lent.{Page}
+use Rattle.page.specs.Lent.{Page}
 use Rattle.styling.proofs.StyleCalls.{Quiet, quiet}
 use Rattle.runner.specs.LeastLengths.{RunLent, run_text_bytes}
 use Rattle.running.specs.RunAnswer.{RunLeft, unchanged, ran, run_suffices, run_by, run_call}

@@ -21,7 +21,8 @@ use Rattle.page.specs.Accepted.{page_refusal}
 use Rattle.page.specs.PathOf.{path_of}
 use Rattle.page.specs.Rows.{node_count, node_at, element_kind}
 use Rattle.styles.specs.declared.settings.Settings.{Settings}
-use Rattle.styles.specs.Lent.{SheetTexts, Page}
+use Rattle.page.specs.Lent.{Page}
+use Rattle.styles.specs.Lent.{SheetTexts}
 use Rattle.styling.specs.StyleAnswer.{call_bytes, is_element, StyleLeft, unchanged, answered, styled_left, asked_left, style_of}
 use Rattle.styling.proofs.StyleCalls.{Quiet, quiet}
 use Rattle.agreement.specs.Calls.{StyleBuffers, style_with, StyleLent}

@@ -13,7 +13,8 @@ use Rattle.origins.proofs.ChecksLaws.{none-long}
 use Rattle.cascade.specs.declared.slots.Cascade.TheVariants.{Crate}
 use Rattle.cascade.specs.Row.{style_row_width}
 use Rattle.page.specs.Rows.{node_count}
-use Rattle.styles.specs.Lent.{SheetTexts, Page}
+use Rattle.page.specs.Lent.{Page}
+use Rattle.styles.specs.Lent.{SheetTexts}
 use Rattle.styling.specs.StyleAnswer.{call_bytes}
 use Rattle.styling.specs.Styling.{AskedLent}
 use Rattle.styling.proofs.StyleCalls.{call-lent}

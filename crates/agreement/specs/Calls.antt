@@ -3,9 +3,12 @@ use Rattle.std.specs.Prelude.{ℕ, ◌≤◌, ◌≡◌, List, length, take}
 use Rattle.combinators.specs.LeastLengths.{Least}
 use Rattle.cascade.specs.declared.slots.Cascade.TheVariants.{Crate}
 use Rattle.cascade.specs.Row.{style_row_width}
+use Rattle.compiler.specs.declared.answers.CompileNumbers.{CompileNumbers}
 use Rattle.compiler.specs.CompileAnswer.{CompileLeft, compile_of}
+use Rattle.combinators.specs.declared.lent.Stores.{Stores}
 use Rattle.styles.specs.declared.settings.Settings.{Settings}
-use Rattle.styles.specs.Lent.{SheetTexts, Page}
+use Rattle.page.specs.Lent.{Page}
+use Rattle.styles.specs.Lent.{SheetTexts}
 use Rattle.styling.specs.StyleAnswer.{StyleLeft, call_bytes, style_of}
 use Rattle.running.specs.RunAnswer.{RunLeft, run_call}
 
@@ -31,6 +34,20 @@ pub record StyleBuffers : Type 0 where
   pub rules : List ℕ
   pub tokens : List ℕ
   pub brackets : List ℕ
+
+-- ---- what the code lends
+abbrev pub compile_lent : List ℕ → Stores → CompileBuffers
+compile_lent compiled s = record { compiled = compiled; texts = s.texts.now; rules = s.rules.now; tokens = s.tokens.now; brackets = s.brackets.now }
+
+abbrev pub run_lent : List ℕ → List ℕ → Stores → RunBuffers
+run_lent rows state s = record { rows = rows; texts = s.texts.now; state = state; rules = s.rules.now; tokens = s.tokens.now; brackets = s.brackets.now }
+
+abbrev pub style_lent : List ℕ → Stores → StyleBuffers
+style_lent row s = record { row = row; texts = s.texts.now; rules = s.rules.now; tokens = s.tokens.now; brackets = s.brackets.now }
+
+-- and what compiling leaves there
+abbrev pub compile_left : CompileNumbers → List ℕ → Stores → CompileLeft
+compile_left a compiled s = record { answer = a; compiled = compiled; texts = s.texts.now; rules = s.rules.now; tokens = s.tokens.now; brackets = s.brackets.now }
 
 -- ---- the calls
 abbrev pub compile_with : SheetTexts → CompileBuffers → CompileLeft

@@ -15,7 +15,8 @@ use Rattle.styles.specs.declared.settings.Settings.{Settings}
 use Rattle.styles.specs.Said.{Rules}
 use Rattle.styles.specs.Computed.{computed_style}
 use Rattle.styles.specs.Says.{Says}
-use Rattle.styles.specs.Lent.{SheetTexts, Page}
+use Rattle.page.specs.Lent.{Page}
+use Rattle.styles.specs.Lent.{SheetTexts}
 use Rattle.runner.specs.PageRows.{style_row_at}
 use Rattle.running.specs.RunAnswer.{RunLeft}
 use Rattle.agreement.specs.Calls.{texts_of}

@@ -11,7 +11,8 @@ use Rattle.compiler.specs.Selectors.{selectors_of}
 use Rattle.styles.specs.declared.settings.Settings.{Settings}
 use Rattle.styles.specs.Said.{Rules}
 use Rattle.styles.specs.Computed.{computed_style}
-use Rattle.styles.specs.Lent.{SheetTexts, Page}
+use Rattle.page.specs.Lent.{Page}
+use Rattle.styles.specs.Lent.{SheetTexts}
 use Rattle.runner.specs.PageRows.{no_style, style_row_at, page_contents, page_row}
 use Rattle.combinators.specs.Refusal.{no_refusal, short_store}
 use Rattle.running.specs.RunAnswer.{RunLeft}

@@ -11,7 +11,8 @@ use Rattle.page.specs.Rows.{node_count, node_at}
 use Rattle.compiled.specs.Answer.{bytes_refusal}
 use Rattle.compiled.specs.Sheet.{compiled_limit}
 use Rattle.styles.specs.declared.settings.Settings.{Settings}
-use Rattle.styles.specs.Lent.{SheetTexts, Page}
+use Rattle.page.specs.Lent.{Page}
+use Rattle.styles.specs.Lent.{SheetTexts}
 use Rattle.attributes.specs.Merging.{InlineRoom}
 use Rattle.styling.specs.StyleAnswer.{call_bytes, is_element}
 use Rattle.styling.specs.Styling.{CallLent, AskedLent}

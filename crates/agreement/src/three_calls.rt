@@ -1,14 +1,21 @@
 // Demand 3 as a contract: three sheets are compiled, their bytes are run down a page, and a row of it is asked of the style call. The run's row is the style call's.
+// The three calls are told different things, compiling no page, the run no sheets, the style call one row of the page, and each is made here with what its
+// entry point lists: a struct for one of them would be taken apart again for it.
 ghost use Rattle.std.specs.Prelude.{◌≡◌, ◌≤◌, length, take};
-ghost use Rattle.styles.specs.Lent.{sheets_in, page_in};
-ghost use Rattle.styling.specs.StyleAnswer.{numbers_of};
+ghost use Rattle.combinators.specs.Lent.{SameStores};
+ghost use Rattle.page.specs.Lent.{page_in};
+ghost use Rattle.styles.specs.Lent.{sheets_in};
+ghost use Rattle.styling.specs.StyleAnswer.{numbers_of, left_in};
+ghost use Rattle.running.specs.RunAnswer as run;
 ghost use Rattle.agreement.specs.Agreed.{Agreed};
-ghost use Rattle.agreement.specs.Calls.{compile_with, run_with, style_with};
+ghost use Rattle.agreement.specs.Calls.{compile_lent, run_lent, style_lent, compile_left, compile_with, run_with, style_with};
 
+use combinators::lent::{SheetTexts, Stores};
 use compiler::answers::{CompileNumbers, numbers_of};
 use compiler::compile::compile;
-use running::run::{RunAnswer, run};
-use styles::lent::{Page, SheetTexts};
+use page::lent::Page;
+use running::input::RunInput;
+use running::run::{RunError, run};
 use styles::settings::Settings;
 use styling::style::{StyleError, style};
 
@@ -16,14 +23,14 @@ use styling::style::{StyleError, style};
 #[derive(Clone, Copy)]
 pub struct RunAnswers {
     pub compiling: CompileNumbers,
-    pub running: RunAnswer,
+    pub running: Result<usize, RunError>,
 }
 
 // What the three calls answer.
 #[derive(Clone, Copy)]
 pub struct CallAnswers {
     pub compiling: CompileNumbers,
-    pub running: RunAnswer,
+    pub running: Result<usize, RunError>,
     pub styling: Result<usize, StyleError>,
 }
 
@@ -31,25 +38,13 @@ pub struct CallAnswers {
 fn compile_sheets(
     sheets: SheetTexts<'_>,
     compiled: &mut [u8],
-    texts: &mut [u8],
-    rules: &mut [u32],
-    tokens: &mut [u32],
-    brackets: &mut [u8],
+    stores: &mut Stores<'_>,
 ) -> CompileNumbers
-    ensures brackets_after { record { answer = result; compiled = compiled.new; texts = texts.new; rules = rules.new; tokens = tokens.new; brackets = brackets.new }
-        ≡ compile_with (sheets_in sheets.entry) (record { compiled = compiled.old; texts = texts.old; rules = rules.old; tokens = tokens.old; brackets = brackets.old }) }
+    ensures left { compile_left result compiled.new stores.new ≡ compile_with (sheets_in sheets.entry) (compile_lent compiled.old stores.old) }
     ensures bytes_in_bounds { result.bytes ≤ length compiled.new }
+    ensures same { SameStores stores.old stores.new }
 {
-    numbers_of(compile(
-        sheets.agent,
-        sheets.user,
-        sheets.author,
-        compiled,
-        texts,
-        rules,
-        tokens,
-        brackets,
-    ))
+    numbers_of(compile(sheets, compiled, stores))
 }
 
 // Runs the first bytes of a buffer down a page.
@@ -59,29 +54,20 @@ fn run_bytes(
     bytes: usize,
     page: Page<'_>,
     rows: &mut [u32],
-    texts: &mut [u8],
     state: &mut [u8],
-    rules: &mut [u32],
-    tokens: &mut [u32],
-    brackets: &mut [u8],
-) -> RunAnswer
+    stores: &mut Stores<'_>,
+) -> Result<usize, RunError>
     requires { bytes ≤ length compiled.now }
-    ensures { record { answer = result; rows = rows.new; texts = texts.new; state = state.new; rules = rules.new; tokens = tokens.new; brackets = brackets.new }
-        ≡ run_with (take bytes compiled.now) settings (page_in page.entry) (record { rows = rows.old; texts = texts.old; state = state.old; rules = rules.old; tokens = tokens.old; brackets = brackets.old }) }
+    ensures left { run.left_in (run.numbers_of result) rows.new state.new stores.new
+        ≡ run_with (take bytes compiled.now) settings (page_in page.entry) (run_lent rows.old state.old stores.old) }
+    ensures same { SameStores stores.old stores.new }
 {
-    run(
+    let input = RunInput {
         settings,
-        &compiled[..bytes],
-        page.nodes,
-        page.attributes,
-        page.text,
-        rows,
-        texts,
-        state,
-        rules,
-        tokens,
-        brackets,
-    )
+        compiled: &compiled[..bytes],
+        page,
+    };
+    run(input, rows, state, stores)
 }
 
 // Compiles three sheets and runs their bytes down a page. Where the sheets are refused the run is of no bytes.
@@ -90,43 +76,21 @@ fn compile_and_run(
     sheets: SheetTexts<'_>,
     page: Page<'_>,
     compiled: &mut [u8],
-    compile_texts: &mut [u8],
-    compile_rules: &mut [u32],
-    compile_tokens: &mut [u32],
-    compile_brackets: &mut [u8],
+    compile_stores: &mut Stores<'_>,
     rows: &mut [u32],
-    run_texts: &mut [u8],
     state: &mut [u8],
-    run_rules: &mut [u32],
-    run_tokens: &mut [u32],
-    run_brackets: &mut [u8],
+    run_stores: &mut Stores<'_>,
 ) -> RunAnswers
-    ensures compile_brackets_after { record { answer = result.compiling; compiled = compiled.new; texts = compile_texts.new; rules = compile_rules.new; tokens = compile_tokens.new; brackets = compile_brackets.new }
-        ≡ compile_with (sheets_in sheets.entry) (record { compiled = compiled.old; texts = compile_texts.old; rules = compile_rules.old; tokens = compile_tokens.old; brackets = compile_brackets.old }) }
-    ensures run_brackets_after { record { answer = result.running; rows = rows.new; texts = run_texts.new; state = state.new; rules = run_rules.new; tokens = run_tokens.new; brackets = run_brackets.new }
-        ≡ run_with (take result.compiling.bytes compiled.new) settings (page_in page.entry) (record { rows = rows.old; texts = run_texts.old; state = state.old; rules = run_rules.old; tokens = run_tokens.old; brackets = run_brackets.old }) }
+    ensures compile_after { compile_left result.compiling compiled.new compile_stores.new
+        ≡ compile_with (sheets_in sheets.entry) (compile_lent compiled.old compile_stores.old) }
+    ensures run_after { run.left_in (run.numbers_of result.running) rows.new state.new run_stores.new
+        ≡ run_with (take result.compiling.bytes compiled.new) settings (page_in page.entry) (run_lent rows.old state.old run_stores.old) }
+    ensures compile_same { SameStores compile_stores.old compile_stores.new }
+    ensures run_same { SameStores run_stores.old run_stores.new }
 {
-    let compiling = compile_sheets(
-        sheets,
-        compiled,
-        compile_texts,
-        compile_rules,
-        compile_tokens,
-        compile_brackets,
-    );
+    let compiling = compile_sheets(sheets, compiled, compile_stores);
     let bytes = compiling.bytes;
-    let running = run_bytes(
-        settings,
-        compiled,
-        bytes,
-        page,
-        rows,
-        run_texts,
-        state,
-        run_rules,
-        run_tokens,
-        run_brackets,
-    );
+    let running = run_bytes(settings, compiled, bytes, page, rows, state, run_stores);
     RunAnswers { compiling, running }
 }
 
@@ -137,57 +101,35 @@ pub fn compile_run_style(
     page: Page<'_>,
     row: usize,
     compiled: &mut [u8],
-    compile_texts: &mut [u8],
-    compile_rules: &mut [u32],
-    compile_tokens: &mut [u32],
-    compile_brackets: &mut [u8],
+    compile_stores: &mut Stores<'_>,
     rows: &mut [u32],
-    run_texts: &mut [u8],
     state: &mut [u8],
-    run_rules: &mut [u32],
-    run_tokens: &mut [u32],
-    run_brackets: &mut [u8],
+    run_stores: &mut Stores<'_>,
     out: &mut [u32],
-    style_texts: &mut [u8],
-    style_rules: &mut [u32],
-    style_tokens: &mut [u32],
-    style_brackets: &mut [u8],
+    style_stores: &mut Stores<'_>,
 ) -> CallAnswers
-    ensures compile_brackets_after { record { answer = result.compiling; compiled = compiled.new; texts = compile_texts.new; rules = compile_rules.new; tokens = compile_tokens.new; brackets = compile_brackets.new }
-        ≡ compile_with (sheets_in sheets.entry) (record { compiled = compiled.old; texts = compile_texts.old; rules = compile_rules.old; tokens = compile_tokens.old; brackets = compile_brackets.old }) }
-    ensures run_brackets_after { record { answer = result.running; rows = rows.new; texts = run_texts.new; state = state.new; rules = run_rules.new; tokens = run_tokens.new; brackets = run_brackets.new }
-        ≡ run_with (take result.compiling.bytes compiled.new) settings (page_in page.entry) (record { rows = rows.old; texts = run_texts.old; state = state.old; rules = run_rules.old; tokens = run_tokens.old; brackets = run_brackets.old }) }
-    ensures style_brackets_after { record { answer = numbers_of result.styling; row = out.new; texts = style_texts.new; rules = style_rules.new; tokens = style_tokens.new; brackets = style_brackets.new }
-        ≡ style_with settings (sheets_in sheets.entry) (page_in page.entry) row (record { row = out.old; texts = style_texts.old; rules = style_rules.old; tokens = style_tokens.old; brackets = style_brackets.old }) }
-    ensures agreed { Agreed (record { answer = result.compiling; compiled = compiled.new; texts = compile_texts.new; rules = compile_rules.new; tokens = compile_tokens.new; brackets = compile_brackets.new }) (record { answer = result.running; rows = rows.new; texts = run_texts.new; state = state.new; rules = run_rules.new; tokens = run_tokens.new; brackets = run_brackets.new }) (record { answer = numbers_of result.styling; row = out.new; texts = style_texts.new; rules = style_rules.new; tokens = style_tokens.new; brackets = style_brackets.new }) row }
+    ensures compile_after { compile_left result.compiling compiled.new compile_stores.new
+        ≡ compile_with (sheets_in sheets.entry) (compile_lent compiled.old compile_stores.old) }
+    ensures run_after { run.left_in (run.numbers_of result.running) rows.new state.new run_stores.new
+        ≡ run_with (take result.compiling.bytes compiled.new) settings (page_in page.entry) (run_lent rows.old state.old run_stores.old) }
+    ensures style_after { left_in (numbers_of result.styling) out.new style_stores.new
+        ≡ style_with settings (sheets_in sheets.entry) (page_in page.entry) row (style_lent out.old style_stores.old) }
+    ensures agreed { Agreed (compile_left result.compiling compiled.new compile_stores.new) (run.left_in (run.numbers_of result.running) rows.new state.new run_stores.new) (left_in (numbers_of result.styling) out.new style_stores.new) row }
+    ensures compile_same { SameStores compile_stores.old compile_stores.new }
+    ensures run_same { SameStores run_stores.old run_stores.new }
+    ensures style_same { SameStores style_stores.old style_stores.new }
 {
     let answers = compile_and_run(
         settings,
         sheets,
         page,
         compiled,
-        compile_texts,
-        compile_rules,
-        compile_tokens,
-        compile_brackets,
+        compile_stores,
         rows,
-        run_texts,
         state,
-        run_rules,
-        run_tokens,
-        run_brackets,
+        run_stores,
     );
-    let styling = style(
-        settings,
-        sheets,
-        page,
-        row,
-        out,
-        style_texts,
-        style_rules,
-        style_tokens,
-        style_brackets,
-    );
+    let styling = style(settings, sheets, page, row, out, style_stores);
     CallAnswers {
         compiling: answers.compiling,
         running: answers.running,

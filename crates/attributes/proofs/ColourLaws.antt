@@ -1,5 +1,5 @@
 -- `color` and `bgcolor`: what an attribute's value names, merged.
-use Prim.Native.Nat.{ℕ}
+use Prim.Native.Nat.{ℕ, ◌*◌}
 use mathlib.Core.Bool.{Bool, true, false}
 use mathlib.Core.List.{List, [], ◌∷◌, map}
 use mathlib.Core.Path.{◌≡◌, refl, sym, ap, ◌∙◌}
@@ -8,6 +8,8 @@ use lib.ListN.{length, take}
 use Rattle.combinators.specs.Choice.{pick}
 use Rattle.combinators.specs.Word.{same_text}
 use Rattle.combinators.proofs.Rules.{pick_true, pick-false}
+use Rattle.combinators.proofs.Wiped.{length-wiped}
+use Rattle.lexer.specs.TokenRow.{token_width}
 use Rattle.characters.specs.Literal.{text}
 use Rattle.characters.specs.Utf8.{utf8}
 use Rattle.syntax.specs.Declaration.{Colour}
@@ -131,3 +133,14 @@ module _ (name value : List ℕ) (c : Cascade) (spec : Specificity) (out : List 
     other-named k =
         sym (merged-none c out)
         ∙ ap (λ l. merged_row c out (map (from_attribute false spec) l)) (pick-false _ _ _ _ (color-test ∙ h) (pick-false _ _ _ _ (bgcolor-test ∙ k) refl))
+
+-- reading a colour leaves the stores as long as they were
+pub colour-long : (s tokens brackets store : List ℕ) (fill : ℕ) {a : Option ℕ} {x b z : List ℕ} → record { answer = a; tokens = x; brackets = b; store = z } ≡ colour_left s tokens brackets store fill
+    → (length x ≡ length tokens) × (length b ≡ length brackets) × (length z ≡ length store)
+unfolding colour_left
+colour-long s tokens brackets store fill e =
+    let n = length (statement_of false s).tokens in (
+      ap (λ (l : ColourLeft). length l.tokens) e ∙ length-wiped 0 (token_width * n) tokens,
+      ap (λ (l : ColourLeft). length l.brackets) e ∙ length-wiped 0 n brackets,
+      ap (λ (l : ColourLeft). length l.store) e ∙ length-wiped fill (length (texts_of (statement_of false s).tokens)) store,
+    )

@@ -5,7 +5,7 @@ use mathlib.Core.Path.{◌≡◌, refl, ap, ◌∙◌}
 use native.Mathlib.Omega.{arith}
 use lib.ListN.{length, set, take, drop, replicate, length-append}
 use lib.Seq.{sets, sets-eq, take_at, length-take-le, take-set-le}
-use Rattle.combinators.specs.Store.{wiped}
+use Rattle.combinators.specs.Store.{wiped, filled_part}
 
 -- what is written behind changes nothing
 front_kept : (l : List ℕ) (n : ℕ) (xs : List ℕ) (i : ℕ) → n ≤ i → take n (sets l i xs) ≡ take n l
@@ -14,7 +14,7 @@ front_kept l n (x ∷ xs) i h = front_kept (set l i x) n xs (suc i) (omega arith
 
 -- zeros written from n on leave the first n numbers
 pub front-wiped : (l : List ℕ) (n k : ℕ) → take n (wiped n k l) ≡ take n l
-unfolding wiped
+unfolding filled_part
 front-wiped l n k = front_kept l n (replicate k 0) n (omega arith)
 
 -- a text that is written lies behind what was there

@@ -5,13 +5,13 @@ use mathlib.Core.List.{List, [], ◌∷◌, ◌++◌, map, append_assoc}
 use mathlib.Core.Path.{◌≡◌, refl, sym, ap, ◌∙◌}
 use native.Mathlib.Omega.{arith}
 use lib.ListN.{length, take, drop, length-append}
-use lib.Seq.{sets, drop-drop}
+use lib.Seq.{sets, length-sets, drop-drop}
 use Rattle.combinators.specs.All.{All}
 use Rattle.combinators.specs.Choice.{pick, is}
 use Rattle.combinators.specs.Store.{wiped}
 use Rattle.combinators.proofs.Rules.{pick_true, pick-false, is-yes, is-no}
 use Rattle.combinators.proofs.Wiped.{length-wiped}
-use Rattle.syntax.specs.Layout.{content_slot, style_width, style_text, style_texts, style_slot_of, style_text_of, number_from, value_from, numbers_from, numbers_at, row_of_numbers, style_row, style_rows}
+use Rattle.syntax.specs.Layout.{declaration_width, content_slot, style_width, style_text, style_texts, style_slot_of, style_text_of, number_from, value_from, numbers_from, numbers_at, row_of_numbers, style_row, style_rows}
 use Rattle.syntax.specs.Stream.{texts_many, rows_many}
 use Rattle.syntax.specs.Style as style
 use Rattle.syntax.specs.Style.{Style, StyleValue, StyleDecl, author_origin}
@@ -265,3 +265,17 @@ module _ (base fill : ℕ) (s rules tokens brackets texts : List ℕ) (o : Value
       rw (fill-behind, ez)
       (text-stored (wiped fill u texts) fill (style_texts (style_attribute s)) (omega (arith, length-wiped fill u texts, style-short s, o.for-texts))
       ∙ ap (λ (l : List ℕ). l ++ style_texts (style_attribute s)) (front-wiped texts fill u))
+
+-- reading a `style` attribute leaves the stores as long as they were
+pub style-long : (s rules tokens brackets store : List ℕ) (fill : ℕ) {r : StylesRead} {y x b z : List ℕ}
+    → record { answer = r; rules = y; tokens = x; brackets = b; store = z } ≡ style_left s rules tokens brackets store fill
+    → (length y ≡ length rules) × (length x ≡ length tokens) × (length b ≡ length brackets) × (length z ≡ length store)
+unfolding style_left
+style-long s rules tokens brackets store fill e =
+    let ds = style_attribute s in
+    let u = used_rules false s in (
+      ap (λ (l : Leaves StylesRead). length l.rules) e ∙ length-wiped 0 (declaration_width * length (declarations_of s).declarations) rules,
+      ap (λ (l : Leaves StylesRead). length l.tokens) e ∙ length-sets (wiped 0 (token_width * u.tokens) tokens) 0 (style_rows fill ds) ∙ length-wiped 0 (token_width * u.tokens) tokens,
+      ap (λ (l : Leaves StylesRead). length l.brackets) e ∙ length-wiped 0 u.tokens brackets,
+      ap (λ (l : Leaves StylesRead). length l.store) e ∙ length-sets (wiped fill u.bytes store) fill (style_texts ds) ∙ length-wiped fill u.bytes store,
+    )

@@ -11,17 +11,19 @@ use Rattle.syntax.specs.declared.styles.Value.{Value}
 use Rattle.cascade.specs.declared.slots.Cascade.{Cascade}
 use Rattle.cascade.specs.declared.slots.Cascade.TheVariants.{Crate, Book}
 use Rattle.cascade.specs.Record.{AttributeStyle, from_attribute, colour_attributes}
-use Rattle.cascade.specs.Row.{RowRoom}
 use Rattle.cascade.specs.Specificity.{no_specificity}
 use Rattle.page.specs.Path.{Attribute}
 use Rattle.page.specs.PathOf.{attributes_from}
 use Rattle.page.specs.Rows.{attribute_name, attribute_value}
 use Rattle.matching.specs.Rows.{attribute_of}
 use Rattle.values.specs.Layout.{Room}
+use Rattle.combinators.specs.declared.lent.Stores.{Stores}
+use Rattle.combinators.specs.Lent.{SameStores, SameLengths}
 use Rattle.styles.specs.Said.{attribute_says}
 use Rattle.styles.specs.Room.{values_of}
 use Rattle.styles.specs.StyleCall.{attribute_contents, attributes_contents, placed_styles, placed_attributes}
 use Rattle.styles.specs.Merged.{merged_row, early_declared, late_declared}
+use Rattle.styles.proofs.KeptStores.{stores-stay, lengths-stay, stores-kept, lengths-kept}
 use Rattle.styles.proofs.Merging.{merged-none, merged-append, late-none, late-append, early-append}
 use Rattle.styles.proofs.Room.{attribute-short}
 use Rattle.attributes.specs.Merging.{InlineRoom, ValueRoom, attribute_colours, colours_say}
@@ -64,10 +66,6 @@ module _ (a : Attribute) (xs : List Attribute) (base fill : ℕ) (rules tokens b
 pub early-room : (xs : List Attribute) (base fill : ℕ) (rules tokens brackets texts : List ℕ) → InlineRoom xs base fill rules tokens brackets texts → InlineRoom xs 0 fill tokens tokens brackets texts
 early-room xs base fill rules tokens brackets texts o =
     record { for-rules = o.for-tokens; for-tokens = o.for-tokens; for-brackets = o.for-brackets; for-texts = o.for-texts; bits = omega (arith, o.bits) }
-
--- a row that is as long as it was still has room
-pub row_kept : (out out₀ : List ℕ) → length out ≡ length out₀ → RowRoom out₀ → RowRoom out
-row_kept out out₀ e r = record { room = omega (arith, r.room) }
 
 -- ---- attributes from a row on
 module _ (attributes names : List ℕ) (at count : ℕ) where
@@ -124,93 +122,84 @@ contents-none : attributes_contents [] ≡ []
 unfolding attributes_contents texts_many
 contents-none = refl
 
-module _ (attributes names : List ℕ) (at count : ℕ) (c : Cascade) (base fill : ℕ) (out₀ rules₀ tokens₀ brackets₀ texts₀ : List ℕ) where
+module _ (attributes names : List ℕ) (at count : ℕ) (c : Cascade) (base fill : ℕ) (out₀ : List ℕ) (s₀ : Stores) where
   -- before the i-th attribute: what is left leads to the row and the texts that all lead to
-  pub record Turn (f i : ℕ) (out rules tokens brackets texts : List ℕ) : Type 0 where
+  pub record Turn (f i : ℕ) (out : List ℕ) (s : Stores) : Type 0 where
     pub within_count : i ≤ count
-    pub room : InlineRoom (behind attributes names at count i) base f rules tokens brackets texts
-    pub out-long : length out ≡ length out₀
-    pub rules-long : length rules ≡ length rules₀
-    pub tokens-long : length tokens ≡ length tokens₀
-    pub brackets-long : length brackets ≡ length brackets₀
-    pub texts-long : length texts ≡ length texts₀
+    pub room : InlineRoom (behind attributes names at count i) base f s.rules.now s.tokens.now s.brackets.now s.texts.now
+    pub lengths : SameLengths s₀ s
+    pub same : SameStores s₀ s
     pub row : merged_row c out (late_declared c (placed_attributes (base + f) (behind attributes names at count i)))
         ≡ merged_row c out₀ (late_declared c (placed_attributes (base + fill) (attributes_from attributes names count at)))
     pub fills : f + length (attributes_contents (behind attributes names at count i)) ≡ fill + length (attributes_contents (attributes_from attributes names count at))
-    pub lies : take f texts ++ attributes_contents (behind attributes names at count i) ≡ take fill texts₀ ++ attributes_contents (attributes_from attributes names count at)
+    pub lies : take f s.texts.now ++ attributes_contents (behind attributes names at count i) ≡ take fill s₀.texts.now ++ attributes_contents (attributes_from attributes names count at)
 
-module _ (attributes names : List ℕ) (at count : ℕ) (c : Cascade) (base fill : ℕ) (out₀ rules₀ tokens₀ brackets₀ texts₀ : List ℕ) where
+module _ (attributes names : List ℕ) (at count : ℕ) (c : Cascade) (base fill : ℕ) (out₀ : List ℕ) (s₀ : Stores) where
   -- before the first attribute everything is as it was lent
-  pub turn-begin : InlineRoom (attributes_from attributes names count at) base fill rules₀ tokens₀ brackets₀ texts₀
-      → Turn attributes names at count c base fill out₀ rules₀ tokens₀ brackets₀ texts₀ fill 0 out₀ rules₀ tokens₀ brackets₀ texts₀
+  pub turn-begin : InlineRoom (attributes_from attributes names count at) base fill s₀.rules.now s₀.tokens.now s₀.brackets.now s₀.texts.now
+      → Turn attributes names at count c base fill out₀ s₀ fill 0 out₀ s₀
   turn-begin o =
       let e = all-behind attributes names at count in
       record {
         within_count = omega arith;
         room = rw e o;
-        out-long = refl;
-        rules-long = refl;
-        tokens-long = refl;
-        brackets-long = refl;
-        texts-long = refl;
+        lengths = lengths-stay s₀;
+        same = stores-stay s₀;
         row = rw e;
         fills = rw e;
         lies = rw e;
       }
 
-  module _ (f i : ℕ) (out rules tokens brackets texts : List ℕ) (v : Turn attributes names at count c base fill out₀ rules₀ tokens₀ brackets₀ texts₀ f i out rules tokens brackets texts) where
+  module _ (f i : ℕ) (out : List ℕ) (s : Stores) (v : Turn attributes names at count c base fill out₀ s₀ f i out s) where
     -- behind the last attribute all are merged, and all contents lie behind the fill
     pub turn_end : count ≤ i
         → (out ≡ merged_row c out₀ (late_declared c (placed_attributes (base + fill) (attributes_from attributes names count at))))
         × ((f ≡ fill + length (attributes_contents (attributes_from attributes names count at)))
-        × (take f texts ≡ take fill texts₀ ++ attributes_contents (attributes_from attributes names count at)))
+        × (take f s.texts.now ≡ take fill s₀.texts.now ++ attributes_contents (attributes_from attributes names count at)))
     turn_end h =
         let z = none-behind attributes names at count i h in
         let n : attributes_contents (behind attributes names at count i) ≡ [] = ap attributes_contents z ∙ contents-none in (
           sym (ap (λ (l : List Attribute). merged_row c out (late_declared c (placed_attributes (base + f) l))) z ∙ late-done c base f out) ∙ v.row,
           (
             sym (add-zero f) ∙ ap (λ (l : List ℕ). f + length l) (sym n) ∙ v.fills,
-            sym (append-nil (take f texts)) ∙ ap (λ (l : List ℕ). take f texts ++ l) (sym n) ∙ v.lies,
+            sym (append-nil (take f s.texts.now)) ∙ ap (λ (l : List ℕ). take f s.texts.now ++ l) (sym n) ∙ v.lies,
           ),
         )
 
     module _ (h : i < count) where
       -- there is room for it and those behind it
-      next-room : InlineRoom (attribute_of attributes names (at + i) ∷ behind attributes names at count (i + 1)) base f rules tokens brackets texts
+      next-room : InlineRoom (attribute_of attributes names (at + i) ∷ behind attributes names at count (i + 1)) base f s.rules.now s.tokens.now s.brackets.now s.texts.now
       next-room = rw (more-behind attributes names at count i h) at v.room
 
       -- there is room for its value
-      pub turn-room : ValueRoom (length (attribute_value attributes names (at + i))) base f rules tokens brackets texts
+      pub turn-room : ValueRoom (length (attribute_value attributes names (at + i))) base f s.rules.now s.tokens.now s.brackets.now s.texts.now
       unfolding attribute_of
-      turn-room = room-first _ _ base f rules tokens brackets texts next-room
+      turn-room = room-first _ _ base f s.rules.now s.tokens.now s.brackets.now s.texts.now next-room
 
       -- a turn: what the attribute says is merged, and its contents are kept
-      pub turn-next : (f' : ℕ) (out' rules' tokens' brackets' texts' : List ℕ)
+      pub turn-next : (f' : ℕ) (out' : List ℕ) (s' : Stores)
           → out' ≡ merged_row c out (late_declared c (attribute_says (placed_styles (base + f)) (attribute_of attributes names (at + i))))
           → f' ≡ f + length (attribute_contents (attribute_of attributes names (at + i)))
-          → take f' texts' ≡ take f texts ++ attribute_contents (attribute_of attributes names (at + i))
-          → length out' ≡ length out → length rules' ≡ length rules → length tokens' ≡ length tokens → length brackets' ≡ length brackets → length texts' ≡ length texts
-          → Turn attributes names at count c base fill out₀ rules₀ tokens₀ brackets₀ texts₀ f' (i + 1) out' rules' tokens' brackets' texts'
-      turn-next f' out' rules' tokens' brackets' texts' p q w eo er et eb ex =
+          → take f' s'.texts.now ≡ take f s.texts.now ++ attribute_contents (attribute_of attributes names (at + i))
+          → SameLengths s s' → SameStores s s'
+          → Turn attributes names at count c base fill out₀ s₀ f' (i + 1) out' s'
+      turn-next f' out' s' p q w l z =
           let a = attribute_of attributes names (at + i) in
           let xs = behind attributes names at count (i + 1) in
           let m = more-behind attributes names at count i h in
-          let l : attributes_contents (behind attributes names at count i) ≡ attribute_contents a ++ attributes_contents xs = ap attributes_contents m ∙ contents-more a xs in
+          let e : attributes_contents (behind attributes names at count i) ≡ attribute_contents a ++ attributes_contents xs = ap attributes_contents m ∙ contents-more a xs in
           record {
             within_count = omega arith;
-            room = room_next a xs base f rules tokens brackets texts next-room f' rules' tokens' brackets' texts' (omega arith) er et eb ex;
-            out-long = eo ∙ v.out-long;
-            rules-long = er ∙ v.rules-long;
-            tokens-long = et ∙ v.tokens-long;
-            brackets-long = eb ∙ v.brackets-long;
-            texts-long = ex ∙ v.texts-long;
+            room = room_next a xs base f s.rules.now s.tokens.now s.brackets.now s.texts.now next-room f' s'.rules.now s'.tokens.now s'.brackets.now s'.texts.now (omega arith) l.rules l.tokens l.brackets l.texts;
+            lengths = lengths-kept _ _ _ v.lengths l;
+            same = stores-kept _ _ _ v.same z;
             row =
                 rw (p, q) (sym (late-more c base f a xs out))
                 ∙ sym (ap (λ (l : List Attribute). merged_row c out (late_declared c (placed_attributes (base + f) l))) m) ∙ v.row;
-            fills = omega (arith, v.fills, ap length l, length-append (attribute_contents a) (attributes_contents xs));
+            fills = omega (arith, v.fills, ap length e, length-append (attribute_contents a) (attributes_contents xs));
             lies =
-                ap (λ (x : List ℕ). x ++ attributes_contents xs) w ∙ append_assoc (take f texts) (attribute_contents a) (attributes_contents xs)
-                ∙ ap (λ (x : List ℕ). take f texts ++ x) (sym l) ∙ v.lies;
+                ap (λ (x : List ℕ). x ++ attributes_contents xs) w ∙ append_assoc (take f s.texts.now) (attribute_contents a) (attributes_contents xs)
+                ∙ ap (λ (x : List ℕ). take f s.texts.now ++ x) (sym e) ∙ v.lies;
           }
 
 -- ---- what they say before the author's rules
@@ -244,31 +233,38 @@ pub early-crate : (c : Cascade) (xs : List Attribute) (out : List ℕ) → c ≡
 unfolding early_declared
 early-crate c xs out e f = sym (merged-none c out) ∙ rw e
 
-module _ (attributes names : List ℕ) (at count : ℕ) (c : Cascade) (fill : ℕ) (out₀ tokens₀ brackets₀ texts₀ : List ℕ) where
+module _ (attributes names : List ℕ) (at count : ℕ) (c : Cascade) (fill : ℕ) (out₀ : List ℕ) (s₀ : Stores) where
   -- before the i-th attribute: the colours that are left lead to the row that all lead to
-  pub record ColourTurn (i : ℕ) (out tokens brackets texts : List ℕ) : Type 0 where
+  pub record ColourTurn (i : ℕ) (out : List ℕ) (s : Stores) : Type 0 where
     pub within_count : i ≤ count
-    pub room : InlineRoom (behind attributes names at count i) 0 fill tokens tokens brackets texts
-    pub out-long : length out ≡ length out₀
-    pub tokens-long : length tokens ≡ length tokens₀
-    pub brackets-long : length brackets ≡ length brackets₀
-    pub texts-long : length texts ≡ length texts₀
+    pub room : InlineRoom (behind attributes names at count i) 0 fill s.tokens.now s.tokens.now s.brackets.now s.texts.now
+    pub rules : s.rules.now ≡ s₀.rules.now
+    pub lengths : SameLengths s₀ s
+    pub same : SameStores s₀ s
     pub row : merged_row c out (map (from_attribute false no_specificity) (colours_say (behind attributes names at count i)))
         ≡ merged_row c out₀ (map (from_attribute false no_specificity) (colours_say (attributes_from attributes names count at)))
-    pub lies : take fill texts ≡ take fill texts₀
+    pub lies : take fill s.texts.now ≡ take fill s₀.texts.now
 
-module _ (attributes names : List ℕ) (at count : ℕ) (c : Cascade) (fill : ℕ) (out₀ tokens₀ brackets₀ texts₀ : List ℕ) where
+module _ (attributes names : List ℕ) (at count : ℕ) (c : Cascade) (fill : ℕ) (out₀ : List ℕ) (s₀ : Stores) where
   -- before the first attribute everything is as it was lent
-  pub colours-begin : InlineRoom (attributes_from attributes names count at) 0 fill tokens₀ tokens₀ brackets₀ texts₀
-      → ColourTurn attributes names at count c fill out₀ tokens₀ brackets₀ texts₀ 0 out₀ tokens₀ brackets₀ texts₀
+  pub colours-begin : InlineRoom (attributes_from attributes names count at) 0 fill s₀.tokens.now s₀.tokens.now s₀.brackets.now s₀.texts.now
+      → ColourTurn attributes names at count c fill out₀ s₀ 0 out₀ s₀
   colours-begin o =
       let e = all-behind attributes names at count in
-      record { within_count = omega arith; room = rw e o; out-long = refl; tokens-long = refl; brackets-long = refl; texts-long = refl; row = rw e; lies = refl }
+      record {
+        within_count = omega arith;
+        room = rw e o;
+        rules = refl;
+        lengths = lengths-stay s₀;
+        same = stores-stay s₀;
+        row = rw e;
+        lies = refl;
+      }
 
-  module _ (i : ℕ) (out tokens brackets texts : List ℕ) (v : ColourTurn attributes names at count c fill out₀ tokens₀ brackets₀ texts₀ i out tokens brackets texts) where
+  module _ (i : ℕ) (out : List ℕ) (s : Stores) (v : ColourTurn attributes names at count c fill out₀ s₀ i out s) where
     -- behind the last attribute all colours are merged, and the texts up to the fill are as they were
     pub colours-end : count ≤ i
-        → (out ≡ merged_row c out₀ (map (from_attribute false no_specificity) (colours_say (attributes_from attributes names count at)))) × (take fill texts ≡ take fill texts₀)
+        → (out ≡ merged_row c out₀ (map (from_attribute false no_specificity) (colours_say (attributes_from attributes names count at)))) × (take fill s.texts.now ≡ take fill s₀.texts.now)
     unfolding colours_say
     colours-end h =
         let z = none-behind attributes names at count i h in
@@ -276,24 +272,24 @@ module _ (attributes names : List ℕ) (at count : ℕ) (c : Cascade) (fill : �
 
     module _ (h : i < count) (name value : List ℕ) (en : name ≡ attribute_name attributes names (at + i)) (ev : value ≡ attribute_value attributes names (at + i)) where
       -- there is room for it and those behind it
-      colours-behind : InlineRoom (attribute_of attributes names (at + i) ∷ behind attributes names at count (i + 1)) 0 fill tokens tokens brackets texts
+      colours-behind : InlineRoom (attribute_of attributes names (at + i) ∷ behind attributes names at count (i + 1)) 0 fill s.tokens.now s.tokens.now s.brackets.now s.texts.now
       colours-behind = rw (more-behind attributes names at count i h) at v.room
 
       -- there is room for its value
-      pub colours-room : Room (length value) fill tokens brackets texts
+      pub colours-room : Room (length value) fill s.tokens.now s.brackets.now s.texts.now
       unfolding attribute_of
       colours-room =
-          let o = room-first _ _ 0 fill tokens tokens brackets texts colours-behind in
+          let o = room-first _ _ 0 fill s.tokens.now s.tokens.now s.brackets.now s.texts.now colours-behind in
           let e = ap length ev in
           record { for-tokens = omega (arith, o.for-tokens); for-brackets = omega (arith, o.for-brackets); for-texts = omega (arith, o.for-texts); bits = omega (arith, o.bits) }
 
       -- with the colour of the next attribute merged, those behind it are left
-      pub colours-next : (out' tokens' brackets' texts' : List ℕ)
+      pub colours-next : (out' : List ℕ) (s' : Stores)
           → out' ≡ merged_row c out (map (from_attribute false no_specificity) (attribute_colours (record { name = name; value = value })))
-          → take fill texts' ≡ take fill texts → length out' ≡ length out → length tokens' ≡ length tokens → length brackets' ≡ length brackets → length texts' ≡ length texts
-          → ColourTurn attributes names at count c fill out₀ tokens₀ brackets₀ texts₀ (i + 1) out' tokens' brackets' texts'
+          → take fill s'.texts.now ≡ take fill s.texts.now → s'.rules.now ≡ s.rules.now → SameLengths s s' → SameStores s s'
+          → ColourTurn attributes names at count c fill out₀ s₀ (i + 1) out' s'
       unfolding colours_say attribute_of
-      colours-next out' tokens' brackets' texts' p w eo et eb ex =
+      colours-next out' s' p w u l z =
           let a = attribute_of attributes names (at + i) in
           let xs = behind attributes names at count (i + 1) in
           let m = more-behind attributes names at count i h in
@@ -304,11 +300,10 @@ module _ (attributes names : List ℕ) (at count : ℕ) (c : Cascade) (fill : �
           in
           record {
             within_count = omega arith;
-            room = room_next a xs 0 fill tokens tokens brackets texts colours-behind fill tokens' tokens' brackets' texts' (omega arith) et et eb ex;
-            out-long = eo ∙ v.out-long;
-            tokens-long = et ∙ v.tokens-long;
-            brackets-long = eb ∙ v.brackets-long;
-            texts-long = ex ∙ v.texts-long;
+            room = room_next a xs 0 fill s.tokens.now s.tokens.now s.brackets.now s.texts.now colours-behind fill s'.tokens.now s'.tokens.now s'.brackets.now s'.texts.now (omega arith) l.tokens l.tokens l.brackets l.texts;
+            rules = u ∙ v.rules;
+            lengths = lengths-kept _ _ _ v.lengths l;
+            same = stores-kept _ _ _ v.same z;
             row = rw (p, en, ev) (sym k) ∙ v.row;
             lies = w ∙ v.lies;
           }

@@ -1,14 +1,18 @@
 // `color` and `bgcolor`.
+//
+// In this crate `out`, `stores` and `fill` stay apart: the row has nothing to do with how far the stores are filled, and the fill is a number that some
+// functions answer anew and others only pass on. Of a struct of them each contract would say which parts stay.
 ghost use Rattle.std.specs.Prelude.{◌≡◌, false, map, length, take};
 ghost use Rattle.values.specs.Layout.{Room};
 ghost use Rattle.cascade.specs.Record.{from_attribute};
-ghost use Rattle.cascade.specs.Row.{RowRoom};
+ghost use Rattle.combinators.specs.Lent.{SameStores, SameLengths};
 ghost use Rattle.styles.specs.Merged.{merged_row};
 ghost use Rattle.attributes.specs.Merging.{colour_says, attribute_colours};
 
-use cascade::rows::{MAIN, merge_computed_style};
+use cascade::rows::{MAIN, StyleRow, merge_computed_style};
 use cascade::slots::Cascade;
 use cascade::specificity::Specificity;
+use combinators::lent::Stores;
 use combinators::texts::same_text;
 use declarations::attributes::parse_color_attribute;
 use syntax::rows::{AUTHOR_ORIGIN, BACKGROUND_SLOT, COLOUR_SLOT};
@@ -24,18 +28,18 @@ fn merge_colour(
     spec: Specificity,
     slot: u32,
     value: &[u8],
-    out: &mut [u32],
-    tokens: &mut [u32],
-    brackets: &mut [u8],
-    texts: &mut [u8],
+    out: &mut StyleRow,
+    stores: &mut Stores<'_>,
     fill: usize,
 )
-    requires row_room { RowRoom out.old }
-    requires room { Room (length value.now) fill tokens.old brackets.old texts.old }
+    requires { Room (length value.now) fill stores.old.tokens.now stores.old.brackets.now stores.old.texts.now }
     ensures out_after { out.new ≡ merged_row cascade out.old (map (from_attribute false spec) (colour_says slot value.now)) }
-    ensures texts_unchanged { take fill texts.new ≡ take fill texts.old }
+    ensures texts_unchanged { take fill stores.new.texts.now ≡ take fill stores.old.texts.now }
+    ensures rules_unchanged { stores.new.rules.now ≡ stores.old.rules.now }
+    ensures lengths { SameLengths stores.old stores.new }
+    ensures same { SameStores stores.old stores.new }
 {
-    if let Some(number) = parse_color_attribute(value, tokens, brackets, texts, fill) {
+    if let Some(number) = parse_color_attribute(value, stores, fill) {
         let colour = Value {
             number,
             second: 0,
@@ -56,40 +60,20 @@ pub fn merge_colour_attribute(
     spec: Specificity,
     name: &[u8],
     value: &[u8],
-    out: &mut [u32],
-    tokens: &mut [u32],
-    brackets: &mut [u8],
-    texts: &mut [u8],
+    out: &mut StyleRow,
+    stores: &mut Stores<'_>,
     fill: usize,
 )
-    requires row_room { RowRoom out.old }
-    requires room { Room (length value.now) fill tokens.old brackets.old texts.old }
+    requires { Room (length value.now) fill stores.old.tokens.now stores.old.brackets.now stores.old.texts.now }
     ensures out_after { out.new ≡ merged_row cascade out.old (map (from_attribute false spec) (attribute_colours (record { name = name.now; value = value.now }))) }
-    ensures texts_unchanged { take fill texts.new ≡ take fill texts.old }
+    ensures texts_unchanged { take fill stores.new.texts.now ≡ take fill stores.old.texts.now }
+    ensures rules_unchanged { stores.new.rules.now ≡ stores.old.rules.now }
+    ensures lengths { SameLengths stores.old stores.new }
+    ensures same { SameStores stores.old stores.new }
 {
     if same_text(name, &COLOR_NAME) {
-        merge_colour(
-            cascade,
-            spec,
-            COLOUR_SLOT,
-            value,
-            out,
-            tokens,
-            brackets,
-            texts,
-            fill,
-        );
+        merge_colour(cascade, spec, COLOUR_SLOT, value, out, stores, fill);
     } else if same_text(name, &BGCOLOR_NAME) {
-        merge_colour(
-            cascade,
-            spec,
-            BACKGROUND_SLOT,
-            value,
-            out,
-            tokens,
-            brackets,
-            texts,
-            fill,
-        );
+        merge_colour(cascade, spec, BACKGROUND_SLOT, value, out, stores, fill);
     }
 }

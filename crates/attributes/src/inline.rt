@@ -2,20 +2,21 @@
 ghost use Rattle.std.specs.Prelude.{◌≡◌, true, ◌++◌, map, ◌+◌, length, take};
 ghost use Rattle.syntax.specs.Layout.{style_texts};
 ghost use Rattle.declarations.specs.Attribute.{style_attribute};
-ghost use Rattle.cascade.specs.Row.{RowRoom};
 ghost use Rattle.styles.specs.Said.{attribute_style};
 ghost use Rattle.styles.specs.StyleCall.{placed_styles};
+ghost use Rattle.combinators.specs.Lent.{SameStores, SameLengths};
 ghost use Rattle.styles.specs.Merged.{merged_row, late_declared};
 ghost use Rattle.attributes.specs.Merging.{inline_important, shifted, inline_style, Shiftable, rows_declared, InlineRows, ValueRoom};
 
-use cascade::rows::{MAIN, merge_computed_style};
+use cascade::rows::{MAIN, StyleRow, merge_computed_style};
 use cascade::slots::Cascade;
 use cascade::specificity::Specificity;
+use combinators::lent::Stores;
 use declarations::attributes::parse_style_attribute;
 use syntax::rows::{AUTHOR_ORIGIN, CONTENT_SLOT, STYLE_WIDTH};
 use syntax::styles::{StyleNumbers, Value, style_at};
 
-// Whether a style of a `style` attribute is important: in the crate's cascade none is.
+// Whether a style of a `style` attribute is important: in the crate's cascade none is. The two arms are the definition's two lines.
 fn inline_important(cascade: Cascade, important: bool) -> bool
     ensures { result ≡ inline_important cascade important }
 {
@@ -53,10 +54,16 @@ fn inline_style(cascade: Cascade, base: usize, style: StyleNumbers) -> StyleNumb
     }
 }
 
-// The styles of the first `count` style rows, as an author's inline values for the element's own record.
-fn merge_inline_styles(cascade: Cascade, tokens: &[u32], count: usize, base: usize, out: &mut [u32])
-    requires row_room { RowRoom out.old }
-    requires inline_rows { InlineRows base count tokens.now }
+// The styles of the first `count` style rows, as an author's inline values for the element's own record. `count` is what reading
+// them answered; the store goes on behind them, and the length of a part cut by it would be divided to have it again.
+fn merge_inline_styles(
+    cascade: Cascade,
+    tokens: &[u32],
+    count: usize,
+    base: usize,
+    out: &mut StyleRow,
+)
+    requires { InlineRows base count tokens.now }
     ensures { out.new ≡ merged_row cascade out.old (rows_declared cascade base count tokens.now) }
 {
     for i in 0..count {
@@ -73,24 +80,24 @@ fn merge_inline_styles(cascade: Cascade, tokens: &[u32], count: usize, base: usi
 }
 
 // What the value of a `style` attribute says; its contents lie in `texts` from `fill` on. The fill behind them.
+// `base` is where the starts of contents count from, a number of the caller's; for the others see the head of colours.rt.
 pub fn merge_style_attribute(
     cascade: Cascade,
     value: &[u8],
     base: usize,
-    out: &mut [u32],
-    rules: &mut [u32],
-    tokens: &mut [u32],
-    brackets: &mut [u8],
-    texts: &mut [u8],
+    out: &mut StyleRow,
+    stores: &mut Stores<'_>,
     fill: usize,
 ) -> usize
-    requires row_room { RowRoom out.old }
-    requires value_room { ValueRoom (length value.now) base fill rules.old tokens.old brackets.old texts.old }
+    requires { ValueRoom (length value.now) base fill stores.old.rules.now stores.old.tokens.now stores.old.brackets.now stores.old.texts.now }
     ensures out_after { out.new ≡ merged_row cascade out.old (late_declared cascade (map (attribute_style true) (placed_styles (base + fill) (style_attribute value.now)))) }
     ensures value { result ≡ fill + length (style_texts (style_attribute value.now)) }
-    ensures texts_after { take result texts.new ≡ take fill texts.old ++ style_texts (style_attribute value.now) }
+    ensures texts_after { take result stores.new.texts.now ≡ take fill stores.old.texts.now ++ style_texts (style_attribute value.now) }
+    ensures lengths { SameLengths stores.old stores.new }
+    ensures same { SameStores stores.old stores.new }
 {
-    let read = parse_style_attribute(value, rules, tokens, brackets, texts, fill);
-    merge_inline_styles(cascade, tokens, read.count, base, out);
+    let read = parse_style_attribute(value, stores, fill);
+    let rows = &mut *stores.tokens;
+    merge_inline_styles(cascade, rows, read.count, base, out);
     fill + read.text
 }

@@ -1,14 +1,12 @@
--- The row that an element begins with, and what it inherits behind its declarations, are the written rows of these styles; and rows lent out of longer stores. Assumes
--- nothing.
+-- The row that an element begins with, and what it inherits behind its declarations, are the written rows of these styles. Assumes nothing.
 use mathlib.Core.Path.{◌≡◌, refl, sym, ap, ◌∙◌, subst}
 use Rattle.std.specs.Prelude.{Some, None}
 use mathlib.Core.Bool.{Bool, true, false}
-use mathlib.Core.List.{List, [], ◌∷◌, ◌++◌, foldl, append-nil}
-use Prim.Native.Nat.{ℕ, ◌+◌, ◌-◌, ◌*◌, ◌≤◌, ◌<◌}
+use mathlib.Core.List.{List, [], ◌∷◌, foldl}
+use Prim.Native.Nat.{ℕ, ◌*◌, ◌≤◌, ◌<◌}
 use native.Mathlib.Omega.{arith}
-use lib.ListN.{length, get_or, set, take, drop, replicate, length-set, length-take, length-drop, length-replicate, drop_of_length-le}
-use lib.Seq.{sets, sets-eq, get_or-set_same}
-use borrow.Rule.Slice.PartMut.{put_mid, Post-is}
+use lib.ListN.{length, get_or, set, replicate, length-set}
+use lib.Seq.{sets, get_or-set_same}
 use Rattle.combinators.specs.Choice.{pick, is}
 use Rattle.combinators.specs.Store.{wiped}
 use Rattle.combinators.proofs.Rules.{pick_true, pick-false, pick-holds, is-no}
@@ -21,7 +19,8 @@ use Rattle.cascade.specs.declared.slots.Cascade.TheVariants.{Crate, Book}
 use Rattle.cascade.specs.declared.slots.Slot as slots
 use Rattle.cascade.specs.Slot.{Candidate, Slot, fill_update, candidate_by, slot_by, held_by}
 use Rattle.cascade.specs.Record.{slot_count, record_count, main_record, before_record, after_record, ComputedStyle, Formed, record_in, slot_in, empty_record, empty_style, Declared, inherit_by, Handed, handed_by, handed_slot, handed_on, fill_record, fill_pseudo, finish_by}
-use Rattle.cascade.specs.Row.{record_width, style_row_width, record_place, slot_place, slot_numbers, slots_numbers, record_numbers, row_of, slot_at, record_at, style_at, AllFine, RowFine, RowRoom, present_flag, present_row, merge_row_by, inherited_row, handed_says, handed_at, filled_row, filled_pseudo, finished_row, Finished}
+use Rattle.cascade.specs.Row.{record_width, style_row_width, record_place, slot_place, slot_numbers, slots_numbers, record_numbers, row_of, slot_at, record_at, style_at, AllFine, RowFine, present_flag, present_row, merge_row_by, inherited_row, handed_says, handed_at, filled_row, filled_pseudo, finished_row, Finished}
+use Rattle.cascade.proofs.Windows.{all-wiped}
 use Rattle.cascade.proofs.RowLaws.{flag_one, slot-there, same-windows, Which, is_main, is_before, is_after, which}
 use Rattle.cascade.proofs.RowBack.{same-fine, row-long, row_fine, row_back, style-back, empty-formed, merges-view, merges-fine}
 use Rattle.cascade.proofs.Merging.{merge-long, merge-steps}
@@ -47,11 +46,7 @@ zeros-row = refl
 
 -- a wiped row is that row
 wiped-row : (xs : List ℕ) → length xs ≡ style_row_width → wiped 0 style_row_width xs ≡ row_of empty_style
-unfolding wiped
-wiped-row xs e =
-    let l : length (replicate {A = ℕ} style_row_width 0) ≡ style_row_width = length-replicate {A = ℕ} style_row_width 0 in
-    sets-eq (replicate style_row_width 0) xs 0 (omega (arith, e, l)) ∙ ap (λ (r : List ℕ). replicate style_row_width 0 ++ r) (drop_of_length-le xs {i = 0 + length (replicate {A = ℕ} style_row_width 0)} (omega (arith, e, l)))
-    ∙ append-nil (replicate style_row_width 0) ∙ sym zeros-row
+wiped-row xs e = sym (all-wiped xs style_row_width e) ∙ ap (λ (n : ℕ). replicate n 0) e ∙ sym zeros-row
 
 -- the row that a child begins with is well formed
 pub inherit-fine : (c : Cascade) (xs : List ℕ) → RowFine xs → RowFine (inherited_row c xs)
@@ -200,22 +195,8 @@ pub finished-by-crate : (k : Cascade) (h : Handed Value) (xs : List ℕ) → k �
 finished-by-crate k h xs i = rw i (unfold finished_row finish_by in record { numbers = refl; meaning = refl })
 
 -- in the book order the main record is filled, then the others
-pub finished-in-book-order : (k : Cascade) (h : Handed Value) (xs a b ys : List ℕ) → k ≡ Book → RowRoom xs → a ≡ filled_row main_record h xs → b ≡ filled_pseudo before_record a → ys ≡ filled_pseudo after_record b
+pub finished-in-book-order : (k : Cascade) (h : Handed Value) (xs a b ys : List ℕ) → k ≡ Book → length xs ≡ style_row_width → a ≡ filled_row main_record h xs → b ≡ filled_pseudo before_record a → ys ≡ filled_pseudo after_record b
     → Finished k h xs ys
 finished-in-book-order k h xs a b ys i room e f g =
     let n : ys ≡ finished_row Book h xs = unfold finished_row in (g ∙ ap (filled_pseudo after_record) (f ∙ ap (filled_pseudo before_record) e)) in
-    rw i (record { numbers = n; meaning = ap style_at n ∙ finished-view Book h xs room.room })
-
--- ---- a row lent out of a longer store, and put back
-module _ (xs : List ℕ) (i : ℕ) (h : i + style_row_width ≤ length xs) where
-  -- a style has room in it
-  pub lent-room : RowRoom (take (i + style_row_width - i) (drop i xs))
-  lent-room = record { room = simp (length-take, length-drop) (omega arith) }
-
-  -- it is the row that stands there
-  pub lent_row : take (i + style_row_width - i) (drop i xs) ≡ take style_row_width (drop i xs)
-  lent_row = let z : i + style_row_width - i ≡ style_row_width = omega arith in ap (λ (n : ℕ). take n (drop i xs)) z
-
-  -- the rest of the store stays
-  pub row-returned : (ys : List ℕ) → put_mid i (i + style_row_width - i) xs ys ≡ take i xs ++ (ys ++ drop (i + style_row_width) xs)
-  row-returned ys = ap (λ (r : List ℕ). take i xs ++ (ys ++ r)) (Post-is i (i + style_row_width) xs (omega arith))
+    rw i (record { numbers = n; meaning = ap style_at n ∙ finished-view Book h xs (omega (arith, room)) })

@@ -1,13 +1,13 @@
 -- Numbers read from a list at a place, after stores. Assumes nothing.
 use mathlib.Core.Path.{◌≡◌, refl, sym, ap, ◌∙◌}
-use mathlib.Core.List.{List, [], ◌∷◌, ◌++◌, append_assoc}
+use mathlib.Core.List.{List, [], ◌∷◌, ◌++◌, append_assoc, append-nil}
 use Prim.Native.Nat.{ℕ, zero, suc, ◌+◌, ◌-◌, ◌≤◌, ◌<◌}
 use native.Mathlib.Nat.{add-zero}
 use native.Mathlib.Omega.{arith}
 use Rattle.std.specs.List.{copy_within}
 use borrow.Rule.Slice.PartMut.{put_mid}
-use lib.ListN.{length, get_or, set, take, drop, replicate, length-append, length-drop, length-replicate}
-use Rattle.combinators.specs.Store.{wiped}
+use lib.ListN.{length, get_or, set, take, drop, replicate, length-append, length-drop, length-replicate, drop_of_length-le}
+use Rattle.combinators.specs.Store.{wiped, filled_part}
 use lib.Seq.{sets, length-sets, sets-eq, drop-cons, drop_at, take_at, length-take-le, get_or-set_other, drop-drop}
 use Rattle.cascade.specs.Row.{reads}
 
@@ -70,24 +70,15 @@ module _ (xs : List ℕ) (i n : ℕ) (h : i + n ≤ length xs) where
       let d : drop n (drop i xs) ≡ drop (i + length vs) xs = rw e (drop-drop n i xs) in
       ap (λ (r : List ℕ). take i xs ++ (vs ++ r)) d ∙ sym (append_assoc (take i xs) vs (drop (i + length vs) xs)) ∙ sym (sets-eq vs xs i (omega (arith, e)))
 
-  -- zeros there, in a part with its length k as the code has it
-  pub part-wiped : (k : ℕ) → k ≡ n → (ys : List ℕ) → ys ≡ replicate (length (take k (drop i xs))) 0 → put_mid i k xs ys ≡ wiped i n xs
-  unfolding wiped
-  part-wiped k z ys e =
-      let l : length (take n (drop i xs)) ≡ n = length-take-le n (drop i xs) (omega (arith, length-drop i xs)) in
-      let f : length (take k (drop i xs)) ≡ n = ap (λ (j : ℕ). length (take j (drop i xs))) z ∙ l in
-      ap (λ (j : ℕ). put_mid i j xs ys) z ∙ ap (put_mid i n xs) (e ∙ ap (λ (j : ℕ). replicate j 0) f) ∙ part-sets (replicate n 0) (length-replicate n 0)
-
--- zeros at the start
-pub front-wiped : (ys xs : List ℕ) (n : ℕ) → n ≤ length xs → ys ≡ replicate (length (take n xs)) 0 → ys ++ drop n xs ≡ wiped 0 n xs
-unfolding wiped
-front-wiped ys xs n h e =
+-- zeros in place of every number
+pub all-wiped : (xs : List ℕ) (n : ℕ) → length xs ≡ n → replicate (length xs) 0 ≡ wiped 0 n xs
+unfolding filled_part
+all-wiped xs n e =
     let zs : List ℕ = replicate n 0 in
     let l : length zs ≡ n = length-replicate n 0 in
-    let d : n ≡ 0 + length zs = omega arith in
-    ap (λ (r : List ℕ). r ++ drop n xs) (e ∙ ap (λ (k : ℕ). replicate k 0) (length-take-le n xs h))
-    ∙ ap (λ (k : ℕ). zs ++ drop k xs) d
-    ∙ sym (sets-eq zs xs 0 (omega arith))
+    ap (λ (k : ℕ). replicate k 0) e ∙ sym (append-nil zs)
+    ∙ ap (λ (r : List ℕ). zs ++ r) (sym (drop_of_length-le xs {i = 0 + length zs} (omega (arith, e, l))))
+    ∙ sym (sets-eq zs xs 0 (omega (arith, e, l)))
 
 -- a part copied over another
 pub part-copied : (xs : List ℕ) (from to n : ℕ) → from + n ≤ length xs → to + n ≤ length xs → copy_within xs from (from + n) to ≡ sets xs to (take n (drop from xs))

@@ -148,15 +148,7 @@ pub record RowFine (xs : List ℕ) : Type 0 where
   pub before : RecordFine xs (record_place before_record)
   pub after : RecordFine xs (record_place after_record)
 
--- ---- what is asked of a lent row: that a style has room
-pub record RowRoom (xs : List ℕ) : Type 0 where
-  pub room : style_row_width ≤ length xs
-
--- and of a place in it, that a slot has
-pub record SlotRoom (xs : List ℕ) (i : ℕ) : Type 0 where
-  pub room : i + slot_width ≤ length xs
-
--- and of two rows in one store
+-- ---- what is asked of two rows in one store: that the one stands before the other, and both have room
 pub record TwoRooms (xs : List ℕ) (from to : ℕ) : Type 0 where
   pub apart : from + style_row_width ≤ to
   pub room : to + style_row_width ≤ length xs

@@ -2,9 +2,9 @@
 ghost use Rattle.std.specs.Prelude.{◌≡◌, ◌+◌, ◌*◌, ◌<◌, set, take, drop};
 ghost use Rattle.std.proofs.lemmas.List.Edits.{sets};
 ghost use mathlib.Core.List.{foldl};
-ghost use Rattle.cascade.specs.Slot.{candidate_by, slot_by, held, fill_update};
+ghost use Rattle.cascade.specs.Slot.{slot_by, fill_update};
 ghost use Rattle.cascade.specs.Record.{record_count, slot_count, handed_slot};
-ghost use Rattle.cascade.specs.Row.{slot_at, slot_numbers, record_place, present_flag, style_row_width, merge_row_by, handed_says, handed_at, filled_row, filled_pseudo, RowRoom, SlotRoom, TwoRooms, Merged, Inherited, Finished, Emptied};
+ghost use Rattle.cascade.specs.Row.{slot_at, slot_numbers, record_place, slot_place, present_flag, style_row_width, merge_row_by, handed_says, handed_at, filled_row, filled_pseudo, TwoRooms, Merged, Inherited, Finished, Emptied};
 
 use crate::slots::{Candidate, Cascade, Slot, Weight};
 use crate::specificity::Specificity;
@@ -53,6 +53,9 @@ pub const AFTER: usize = 2;
 
 pub const STYLE_ROW_WIDTH: usize = RECORD_COUNT * RECORD_WIDTH;
 
+// It is lent with its length in its type.
+pub type StyleRow = [u32; STYLE_ROW_WIDTH];
+
 // What an element hands on in the book order to its children and to its own pseudo elements, from its main record.
 #[derive(Clone, Copy)]
 pub struct Handed {
@@ -60,20 +63,21 @@ pub struct Handed {
     pub white_space: Slot,
 }
 
-// Where these slots begin in a row.
-const COLOR_PLACE: usize = MAIN * RECORD_WIDTH
-    + PRESENCE_WIDTH
-    + (COLOUR_SLOT as usize) * SLOT_WIDTH;
-
-const WHITE_SPACE_PLACE: usize = MAIN * RECORD_WIDTH
-    + PRESENCE_WIDTH
-    + (WHITE_SPACE_SLOT as usize) * SLOT_WIDTH;
-
-// The slot that begins at a place.
-fn read_slot(row: &[u32], at: usize) -> Slot
-    requires { SlotRoom row.now at }
-    ensures { slot_by result ≡ slot_at row.now at }
+// Where a slot of a record begins, by the record's number and its own. The clause keeps the place within a row: `merge_computed_style` tests it once, and all
+// other numbers are constants, so that a type for the two would be made only to be taken apart.
+fn slot_place(pseudo: usize, slot: usize) -> usize
+    requires { (pseudo < record_count) × (slot < slot_count) }
+    ensures { result ≡ slot_place pseudo slot }
 {
+    pseudo * RECORD_WIDTH + PRESENCE_WIDTH + slot * SLOT_WIDTH
+}
+
+// The slot that stands there.
+fn read_slot(row: &StyleRow, pseudo: usize, slot: usize) -> Slot
+    requires { (pseudo < record_count) × (slot < slot_count) }
+    ensures { slot_by result ≡ slot_at row.now (slot_place pseudo slot) }
+{
+    let at = slot_place(pseudo, slot);
     if row[at + SLOT_FILLED] != FLAG_TRUE {
         return Slot::EMPTY;
     }
@@ -96,64 +100,52 @@ fn read_slot(row: &[u32], at: usize) -> Slot
     Slot::new(Candidate { weight, value })
 }
 
-// The numbers of a filled slot, from a place on.
-fn write_held(row: &mut [u32], at: usize, candidate: Candidate)
-    requires { SlotRoom row.old at }
-    ensures { row.new ≡ sets row.old at (slot_numbers (held (candidate_by candidate))) }
-{
-    let Candidate { weight, value } = candidate;
-    let spec = weight.spec;
-    row[at..at + SLOT_WIDTH].copy_from_slice(&[
-        FLAG_TRUE,
-        weight.origin,
-        flag_of(spec.inline),
-        spec.id,
-        spec.class,
-        spec.typ,
-        flag_of(weight.important),
-        value.number,
-        value.second,
-        value.start,
-    ]);
-}
-
 // The numbers of a slot: one that holds nothing is zeros.
-fn write_slot(row: &mut [u32], at: usize, slot: Slot)
-    requires { SlotRoom row.old at }
-    ensures { row.new ≡ sets row.old at (slot_numbers (slot_by slot)) }
+fn numbers_of(slot: Slot) -> [u32; SLOT_WIDTH]
+    ensures { result ≡ slot_numbers (slot_by slot) }
 {
     match slot.held {
-        Some(candidate) => write_held(row, at, candidate),
-        None => row[at..at + SLOT_WIDTH].fill(0),
+        Some(held) => [
+            FLAG_TRUE,
+            held.weight.origin,
+            flag_of(held.weight.spec.inline),
+            held.weight.spec.id,
+            held.weight.spec.class,
+            held.weight.spec.typ,
+            flag_of(held.weight.important),
+            held.value.number,
+            held.value.second,
+            held.value.start,
+        ],
+        None => [0; SLOT_WIDTH],
     }
 }
 
 // The slot is put back at its place, and its record is present.
-fn put_back(row: &mut [u32], pseudo: usize, at: usize, slot: Slot)
-    requires { RowRoom row.old × (pseudo < record_count) × SlotRoom row.old at }
-    ensures { row.new ≡ set (sets row.old at (slot_numbers (slot_by slot))) (record_place pseudo) present_flag }
+fn put_back(row: &mut StyleRow, pseudo: usize, slot: usize, updated: Slot)
+    requires { (pseudo < record_count) × (slot < slot_count) }
+    ensures { row.new ≡ set (sets row.old (slot_place pseudo slot) (slot_numbers (slot_by updated))) (record_place pseudo) present_flag }
 {
-    write_slot(row, at, slot);
+    let at = slot_place(pseudo, slot);
+    row[at..at + SLOT_WIDTH].copy_from_slice(&numbers_of(updated));
     row[pseudo * RECORD_WIDTH] = FLAG_TRUE;
 }
 
 // One style of an origin and a specificity, as the cascade merges it. One for a record or a slot that there is not changes nothing.
 pub fn merge_computed_style(
-    row: &mut [u32],
+    row: &mut StyleRow,
     cascade: Cascade,
     pseudo: usize,
     origin: u32,
     spec: Specificity,
     style: StyleNumbers,
 )
-    requires { RowRoom row.old }
     ensures { Merged cascade row.old row.new (record { pseudo = pseudo; slot = style.slot; candidate = record { weight = record { important = style.important; origin = origin; spec = spec }; value = style.value } }) }
 {
     let slot = style.slot as usize;
     if pseudo >= RECORD_COUNT || slot >= SLOT_COUNT {
         return;
     }
-    let at = pseudo * RECORD_WIDTH + PRESENCE_WIDTH + slot * SLOT_WIDTH;
     let weight = Weight {
         important: style.important,
         origin,
@@ -163,11 +155,12 @@ pub fn merge_computed_style(
         weight,
         value: style.value,
     };
-    let old = read_slot(row, at);
-    put_back(row, pseudo, at, old.update(cascade, new));
+    let old = read_slot(row, pseudo, slot);
+    put_back(row, pseudo, slot, old.update(cascade, new));
 }
 
-// A style over another that stands behind it in the same store, since two parts of it cannot be lent at once.
+// A style over another that stands behind it in the same store, since two parts of it cannot be lent at once. The store stays a slice of
+// numbers: of its chunks (`as_chunks_mut`) nothing is promised of what it ends as.
 pub fn copy_within(rows: &mut [u32], parent: usize, child: usize)
     requires { TwoRooms rows.old parent child }
     ensures { rows.new ≡ sets rows.old child (take style_row_width (drop parent rows.old)) }
@@ -175,44 +168,42 @@ pub fn copy_within(rows: &mut [u32], parent: usize, child: usize)
     rows.copy_within(parent..parent + STYLE_ROW_WIDTH, child);
 }
 
-// The row that a child begins with, in place of its parent's: in the crate's cascade all of it, in the book order nothing.
-pub fn inherit(row: &mut [u32], cascade: Cascade)
-    requires { RowRoom row.old }
+// The row that a child begins with, in place of its parent's: in the crate's cascade all of it, in the book order nothing. A `match`, here and in `finish`: the
+// definitions go by the same two cases, and nothing else is to be handed on as a function.
+pub fn inherit(row: &mut StyleRow, cascade: Cascade)
     ensures { Inherited cascade row.old row.new }
 {
     match cascade {
         Cascade::Crate => {}
-        Cascade::Book => row[..STYLE_ROW_WIDTH].fill(0), // all three records
+        Cascade::Book => row.fill(0), // all three records
     }
     row[MAIN * RECORD_WIDTH] = FLAG_TRUE;
 }
 
 // What the element of a row hands on in the book order.
-pub fn handed_on(row: &[u32]) -> Handed
-    requires { RowRoom row.now }
+pub fn handed_on(row: &StyleRow) -> Handed
     ensures { handed_says result ≡ handed_at row.now }
 {
     Handed {
-        color: read_slot(row, COLOR_PLACE),
-        white_space: read_slot(row, WHITE_SPACE_PLACE),
+        color: read_slot(row, MAIN, COLOUR_SLOT as usize),
+        white_space: read_slot(row, MAIN, WHITE_SPACE_SLOT as usize),
     }
 }
 
 // A slot of a record filled from one that is handed on.
-fn fill_slot(row: &mut [u32], pseudo: usize, slot: usize, from: Slot)
-    requires { RowRoom row.old × (pseudo < record_count) × (slot < slot_count) }
+fn fill_slot(row: &mut StyleRow, pseudo: usize, slot: usize, from: Slot)
+    requires { (pseudo < record_count) × (slot < slot_count) }
     ensures { row.new ≡ foldl (merge_row_by fill_update) row.old (handed_slot pseudo slot (slot_by from)) }
 {
     if let Some(handed) = from.held {
-        let at = pseudo * RECORD_WIDTH + PRESENCE_WIDTH + slot * SLOT_WIDTH;
-        let old = read_slot(row, at);
-        put_back(row, pseudo, at, old.fill(handed));
+        let old = read_slot(row, pseudo, slot);
+        put_back(row, pseudo, slot, old.fill(handed));
     }
 }
 
 // Both slots of a record that inherit.
-fn fill_record(row: &mut [u32], pseudo: usize, from: Handed)
-    requires { RowRoom row.old × (pseudo < record_count) }
+fn fill_record(row: &mut StyleRow, pseudo: usize, from: Handed)
+    requires { (pseudo < record_count) }
     ensures { row.new ≡ filled_row pseudo (handed_says from) row.old }
 {
     fill_slot(row, pseudo, COLOUR_SLOT as usize, from.color);
@@ -220,8 +211,8 @@ fn fill_record(row: &mut [u32], pseudo: usize, from: Handed)
 }
 
 // Those of a pseudo record, from the element's own main record, if a rule has made it present.
-fn fill_pseudo(row: &mut [u32], pseudo: usize)
-    requires { RowRoom row.old × (pseudo < record_count) }
+fn fill_pseudo(row: &mut StyleRow, pseudo: usize)
+    requires { (pseudo < record_count) }
     ensures { row.new ≡ filled_pseudo pseudo row.old }
 {
     if row[pseudo * RECORD_WIDTH] == FLAG_TRUE {
@@ -231,8 +222,7 @@ fn fill_pseudo(row: &mut [u32], pseudo: usize)
 }
 
 // What an element inherits where nothing is declared, behind all that is declared: in the crate's cascade it began with it.
-pub fn finish(row: &mut [u32], cascade: Cascade, parent: Handed)
-    requires { RowRoom row.old }
+pub fn finish(row: &mut StyleRow, cascade: Cascade, parent: Handed)
     ensures { Finished cascade (handed_says parent) row.old row.new }
 {
     match cascade {
@@ -246,9 +236,8 @@ pub fn finish(row: &mut [u32], cascade: Cascade, parent: Handed)
 }
 
 // The row in which nothing is declared.
-pub fn clear_row(row: &mut [u32])
-    requires { RowRoom row.old }
+pub fn clear_row(row: &mut StyleRow)
     ensures { Emptied row.old row.new }
 {
-    row[..STYLE_ROW_WIDTH].fill(0);
+    row.fill(0);
 }

@@ -108,7 +108,8 @@ impl Slot {
         }
     }
 
-    // As the crate updates it: the new value is taken unless importance, origin or specificity hold it back, in this order.
+    // As the crate updates it: the new value is taken unless importance, origin or specificity hold it back, in this order. This and the next stay two functions, since
+    // they are two rules, each with its definition, and differ in all but the `match`.
     pub fn maybe_update(self, new: Candidate) -> Self
         ensures { slot_by result ≡ maybe_update (slot_by self) (candidate_by new) }
     {
@@ -128,7 +129,7 @@ impl Slot {
         }
     }
 
-    // By either cascade.
+    // By either cascade. The definition goes by the same two cases, so a `match` is no longer than a function that is handed on.
     pub fn update(self, cascade: Cascade, new: Candidate) -> Self
         ensures { slot_by result ≡ update_by cascade (slot_by self) (candidate_by new) }
     {

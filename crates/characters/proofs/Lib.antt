@@ -1,6 +1,5 @@
 pub mod Scalars
 pub mod Reading
-pub mod Writing
 pub mod RoundTrip
 pub mod Texts
 pub mod WhiteSpaces

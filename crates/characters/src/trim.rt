@@ -6,7 +6,7 @@ ghost use Rattle.characters.specs.Trim.{white_taken, word_taken};
 use crate::utf8::scalar_at;
 use crate::white_space::is_white_space;
 
-// How many bytes of White_Space `s` begins with.
+// How many bytes of White_Space `s` begins with. A step, here and below, is what a character takes, so this is no range.
 pub fn trim_start(s: &[u8]) -> usize
     ensures value { result ≡ many white_taken 0 0 s.now }
     ensures upper_bound { result ≤ length s.now }

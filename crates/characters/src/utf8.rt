@@ -1,10 +1,11 @@
 // UTF-8 by the Unicode Standard, section 3.9: Table 3-6 (the bytes of a scalar value) and Table 3-7 (well-formed byte sequences).
-ghost use Rattle.std.specs.Prelude.{◌≡◌, [], ◌∷◌, length};
+ghost use Rattle.std.specs.Prelude.{◌≡◌, length};
 ghost use Rattle.combinators.specs.Store.{emits};
+ghost use Rattle.combinators.specs.Writer.{written, SameStore};
 ghost use Rattle.characters.specs.Utf8.{utf8, continuation, is_continuation, or_replacement, lead_of, two, three, four, scalar_tail, scalar_of, valid};
 
-use combinators::bytes::{between, peek, wide};
-use combinators::stores::emit;
+use combinators::bytes::{between, peek};
+use combinators::writer::Writer;
 
 // A scalar value that a text begins with, and the bytes that it takes.
 #[derive(Clone, Copy)]
@@ -61,21 +62,24 @@ fn is_continuation(b: u8) -> bool
 fn value_of_two(a: u8, b: u8) -> u32
     ensures { result ≡ two a b }
 {
-    wide(a % 32) * 64 + wide(b % 64)
+    u32::from(a % 32) * 64 + u32::from(b % 64)
 }
 
 #[tactic(auto, unfolding(crate::specs::Utf8::three))]
 fn value_of_three(a: u8, b: u8, c: u8) -> u32
     ensures { result ≡ three a b c }
 {
-    wide(a % 16) * 4096 + wide(b % 64) * 64 + wide(c % 64)
+    u32::from(a % 16) * 4096 + u32::from(b % 64) * 64 + u32::from(c % 64)
 }
 
 #[tactic(auto, unfolding(crate::specs::Utf8::four))]
 fn value_of_four(a: u8, b: u8, c: u8, d: u8) -> u32
     ensures { result ≡ four a b c d }
 {
-    wide(a % 8) * 262144 + wide(b % 64) * 4096 + wide(c % 64) * 64 + wide(d % 64)
+    u32::from(a % 8) * 262144
+        + u32::from(b % 64) * 4096
+        + u32::from(c % 64) * 64
+        + u32::from(d % 64)
 }
 
 // How many bytes the scalar value `v` has.
@@ -135,14 +139,14 @@ pub fn scalar_at(s: &[u8]) -> Option<Scalar>
         0 => None,
         1 => Some(Scalar {
             taken: 1,
-            value: wide(a),
+            value: u32::from(a),
         }),
         long if between(peek(s, 1), lead.low, lead.high) => scalar_tail(s, long),
         _ => None,
     }
 }
 
-// Whether `s` is well formed.
+// Whether `s` is well formed. A step is what a character takes, so this is no range.
 pub fn is_valid(s: &[u8]) -> bool
     ensures { result ≡ valid s.now }
 {
@@ -172,29 +176,25 @@ fn continuation_of(v: u32) -> u8
     (0x80 + v % 64) as u8
 }
 
-// Two bytes at `fill`; the fill behind them.
-fn emit_two(a: u8, b: u8, store: &mut [u8], fill: usize) -> usize
-    ensures { record { bytes = store.new; fill = result } ≡ emits (record { bytes = store.old; fill = fill }) (a ∷ b ∷ []) }
-{
-    let f = emit(a, store, fill);
-    emit(b, store, f)
-}
-
-// The bytes of the scalar value `v` at `fill`; the fill behind them.
-pub fn emit_scalar(v: u32, store: &mut [u8], fill: usize) -> usize
-    ensures { record { bytes = store.new; fill = result } ≡ emits (record { bytes = store.old; fill = fill }) (utf8 v) }
+// The bytes of the scalar value `v`.
+#[tactic(auto, unfolding(crate::specs::Utf8::utf8, combinators::specs::Choice::pick))]
+pub fn emit_scalar(v: u32, writer: &mut Writer<'_>)
+    ensures same_store { SameStore writer.old writer.new }
+    ensures written { written writer.new ≡ emits (written writer.old) (utf8 v) }
 {
     match v {
-        0..=0x7f => emit(v as u8, store, fill),
-        0x80..=0x7ff => emit_two((0xc0 + v / 64) as u8, continuation_of(v), store, fill),
-        0x800..=0xffff => {
-            let f = emit((0xe0 + v / 4096) as u8, store, fill);
-            emit_two(continuation_of(v / 64), continuation_of(v), store, f)
-        }
-        _ => {
-            let lead = (0xf0 + v / 262144 % 8) as u8;
-            let f = emit_two(lead, continuation_of(v / 4096), store, fill);
-            emit_two(continuation_of(v / 64), continuation_of(v), store, f)
-        }
+        0..=0x7f => writer.emit(v as u8),
+        0x80..=0x7ff => writer.emit_all(&[(0xc0 + v / 64) as u8, continuation_of(v)]),
+        0x800..=0xffff => writer.emit_all(&[
+            (0xe0 + v / 4096) as u8,
+            continuation_of(v / 64),
+            continuation_of(v),
+        ]),
+        _ => writer.emit_all(&[
+            (0xf0 + v / 262144 % 8) as u8,
+            continuation_of(v / 4096),
+            continuation_of(v / 64),
+            continuation_of(v),
+        ]),
     }
 }

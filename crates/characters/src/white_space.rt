@@ -8,7 +8,8 @@ const WHITE_SPACE: [u32; 25] = [
     0x2005, 0x2006, 0x2007, 0x2008, 0x2009, 0x200a, 0x2028, 0x2029, 0x202f, 0x205f, 0x3000,
 ];
 
-// The first entry that is not below `v` decides, since all behind it are above `v`.
+// The first entry that is not below `v` decides, since all behind it are above `v`: a letter is told at the seventh, where `contains` would look at
+// all.
 pub fn is_white_space(v: u32) -> bool
     ensures { result ≡ is_white_space v }
 {

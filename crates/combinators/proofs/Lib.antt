@@ -11,3 +11,4 @@ pub mod Wiped
 pub mod Filled
 pub mod ZeroLaws
 pub mod LeastLaws
+pub mod LentLaws

@@ -7,13 +7,13 @@ use native.Mathlib.Nat.{add-zero}
 use native.Mathlib.Omega.{arith}
 use lib.ListN.{length, set, replicate, length-replicate, replicate-append-replicate}
 use lib.Seq.{sets, set-set, set_comm, length-sets}
-use Rattle.combinators.specs.Store.{wiped, most}
+use Rattle.combinators.specs.Store.{filled_part, wiped, most}
 use Rattle.combinators.proofs.Rules.{at_most, above, by_order, lt-or-ge}
 use Rattle.combinators.proofs.Emitted.{sets-out}
 
 -- ---- texts in a store
 -- a text stored behind another
-pub sets-append : (l : List ℕ) (i : ℕ) (xs ys : List ℕ) → sets l i (xs ++ ys) ≡ sets (sets l i xs) (i + length xs) ys
+pub sets-append : {A : Type 0} (l : List A) (i : ℕ) (xs ys : List A) → sets l i (xs ++ ys) ≡ sets (sets l i xs) (i + length xs) ys
 sets-append l i [] ys = rw add-zero
 sets-append l i (x ∷ xs) ys =
     let e : i + suc (length xs) ≡ suc i + length xs = omega arith in
@@ -75,57 +75,79 @@ most-from k a b =
     (λ h. rw (most-second a b h) (most-second (k + a) (k + b) (omega arith)))
     (lt-or-ge b a)
 
+-- ---- one value over what a store held
+module _ {A : Type 0} (z : A) where
+  -- the store stays as long as it was
+  pub length-filled_part : (f n : ℕ) (l : List A) → length (filled_part z f n l) ≡ length l
+  unfolding filled_part
+  length-filled_part f n l = length-sets l f (replicate n z)
+
+  -- no time changes nothing
+  pub part-none : (f : ℕ) (l : List A) → filled_part z f 0 l ≡ l
+  unfolding filled_part
+  part-none f l = refl
+
+  -- none is left to write
+  pub part-done : (f n : ℕ) (l : List A) → n ≤ 0 → filled_part z f n l ≡ l
+  part-done f zero l h = part-none f l
+  part-done f (suc n) l h = absurd (omega arith)
+
+  -- past the end nothing is written
+  pub part-out : (f n : ℕ) (l : List A) → length l ≤ f → filled_part z f n l ≡ l
+  unfolding filled_part
+  part-out f n l h = sets-out (replicate n z) l f h
+
+  -- so many times, and more behind them
+  pub part-add : (f m n : ℕ) (l : List A) → filled_part z f (m + n) l ≡ filled_part z (f + m) n (filled_part z f m l)
+  unfolding filled_part
+  part-add f m n l =
+      ap (sets l f) (sym (replicate-append-replicate m n z)) ∙ sets-append l f (replicate m z) (replicate n z)
+      ∙ ap (λ (k : ℕ). sets (sets l f (replicate m z)) (f + k) (replicate n z)) (length-replicate m z)
+
 -- ---- zeros
 -- wiping leaves a store as long as it was
 pub length-wiped : (f n : ℕ) (l : List ℕ) → length (wiped f n l) ≡ length l
-unfolding wiped
-length-wiped f n l = length-sets l f (replicate n 0)
+length-wiped = length-filled_part 0
 
 -- wiping nothing leaves the list as it is
 pub wiped-none : (f : ℕ) (l : List ℕ) → wiped f 0 l ≡ l
-unfolding wiped
-wiped-none f l = refl
+wiped-none = part-none 0
 
 -- none is left to write
 pub wiped-done : (f n : ℕ) (l : List ℕ) → n ≤ 0 → wiped f n l ≡ l
-wiped-done f zero l h = wiped-none f l
-wiped-done f (suc n) l h = absurd (omega arith)
+wiped-done = part-done 0
 
 -- past the end nothing is wiped
 pub wiped-out : (f n : ℕ) (l : List ℕ) → length l ≤ f → wiped f n l ≡ l
-unfolding wiped
-wiped-out f n l h = sets-out (replicate n 0) l f h
-
--- one zero, and the others behind it
-wiped-suc : (f n : ℕ) (l : List ℕ) → wiped (suc f) n (set l f 0) ≡ wiped f (suc n) l
-unfolding wiped
-wiped-suc f n l = refl
+wiped-out = part-out 0
 
 -- so many zeros, and more behind them
 pub wiped-add : (f m n : ℕ) (l : List ℕ) → wiped f (m + n) l ≡ wiped (f + m) n (wiped f m l)
-unfolding wiped
-wiped-add f m n l =
-    ap (sets l f) (sym (replicate-append-replicate m n 0)) ∙ sets-append l f (replicate m 0) (replicate n 0)
-    ∙ ap (λ (k : ℕ). sets (sets l f (replicate m 0)) (f + k) (replicate n 0)) (length-replicate m 0)
+wiped-add = part-add 0
+
+-- one zero, and the others behind it
+wiped-suc : (f n : ℕ) (l : List ℕ) → wiped (suc f) n (set l f 0) ≡ wiped f (suc n) l
+unfolding filled_part
+wiped-suc f n l = refl
 
 -- a text that is wiped: nothing is left of it
 pub wiped-over : (l : List ℕ) (f n : ℕ) (xs : List ℕ) → length xs ≤ n → wiped f n (sets l f xs) ≡ wiped f n l
-unfolding wiped
+unfolding filled_part
 wiped-over l f n xs h = sets_over l f xs (replicate n 0) (omega (arith, length-replicate {A = ℕ} n 0))
 
 -- a text, and zeros behind it, in either order
 pub wiped-apart : (l : List ℕ) (f g n : ℕ) (xs : List ℕ) → f + length xs ≤ g → wiped g n (sets l f xs) ≡ sets (wiped g n l) f xs
-unfolding wiped
+unfolding filled_part
 wiped-apart l f g n xs h = sym (sets-apart l f g xs (replicate n 0) h)
 
 -- wiping fewer numbers where more are wiped changes nothing
 wiped-fewer : (f m n : ℕ) (l : List ℕ) → wiped f m (wiped f (m + n) l) ≡ wiped f (m + n) l
-unfolding wiped
+unfolding filled_part
 wiped-fewer f m n l = rw (← replicate-append-replicate {A = ℕ} m n 0) (sets-again l f (replicate m 0) (replicate n 0))
 
 -- wiping as many numbers or more, where some were wiped, leaves what wiping the later ones alone leaves
 wiped-more : (f m n : ℕ) (l : List ℕ) → m ≤ n → wiped f n (wiped f m l) ≡ wiped f n l
-unfolding wiped
+unfolding filled_part
 wiped-more f m n l h = wiped-over l f n (replicate m 0) (omega (arith, length-replicate {A = ℕ} m 0))
 
 -- zeros over zeros from the same place on

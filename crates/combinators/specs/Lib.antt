@@ -8,3 +8,5 @@ pub mod All
 pub mod Store
 pub mod Refusal
 pub mod LeastLengths
+pub mod Writer
+pub mod Lent

@@ -3,27 +3,12 @@ ghost use Rattle.std.specs.Prelude.{◌≡◌, get_or};
 ghost use Rattle.combinators.specs.Choice.{is, within};
 ghost use Rattle.combinators.specs.Word.{starts_with};
 
-// Whether `b` is `x`.
-#[tactic(auto, unfolding(crate::specs::Choice::is))]
-pub fn same(b: u8, x: u8) -> bool
-    ensures { result ≡ is b x }
-{
-    b == x
-}
-
 // Whether `b` is from `lo` to `hi`.
 #[tactic(auto, unfolding(crate::specs::Choice::within, crate::specs::Choice::and))]
 pub fn between(b: u8, lo: u8, hi: u8) -> bool
     ensures { result ≡ within b lo hi }
 {
     lo <= b && b <= hi
-}
-
-// The byte as a number of 32 bits, for what a byte cannot hold.
-pub fn wide(b: u8) -> u32
-    ensures { result ≡ b }
-{
-    u32::from(b)
 }
 
 // The byte at `i`, or 0 past the end.

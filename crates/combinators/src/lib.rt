@@ -4,5 +4,7 @@
 pub mod bytes; // bytes.rt: a byte, a range of bytes, a word at the start of a text
 pub mod texts; // texts.rt: a part of a text, and two texts compared
 pub mod stores; // stores.rt: bytes emitted to a lent store, and stores cleared
+pub mod writer; // writer.rt: a store with its fill
+pub mod lent; // lent.rt: the stores that are lent together, and the texts of three sheets
 pub mod least; // least.rt: least lengths of the stores
 pub mod refusals; // refusals.rt: document 01's refusals

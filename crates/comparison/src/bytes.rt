@@ -5,7 +5,7 @@ ghost use Rattle.comparison.specs.Bytes.{bytes_result, refusal_in, bytes_called}
 use combinators::refusals::{Refusal, TOO_LONG, refused};
 use compiled::sheets::{COMPILED_LIMIT, check_sheet, refusal_of};
 
-// The refusal's number and place.
+// The refusal's number and place. Numbers, for C has no `Result`.
 #[repr(C)]
 #[derive(Clone, Copy)]
 pub struct BytesResult {

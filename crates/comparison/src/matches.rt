@@ -5,13 +5,16 @@ ghost use Rattle.page.specs.Accepted.{page_refusal};
 ghost use Rattle.comparison.specs.Matches.{component_limit, refused_match, row_match, page_match, match_called};
 
 use combinators::refusals::{NO_ELEMENT, Refusal, SHORT_STORE, TOO_LONG};
-use matching::components::specificity;
+use matching::components::{Selector, specificity};
+use matching::elements::Element;
 use matching::matcher::do_matches;
 use page::check::check_page;
+use page::lent::Page;
 use styling::style::is_element;
 use syntax::rows::{COMPONENT_WIDTH, flag_of};
 
-// The refusal's number and place; 1 where the selector matches; how many ids, classes (with attributes and nth-child) and types it names.
+// The refusal's number and place; 1 where the selector matches; how many ids, classes (with attributes and nth-child) and types it names. Numbers,
+// for C has no `Result`.
 #[repr(C)]
 #[derive(Clone, Copy)]
 pub struct MatchResult {
@@ -41,24 +44,16 @@ fn refused(refusal: u32, place: usize) -> MatchResult
 }
 
 // Asks for a row of an accepted page.
-fn match_row(
-    components: &[u32],
-    count: usize,
-    texts: &[u8],
-    nodes: &[u32],
-    attributes: &[u32],
-    text: &[u8],
-    row: usize,
-) -> MatchResult
-    requires count_le_component_limit { count ≤ component_limit }
-    requires text_value { page_refusal nodes.now attributes.now text.now ≡ no_refusal }
-    ensures { result ≡ row_match components.now count texts.now nodes.now attributes.now text.now row }
+fn match_row(selector: Selector<'_>, page: Page<'_>, row: usize) -> MatchResult
+    requires left_le_component_limit { selector.left ≤ component_limit }
+    requires accepted { page_refusal page.nodes.now page.attributes.now page.text.now ≡ no_refusal }
+    ensures { result ≡ row_match selector.entry.components.now selector.entry.left selector.entry.store.now page.entry.nodes.now page.entry.attributes.now page.entry.text.now row }
 {
-    if !is_element(nodes, row) {
+    if !is_element(page.nodes, row) {
         return refused(NO_ELEMENT, 0);
     }
-    let matches = do_matches(components, texts, count, nodes, attributes, text, row);
-    let named = specificity(components, count as u32);
+    let matches = do_matches(selector, Element { page, row });
+    let named = specificity(selector.components, selector.left as u32);
     MatchResult {
         refusal: 0,
         place: 0,
@@ -71,6 +66,7 @@ fn match_row(
 
 // Whether the first `count` components, with their texts in `texts`, match a row of the page: `do_matches` and `specificity` of a selector whose
 // components lie in reading order. Every component must be there; one whose kind is none of document 01's, above 8, is read as an attribute selector.
+// It is exported: C lends each list by itself, and may lend more components than the selector has, so `count` comes beside them.
 #[unsafe(no_mangle)]
 pub extern "C" fn comparison_matches(
     components: &[u32],
@@ -89,8 +85,18 @@ pub extern "C" fn comparison_matches(
     if components.len() < COMPONENT_WIDTH * count {
         return refused(SHORT_STORE, 0);
     }
-    match check_page(nodes, attributes, text) {
-        Ok(()) => match_row(components, count, texts, nodes, attributes, text, row),
+    let selector = Selector {
+        components,
+        store: texts,
+        left: count,
+    };
+    let page = Page {
+        nodes,
+        attributes,
+        text,
+    };
+    match check_page(page) {
+        Ok(()) => match_row(selector, page, row),
         Err(error) => {
             let refusal = Refusal::from(error);
             refused(refusal.number, refusal.place)

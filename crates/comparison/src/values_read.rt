@@ -3,11 +3,12 @@ ghost use Rattle.std.specs.Prelude.{◌≡◌};
 ghost use Rattle.comparison.specs.Attributes.{refused_styles, styles_result, style_called, refused_colour, colour_result, colour_called};
 
 use combinators::least::stores_suffice;
+use combinators::lent::Stores;
 use combinators::refusals::{NO_REFUSAL, SHORT_STORE, TOO_LONG};
 use declarations::attributes::{StylesRead, parse_color_attribute, parse_style_attribute};
 use page::check::TEXT_LIMIT;
 
-// The refusal's number; how many styles were read, and the bytes of their texts.
+// The refusal's number; how many styles were read, and the bytes of their texts. Numbers, for C has no `Result`.
 #[repr(C)]
 #[derive(Clone, Copy)]
 pub struct StylesResult {
@@ -16,7 +17,7 @@ pub struct StylesResult {
     pub bytes: usize,
 }
 
-// The refusal's number; 1 where a colour was found, and the colour.
+// The refusal's number; 1 where a colour was found, and the colour. Numbers, for C has no `Result` and no `Option`.
 #[repr(C)]
 #[derive(Clone, Copy)]
 pub struct ColourResult {
@@ -25,7 +26,7 @@ pub struct ColourResult {
     pub colour: u32,
 }
 
-// A value that is refused.
+// A value that is refused. The two results have other fields and a definition each; only the shape is the same.
 fn refused_styles(refusal: u32) -> StylesResult
     ensures { result ≡ refused_styles refusal }
 {
@@ -78,7 +79,7 @@ impl From<Option<u32>> for ColourResult {
 }
 
 // Reads a `style` attribute: the rows of its styles to `tokens`, their texts to `texts`, each from 0 on. A value that a page cannot have, being
-// longer than all of a page's texts, is refused.
+// longer than all of a page's texts, is refused. The stores come one by one, here and below, as C lends them.
 #[unsafe(no_mangle)]
 pub extern "C" fn comparison_style_attribute(
     value: &[u8],
@@ -96,7 +97,13 @@ pub extern "C" fn comparison_style_attribute(
     if !stores_suffice(n, rules.len(), tokens.len(), brackets.len(), texts.len()) {
         return refused_styles(SHORT_STORE);
     }
-    parse_style_attribute(value, rules, tokens, brackets, texts, 0).into()
+    let mut stores = Stores {
+        rules,
+        tokens,
+        brackets,
+        texts,
+    };
+    parse_style_attribute(value, &mut stores, 0).into()
 }
 
 // Reads a `color` or `bgcolor` attribute; all stores are work stores. There are no rules, so `tokens` is tested in their place too.
@@ -116,5 +123,11 @@ pub extern "C" fn comparison_color_attribute(
     if !stores_suffice(n, tokens.len(), tokens.len(), brackets.len(), texts.len()) {
         return refused_colour(SHORT_STORE);
     }
-    parse_color_attribute(value, tokens, brackets, texts, 0).into()
+    let mut stores = Stores {
+        rules: &mut [],
+        tokens,
+        brackets,
+        texts,
+    };
+    parse_color_attribute(value, &mut stores, 0).into()
 }

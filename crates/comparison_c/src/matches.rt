@@ -6,6 +6,7 @@ use comparison::matches::MatchResult;
 
 // Whether the first `count` components, with their texts in `texts`, match a row of the page: `do_matches` and `specificity` of a selector whose
 // components lie in reading order. Every component must be there; one of a kind above 8, which no selector has, is read as an attribute selector.
+// C may lend more components than the selector has, so `count` comes beside them.
 #[unsafe(no_mangle)]
 pub extern "C" fn comparison_matches(
     components: &[u32],

@@ -5,6 +5,7 @@
 mod hexadecimal; // hexadecimal.rt: bytes as a line of pairs
 
 use combinators::least::{NUMBER_MORE, NUMBER_WIDTH, TEXT_MORE, TEXT_WIDTH};
+use combinators::lent::{SheetTexts, Stores};
 use combinators::refusals::Refusal;
 use combinators::texts::part_of;
 use compiled::sheets::COMPILED_LIMIT;
@@ -43,16 +44,18 @@ fn print_compiled(out: &impl Print, author: &[u8]) -> io::Result<()> {
     let mut rules = [0u32; NUMBERS];
     let mut tokens = [0u32; NUMBERS];
     let mut brackets = [0u8; BRACKETS];
-    let answer = compile(
-        b"",
-        b"",
+    let sheets = SheetTexts {
+        agent: b"",
+        user: b"",
         author,
-        &mut compiled,
-        &mut texts,
-        &mut rules,
-        &mut tokens,
-        &mut brackets,
-    );
+    };
+    let mut stores = Stores {
+        rules: &mut rules,
+        tokens: &mut tokens,
+        brackets: &mut brackets,
+        texts: &mut texts,
+    };
+    let answer = compile(sheets, &mut compiled, &mut stores);
     match answer {
         Ok(done) => print!(out; "{}", HexLine(part_of(&compiled, 0, done.bytes))),
         Err(error) => print_refusal(out, error),

@@ -4,8 +4,7 @@ use mathlib.Core.List.{List}
 use Prim.Native.Nat.{ℕ, ◌+◌, ◌-◌, ◌≤◌, ◌<◌}
 use native.Mathlib.Omega.{arith}
 use borrow.Author.Tests.{le-leb, lt-leb}
-use lib.ListN.{length, take}
-use lib.Seq.{take-length}
+use lib.ListN.{length}
 use Rattle.std.proofs.Common.{Result, Ok, Err}
 use Rattle.combinators.specs.Store.{Store, emits}
 use Rattle.combinators.proofs.Emitted.{then}
@@ -50,6 +49,6 @@ module _ (s : List ℕ) (at : ℕ) (r : Result (Read ℕ) Fault) (e : r ≡ read
 
 -- ---- `emit_text`
 -- the length, then all of the text
-pub text-emitted : (o₀ o₁ o₂ : Store) (x : List ℕ) → o₁ ≡ emits o₀ (number_bytes (length x)) → o₂ ≡ emits o₁ (take (length x) x) → o₂ ≡ emits o₀ (text_bytes x)
+pub text-emitted : (o₀ o₁ o₂ : Store ℕ) (x : List ℕ) → o₁ ≡ emits o₀ (number_bytes (length x)) → o₂ ≡ emits o₁ x → o₂ ≡ emits o₀ (text_bytes x)
 unfolding text_bytes
-text-emitted o₀ o₁ o₂ x p q = then o₀ o₁ o₂ (number_bytes (length x)) x p (q ∙ ap (emits o₁) (take-length x))
+text-emitted o₀ o₁ o₂ x p q = then o₀ o₁ o₂ (number_bytes (length x)) x p q

@@ -26,11 +26,11 @@ use Rattle.compiled.proofs.NumberBack.{signed-number-back}
 
 -- ---- one behind the other
 -- what three calls emit one behind the other is the three texts joined
-pub three : (o₀ o₁ o₂ o₃ : Store) (x y z : List ℕ) → o₁ ≡ emits o₀ x → o₂ ≡ emits o₁ y → o₃ ≡ emits o₂ z → o₃ ≡ emits o₀ (x ++ (y ++ z))
+pub three : (o₀ o₁ o₂ o₃ : Store ℕ) (x y z : List ℕ) → o₁ ≡ emits o₀ x → o₂ ≡ emits o₁ y → o₃ ≡ emits o₂ z → o₃ ≡ emits o₀ (x ++ (y ++ z))
 three o₀ o₁ o₂ o₃ x y z p q r = then o₀ o₁ o₃ x (y ++ z) p (then o₁ o₂ o₃ y z q r)
 
 -- the numbers before a selector's components
-pub head-written : (o₀ o₁ o₂ o₃ : Store) (origin pseudo count : ℕ) → o₁ ≡ emits o₀ (number_bytes origin) → o₂ ≡ emits o₁ (number_bytes pseudo)
+pub head-written : (o₀ o₁ o₂ o₃ : Store ℕ) (origin pseudo count : ℕ) → o₁ ≡ emits o₀ (number_bytes origin) → o₂ ≡ emits o₁ (number_bytes pseudo)
     → o₃ ≡ emits o₂ (number_bytes count) → o₃ ≡ emits o₀ (head_bytes origin pseudo count)
 unfolding head_bytes
 head-written o₀ o₁ o₂ o₃ origin pseudo count p q r = three o₀ o₁ o₂ o₃ _ _ _ p q r
@@ -42,7 +42,7 @@ unfolding or
 neither true b e = never (sym e)
 neither false b e = (refl, e)
 
-module _ (t : List ℕ) (kind f a b : ℕ) (o₀ o₁ : Store) where
+module _ (t : List ℕ) (kind f a b : ℕ) (o₀ o₁ : Store ℕ) where
   -- the bytes of a component that is a kind alone are those of its kind
   mark-bytes : is_mark kind ≡ true → component_bytes (component_from t kind f a b) ≡ number_bytes kind
   unfolding component_bytes component_from is_mark component_kind component_body pick or is
@@ -129,7 +129,7 @@ pub part-short : (t : List ℕ) (start size : ℕ) (x : List ℕ) → x ≡ part
 part-short t start size x e h = omega (arith, ap length e, part-le t start size)
 
 -- and the part is written
-pub part-written : (o₀ o₁ : Store) (t : List ℕ) (start size : ℕ) (x : List ℕ) → x ≡ part t start size → o₁ ≡ emits o₀ (text_bytes x)
+pub part-written : (o₀ o₁ : Store ℕ) (t : List ℕ) (start size : ℕ) (x : List ℕ) → x ≡ part t start size → o₁ ≡ emits o₀ (text_bytes x)
     → o₁ ≡ emits o₀ (text_bytes (part t start size))
 part-written o₀ o₁ t start size x e p = p ∙ ap (λ (y : List ℕ). emits o₀ (text_bytes y)) e
 
@@ -142,7 +142,7 @@ colour-number v = omega arith
 abbrev pub slot_bytes : Style → List ℕ
 slot_bytes s = number_bytes (style_slot_of s) ++ style_body s
 
-module _ (t : List ℕ) (slot : ℕ) (v : Value) (o₀ o₁ : Store) where
+module _ (t : List ℕ) (slot : ℕ) (v : Value) (o₀ o₁ : Store ℕ) where
   -- where the style of the numbers is s, and xs its bytes behind the flag, emitting xs writes the style
   stated : (s : Style) (xs : List ℕ) → style_of t slot v ≡ s → slot_bytes s ≡ xs → o₁ ≡ emits o₀ xs
       → o₁ ≡ emits o₀ (slot_bytes (style_of t slot v))
@@ -189,14 +189,14 @@ module _ (t : List ℕ) (slot : ℕ) (v : Value) (o₀ o₁ : Store) where
             refl p
 
 -- either colour is written as its slot and its number
-pub colours-written : (t : List ℕ) (slot : ℕ) (v : Value) (o₀ o₁ : Store) → slot ≤ background_slot → o₁ ≡ emits o₀ (number_bytes slot ++ number_bytes v.number)
+pub colours-written : (t : List ℕ) (slot : ℕ) (v : Value) (o₀ o₁ : Store ℕ) → slot ≤ background_slot → o₁ ≡ emits o₀ (number_bytes slot ++ number_bytes v.number)
     → o₁ ≡ emits o₀ (slot_bytes (style_of t slot v))
 colours-written t zero v o₀ o₁ h p = colour-written t zero v o₀ o₁ refl p
 colours-written t (suc zero) v o₀ o₁ h p = background-written t (suc zero) v o₀ o₁ (λ z. omega (arith, z)) refl p
 colours-written t (suc (suc n)) v o₀ o₁ h p = absurd (omega arith)
 
 -- a style: its flag, its start, then its slot
-pub style-written : (t : List ℕ) (x : StyleNumbers) (o₀ o₁ o₂ o₃ : Store) (n : ℕ) → n ≡ flag x.important → o₁ ≡ emits o₀ (number_bytes n)
+pub style-written : (t : List ℕ) (x : StyleNumbers) (o₀ o₁ o₂ o₃ : Store ℕ) (n : ℕ) → n ≡ flag x.important → o₁ ≡ emits o₀ (number_bytes n)
     → o₂ ≡ emits o₁ (number_bytes x.value.start) → o₃ ≡ emits o₂ (slot_bytes (style_of t x.slot x.value)) → o₃ ≡ emits o₀ (style_bytes (style_in t x))
 unfolding style_bytes style_in value_in
 style-written t x o₀ o₁ o₂ o₃ n e p q r = then o₀ o₁ o₃ _ _ (p ∙ ap (λ (m : ℕ). emits o₀ (number_bytes m)) e) (then o₁ o₂ o₃ _ _ q r)

@@ -1,6 +1,7 @@
 // Components of a compiled sheet: a kind, then what the component has.
 ghost use Rattle.std.specs.Prelude.{◌≡◌, ◌++◌, ◌+◌, length, IfSome};
 ghost use Rattle.combinators.specs.Store.{emits};
+ghost use Rattle.combinators.specs.Writer.{written, SameStore};
 ghost use Rattle.combinators.specs.Part.{part};
 ghost use Rattle.syntax.specs.RuleLayout.{nth_kind, attribute_equal_kind, component_from};
 ghost use Rattle.compiled.specs.Number.{number_bytes};
@@ -12,6 +13,7 @@ ghost use Rattle.compiled.specs.Answer.{read_answer, place_answer, component_wit
 use crate::numbers::{GROUP_VALUES, emit_number, read_number, read_ranged};
 use crate::places::{Fault, Read};
 use crate::texts::{Span, emit_text_part, read_text};
+use combinators::writer::Writer;
 use syntax::rows::{
     ATTRIBUTE, ATTRIBUTE_EQUAL, CHILD, CLASS, DESCENDANT, ELEMENT, HASH, NTH, STAR,
 };
@@ -35,6 +37,7 @@ pub enum Written {
 }
 
 // Whether a component is its kind alone.
+#[tactic(auto, unfolding(crate::specs::Component::is_mark, combinators::specs::Choice::or, combinators::specs::Choice::is))]
 pub fn is_mark(kind: u32) -> bool
     ensures { result ≡ is_mark kind }
 {
@@ -42,6 +45,7 @@ pub fn is_mark(kind: u32) -> bool
 }
 
 // Whether a component is its kind and one text.
+#[tactic(auto, unfolding(crate::specs::Component::is_name, combinators::specs::Choice::or, combinators::specs::Choice::is))]
 pub fn is_name(kind: u32) -> bool
     ensures { result ≡ is_name kind }
 {
@@ -141,7 +145,8 @@ pub fn skip_component(s: &[u8], at: usize) -> Result<usize, Fault>
     }
 }
 
-// The place behind `count` components from `at` on.
+// The place behind `count` components from `at` on. The whole sheet is handed in, as faults are told by their places in it, and the count is what the bytes
+// before say: components differ in size.
 pub fn skip_components(s: &[u8], at: usize, count: u32) -> Result<usize, Fault>
     ensures { result ≡ place_answer (counted (component_at s.now) count at) }
 {
@@ -152,72 +157,63 @@ pub fn skip_components(s: &[u8], at: usize, count: u32) -> Result<usize, Fault>
     Ok(next)
 }
 
-// Writes a kind and the text that starts at `start` in `texts` and has `size` bytes, or as many as there are; the fill behind them.
-fn emit_name(kind: u32, start: u32, size: u32, texts: &[u8], store: &mut [u8], fill: usize) -> usize
-    ensures { record { bytes = store.new; fill = result }
-        ≡ emits (record { bytes = store.old; fill = fill }) (number_bytes kind ++ text_bytes (part texts.now start size)) }
+// Writes a kind and the text that starts at `start` in `texts` and has `size` bytes, or as many as there are. It is cut in `emit_text_part` alone, where a
+// size of 32 bits is all that `emit_text` asks for.
+fn emit_name(kind: u32, start: u32, size: u32, texts: &[u8], writer: &mut Writer<'_>)
+    ensures same_store { SameStore writer.old writer.new }
+    ensures written { written writer.new
+        ≡ emits (written writer.old)
+        (number_bytes kind ++ text_bytes (part texts.now start size)) }
 {
-    let behind = emit_number(kind, store, fill);
-    emit_text_part(start as usize, size, texts, store, behind)
+    emit_number(kind, writer);
+    emit_text_part(start as usize, size, texts, writer);
 }
 
-// Writes the kind of nth and its two numbers; the fill behind them.
-fn emit_nth(a: u32, b: u32, store: &mut [u8], fill: usize) -> usize
-    ensures { record { bytes = store.new; fill = result }
-        ≡ emits (record { bytes = store.old; fill = fill }) (number_bytes nth_kind ++ (number_bytes a ++ number_bytes b)) }
+// Writes the kind of nth and its two numbers.
+fn emit_nth(a: u32, b: u32, writer: &mut Writer<'_>)
+    ensures same_store { SameStore writer.old writer.new }
+    ensures written { written writer.new
+        ≡ emits (written writer.old)
+        (number_bytes nth_kind ++ (number_bytes a ++ number_bytes b)) }
 {
-    let behind_kind = emit_number(NTH, store, fill);
-    let behind_a = emit_number(a, store, behind_kind);
-    emit_number(b, store, behind_a)
+    emit_number(NTH, writer);
+    emit_number(a, writer);
+    emit_number(b, writer);
 }
 
 // Writes the kind of an attribute that is equal to a value, and its two texts: that which starts at `start` in `texts` and has `first` bytes, and the
-// `second` bytes behind it. The fill behind them.
-fn emit_attribute_equal(
-    start: u32,
-    first: u32,
-    second: u32,
-    texts: &[u8],
-    store: &mut [u8],
-    fill: usize,
-) -> usize
-    ensures { record { bytes = store.new; fill = result }
-        ≡ emits (record { bytes = store.old; fill = fill })
-        (number_bytes attribute_equal_kind
+// `second` bytes behind it.
+fn emit_attribute_equal(start: u32, first: u32, second: u32, texts: &[u8], writer: &mut Writer<'_>)
+    ensures same_store { SameStore writer.old writer.new }
+    ensures written { written writer.new ≡ emits (written writer.old) (number_bytes attribute_equal_kind
         ++ (text_bytes (part texts.now start first) ++ text_bytes (part texts.now (start + first) second))) }
 {
-    let behind_kind = emit_number(ATTRIBUTE_EQUAL, store, fill);
-    let behind_name = emit_text_part(start as usize, first, texts, store, behind_kind);
-    emit_text_part(
-        start as usize + first as usize,
-        second,
-        texts,
-        store,
-        behind_name,
-    )
+    emit_number(ATTRIBUTE_EQUAL, writer);
+    emit_text_part(start as usize, first, texts, writer);
+    emit_text_part(start as usize + first as usize, second, texts, writer);
 }
 
-// Writes the component that a component row says: its kind, where its texts start in `texts`, and its two numbers. The fill behind it.
+// Writes the component that a component row says: its kind, where its texts start in `texts`, and its two numbers.
 pub fn emit_component(
     kind: u32,
     start: u32,
     first: u32,
     second: u32,
     texts: &[u8],
-    store: &mut [u8],
-    fill: usize,
-) -> usize
-    ensures { record { bytes = store.new; fill = result }
-        ≡ emits (record { bytes = store.old; fill = fill }) (component_bytes (component_from texts.now kind start first second)) }
+    writer: &mut Writer<'_>,
+)
+    ensures same_store { SameStore writer.old writer.new }
+    ensures written { written writer.new
+        ≡ emits (written writer.old)
+        (component_bytes (component_from texts.now kind start first second)) }
 {
     if is_mark(kind) {
-        return emit_number(kind, store, fill);
+        emit_number(kind, writer);
+    } else if kind == NTH {
+        emit_nth(first, second, writer);
+    } else if is_name(kind) {
+        emit_name(kind, start, first, texts, writer);
+    } else {
+        emit_attribute_equal(start, first, second, texts, writer);
     }
-    if kind == NTH {
-        return emit_nth(first, second, store, fill);
-    }
-    if is_name(kind) {
-        return emit_name(kind, start, first, texts, store, fill);
-    }
-    emit_attribute_equal(start, first, second, texts, store, fill)
 }

@@ -1,11 +1,12 @@
 // Numbers of a compiled sheet: groups of seven bits, lowest first, at most five of them.
 ghost use Rattle.std.specs.Prelude.{◌≡◌, ◌<◌, length};
 ghost use Rattle.combinators.specs.Store.{emits};
+ghost use Rattle.combinators.specs.Writer.{written, SameStore};
 ghost use Rattle.compiled.specs.Number.{number_bytes, limited, number_at, ranged_at};
 ghost use Rattle.compiled.specs.Answer.{read_answer, read_within};
 
 use crate::places::{Fault, Read};
-use combinators::stores::emit;
+use combinators::writer::Writer;
 
 // How many values a group has: its byte is below that in the last group, and from there on in the others.
 pub const GROUP_VALUES: u64 = 128;
@@ -72,15 +73,15 @@ pub fn read_ranged(s: &[u8], at: usize, lo: u32, hi: u32) -> Result<Read<u32>, F
     }
 }
 
-// Writes a number without padding; the fill behind it.
-pub fn emit_number(v: u32, store: &mut [u8], fill: usize) -> usize
-    ensures { record { bytes = store.new; fill = result } ≡ emits (record { bytes = store.old; fill = fill }) (number_bytes v) }
+// Writes a number without padding. Its groups end with its value, so this is no range.
+pub fn emit_number(v: u32, writer: &mut Writer<'_>)
+    ensures same_store { SameStore writer.old writer.new }
+    ensures written { written writer.new ≡ emits (written writer.old) (number_bytes v) }
 {
-    let mut f = fill;
     let mut left = u64::from(v);
     while left >= GROUP_VALUES {
-        f = emit((left % GROUP_VALUES + GROUP_VALUES) as u8, store, f);
+        writer.emit((left % GROUP_VALUES + GROUP_VALUES) as u8);
         left /= GROUP_VALUES;
     }
-    emit(left as u8, store, f)
+    writer.emit(left as u8);
 }

@@ -1,6 +1,7 @@
 // Selectors of a compiled sheet, and the check that bytes are a sheet.
 ghost use Rattle.std.specs.Prelude.{◌≡◌, ◌<◌, length};
 ghost use Rattle.combinators.specs.Store.{emits};
+ghost use Rattle.combinators.specs.Writer.{written, SameStore};
 ghost use Rattle.compiled.specs.Number.{number_limit};
 ghost use Rattle.compiled.specs.Sheet.{head_bytes, head_at, parts_at, selector_at, selectors_at, whole_at};
 ghost use Rattle.compiled.specs.Answer.{read_answer, read_within, place_answer, selector_answer, check_answer, refusal_of, bytes_refusal, check_within};
@@ -10,6 +11,7 @@ use crate::numbers::{GROUP_VALUES, emit_number, read_number, read_ranged};
 use crate::places::{Fault, Read};
 use crate::styles::skip_styles;
 use combinators::refusals::{Refusal, no_refusal};
+use combinators::writer::Writer;
 use syntax::rows::{AGENT_ORIGIN, AUTHOR_ORIGIN, PSEUDO_AFTER, PSEUDO_NONE};
 
 // The bytes that a compiled sheet may have.
@@ -30,7 +32,12 @@ pub struct Head {
     pub count: u32,
 }
 
-// What an answer stands for: refusal 9 with its place, or none.
+// A reader is told a place in the sheet and how much the bytes there say is left of it. The sheet has fewer bytes than a number of 32 bits can tell,
+// of which where a content starts is one: a type that says so would be made anew at each of the calls that C makes. A reader of a head is told besides the
+// origin of the selector before, which changes from one to the next, so the three are no struct.
+
+// What an answer stands for: refusal 9 with its place, or none. That of a page has the same two arms and a definition of its own, by another error.
+#[tactic(auto, unfolding(crate::specs::Answer::refusal_of))]
 pub fn refusal_of(answer: Result<(), Fault>) -> Refusal
     ensures { result ≡ refusal_of answer }
 {
@@ -145,12 +152,12 @@ pub fn check_sheet(s: &[u8]) -> Result<(), Fault>
     check_selectors(s, count.next, count.value)
 }
 
-// Writes the numbers before a selector's components: its origin, its pseudo element and how many components it has. The fill behind them.
-pub fn emit_head(origin: u32, pseudo: u32, count: u32, store: &mut [u8], fill: usize) -> usize
-    ensures { record { bytes = store.new; fill = result }
-        ≡ emits (record { bytes = store.old; fill = fill }) (head_bytes origin pseudo count) }
+// Writes the numbers before a selector's components: its origin, its pseudo element and how many components it has.
+pub fn emit_head(origin: u32, pseudo: u32, count: u32, writer: &mut Writer<'_>)
+    ensures same_store { SameStore writer.old writer.new }
+    ensures written { written writer.new ≡ emits (written writer.old) (head_bytes origin pseudo count) }
 {
-    let behind_origin = emit_number(origin, store, fill);
-    let behind_pseudo = emit_number(pseudo, store, behind_origin);
-    emit_number(count, store, behind_pseudo)
+    emit_number(origin, writer);
+    emit_number(pseudo, writer);
+    emit_number(count, writer);
 }

@@ -1,6 +1,7 @@
 // Styles of a compiled sheet: whether it is important, where its declaration starts, the slot, and the slot's value.
 ghost use Rattle.std.specs.Prelude.{◌≡◌, ◌++◌, ◌<◌, length};
 ghost use Rattle.combinators.specs.Store.{emits};
+ghost use Rattle.combinators.specs.Writer.{written, SameStore};
 ghost use Rattle.combinators.specs.Part.{part};
 ghost use Rattle.syntax.specs.Layout.{white_space_number, white_space_of, content_slot, style_slot_of, style_of, style_in};
 ghost use Rattle.compiled.specs.Number.{number_limit, number_bytes};
@@ -12,6 +13,7 @@ ghost use Rattle.compiled.specs.Answer.{read_answer, read_within, place_answer};
 use crate::numbers::{emit_number, read_number, read_ranged};
 use crate::places::{Fault, Read};
 use crate::texts::{emit_text_part, read_text};
+use combinators::writer::Writer;
 use syntax::rows::{
     BACKGROUND_SLOT, COLOUR_SLOT, CONTENT_SLOT, DISPLAY_SLOT, FLAG_FALSE, FLAG_TRUE, LAST_SLOT,
     WHITE_SPACE_NORMAL, WHITE_SPACE_PRE, WHITE_SPACE_PRE_WRAP, WHITE_SPACE_SLOT, flag_of,
@@ -125,48 +127,50 @@ fn white_space_number(value: u32) -> u32
     }
 }
 
-// Writes a slot and a number; the fill behind them.
-fn emit_slot_number(slot: u32, value: u32, store: &mut [u8], fill: usize) -> usize
-    ensures { record { bytes = store.new; fill = result }
-        ≡ emits (record { bytes = store.old; fill = fill }) (number_bytes slot ++ number_bytes value) }
+// Writes a slot and a number.
+fn emit_slot_number(slot: u32, value: u32, writer: &mut Writer<'_>)
+    ensures same_store { SameStore writer.old writer.new }
+    ensures written { written writer.new ≡ emits (written writer.old) (number_bytes slot ++ number_bytes value) }
 {
-    let behind = emit_number(slot, store, fill);
-    emit_number(value, store, behind)
+    emit_number(slot, writer);
+    emit_number(value, writer);
 }
 
-// Writes the slot of contents and `size` bytes of `texts` from `start` on, or as many as there are; the fill behind them.
-fn emit_content(start: u32, size: u32, texts: &[u8], store: &mut [u8], fill: usize) -> usize
-    ensures { record { bytes = store.new; fill = result }
-        ≡ emits (record { bytes = store.old; fill = fill }) (number_bytes content_slot ++ text_bytes (part texts.now start size)) }
+// Writes the slot of contents and `size` bytes of `texts` from `start` on, or as many as there are.
+fn emit_content(start: u32, size: u32, texts: &[u8], writer: &mut Writer<'_>)
+    ensures same_store { SameStore writer.old writer.new }
+    ensures written { written writer.new
+        ≡ emits (written writer.old)
+        (number_bytes content_slot ++ text_bytes (part texts.now start size)) }
 {
-    let behind = emit_number(CONTENT_SLOT, store, fill);
-    emit_text_part(start as usize, size, texts, store, behind)
+    emit_number(CONTENT_SLOT, writer);
+    emit_text_part(start as usize, size, texts, writer);
 }
 
-// Writes the slot of a style and what stands behind it, with its text in `texts`; the fill behind them.
-fn emit_slot(slot: u32, value: Value, texts: &[u8], store: &mut [u8], fill: usize) -> usize
-    ensures { record { bytes = store.new; fill = result }
-        ≡ emits (record { bytes = store.old; fill = fill })
+// Writes the slot of a style and what stands behind it, with its text in `texts`.
+fn emit_slot(slot: u32, value: Value, texts: &[u8], writer: &mut Writer<'_>)
+    ensures same_store { SameStore writer.old writer.new }
+    ensures written { written writer.new
+        ≡ emits (written writer.old)
         (number_bytes (style_slot_of (style_of texts.now slot value)) ++ style_body (style_of texts.now slot value)) }
 {
     match slot {
-        COLOUR_SLOT | BACKGROUND_SLOT => emit_slot_number(slot, value.number, store, fill),
-        DISPLAY_SLOT => emit_number(DISPLAY_SLOT, store, fill),
+        COLOUR_SLOT | BACKGROUND_SLOT => emit_slot_number(slot, value.number, writer),
+        DISPLAY_SLOT => emit_number(DISPLAY_SLOT, writer),
         WHITE_SPACE_SLOT => {
             let word = white_space_number(value.number);
-            emit_slot_number(WHITE_SPACE_SLOT, word, store, fill)
+            emit_slot_number(WHITE_SPACE_SLOT, word, writer);
         }
-        _ => emit_content(value.number, value.second, texts, store, fill),
+        _ => emit_content(value.number, value.second, texts, writer),
     }
 }
 
-// Writes a style, with its text in `texts`; the fill behind it.
-pub fn emit_style(style: StyleNumbers, texts: &[u8], store: &mut [u8], fill: usize) -> usize
-    ensures { record { bytes = store.new; fill = result }
-        ≡ emits (record { bytes = store.old; fill = fill }) (style_bytes (style_in texts.now style)) }
+// Writes a style, with its text in `texts`.
+pub fn emit_style(style: StyleNumbers, texts: &[u8], writer: &mut Writer<'_>)
+    ensures same_store { SameStore writer.old writer.new }
+    ensures written { written writer.new ≡ emits (written writer.old) (style_bytes (style_in texts.now style)) }
 {
-    let behind_mark = emit_number(flag_of(style.important), store, fill);
-    let value = style.value;
-    let behind_start = emit_number(value.start, store, behind_mark);
-    emit_slot(style.slot, value, texts, store, behind_start)
+    emit_number(flag_of(style.important), writer);
+    emit_number(style.value.start, writer);
+    emit_slot(style.slot, style.value, texts, writer);
 }

@@ -1,6 +1,7 @@
 // Texts of a compiled sheet: the length, then the bytes.
 ghost use Rattle.std.specs.Prelude.{◌≡◌, ◌<◌, length};
 ghost use Rattle.combinators.specs.Store.{emits};
+ghost use Rattle.combinators.specs.Writer.{written, SameStore};
 ghost use Rattle.combinators.specs.Part.{part};
 ghost use Rattle.compiled.specs.Number.{number_limit};
 ghost use Rattle.compiled.specs.Text.{text_bytes, span_at};
@@ -8,8 +9,8 @@ ghost use Rattle.compiled.specs.Answer.{read_answer, text_within};
 
 use crate::numbers::{emit_number, read_number};
 use crate::places::{Fault, Read};
-use combinators::stores::emit_part;
 use combinators::texts::part_of;
+use combinators::writer::Writer;
 
 // Where a text lies: its first byte, which follows the length, and how many there are.
 #[derive(Clone, Copy, PartialEq, Eq)]
@@ -35,19 +36,20 @@ pub fn read_text(s: &[u8], at: usize) -> Result<Read<Span>, Fault>
     }
 }
 
-// Writes a text with its length; the fill behind it.
-pub fn emit_text(text: &[u8], store: &mut [u8], fill: usize) -> usize
+// Writes a text with its length.
+pub fn emit_text(text: &[u8], writer: &mut Writer<'_>)
     requires { length text.now < number_limit }
-    ensures { record { bytes = store.new; fill = result } ≡ emits (record { bytes = store.old; fill = fill }) (text_bytes text.now) }
+    ensures same_store { SameStore writer.old writer.new }
+    ensures written { written writer.new ≡ emits (written writer.old) (text_bytes text.now) }
 {
-    let behind = emit_number(text.len() as u32, store, fill);
-    emit_part(text, text.len(), store, behind)
+    emit_number(text.len() as u32, writer);
+    writer.emit_all(text);
 }
 
-// Writes the text that starts at `start` in `texts` and has `size` bytes, or as many as there are, with its length; the fill behind it.
-pub fn emit_text_part(start: usize, size: u32, texts: &[u8], store: &mut [u8], fill: usize) -> usize
-    ensures { record { bytes = store.new; fill = result }
-        ≡ emits (record { bytes = store.old; fill = fill }) (text_bytes (part texts.now start size)) }
+// Writes the text that starts at `start` in `texts` and has `size` bytes, or as many as there are, with its length.
+pub fn emit_text_part(start: usize, size: u32, texts: &[u8], writer: &mut Writer<'_>)
+    ensures same_store { SameStore writer.old writer.new }
+    ensures written { written writer.new ≡ emits (written writer.old) (text_bytes (part texts.now start size)) }
 {
-    emit_text(part_of(texts, start, size as usize), store, fill)
+    emit_text(part_of(texts, start, size as usize), writer);
 }

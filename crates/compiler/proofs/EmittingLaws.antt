@@ -1,7 +1,7 @@
 -- A loop that reads values one behind the other and writes the bytes of each, until the store is full.
 use Rattle.combinators.specs.Choice.{is}
 use mathlib.Core.Path.{◌≡◌, refl, sym, ap, ap₂, ◌∙◌}
-use mathlib.Core.Bool.{Bool, true, false}
+use mathlib.Core.Bool.{Bool, true}
 use mathlib.Core.List.{List, [], ◌∷◌, ◌++◌}
 use mathlib.Core.Logic.{⊎_elim, ◌⊎◌, inl, inr}
 use borrow.Author.Tests.{le-ltb, eq-eqb, ne_eqb}
@@ -11,7 +11,7 @@ use native.Mathlib.Omega.{arith}
 use lib.ListN.{length, drop}
 use Rattle.combinators.specs.Store.{Store, emits}
 use Rattle.combinators.proofs.Emitted.{emits_none, emits-append, emits-bytes, emits-over, sets-out, onto}
-use Rattle.combinators.proofs.Rules.{is-yes, is-no, is_true}
+use Rattle.combinators.proofs.Rules.{is-no, is_true}
 use Rattle.syntax.specs.Stream.{Read, read_many, texts_many}
 use Rattle.compiler.specs.Writing.{past}
 
@@ -49,24 +49,18 @@ out l ys =
 -- what is written behind them changes nothing
 pub past_end : (l xs : List ℕ) → emits (record { bytes = l; fill = length l + 1 }) xs ≡ record { bytes = l; fill = length l + 1 }
 past_end l xs =
-    ap (λ (o : Store). emits o xs) (sym (out l [])) ∙ emits-append (record { bytes = l; fill = length l }) (0 ∷ []) xs ∙ out l xs
+    ap (λ (o : Store ℕ). emits o xs) (sym (out l [])) ∙ emits-append (record { bytes = l; fill = length l }) (0 ∷ []) xs ∙ out l xs
 
 -- ---- a loop
 
-module _ {A : Type 0} (u : List ℕ → Read A) (w : A → List ℕ) (rows : List ℕ) (count at : ℕ) (st₀ : List ℕ) (fill : ℕ) where
+module _ {A : Type 0} (u : List ℕ → Read A) (w : A → List ℕ) (rows : List ℕ) (count at : ℕ) (o₀ : Store ℕ) where
   -- what is left to write of n values from a place on is what was to be written
-  pub record Emitting (n place : ℕ) (st : List ℕ) (f : ℕ) : Type 0 where
-    pub left : emits (record { bytes = st; fill = f }) (texts_many w (read_many u n (drop place rows)).value)
-        ≡ emits (record { bytes = st₀; fill = fill }) (texts_many w (read_many u count (drop at rows)).value)
-    pub long : length st ≡ length st₀
-
-  -- before the first value all of them are left to write
-  pub emitting-begin : Emitting count at st₀ fill
-  emitting-begin = record { left = refl; long = refl }
+  pub record Emitting (n place : ℕ) (o : Store ℕ) : Type 0 where
+    pub left : emits o (texts_many w (read_many u n (drop place rows)).value) ≡ emits o₀ (texts_many w (read_many u count (drop at rows)).value)
 
   -- with none read so far all of them are left
-  pub emitting-all : Emitting (count - 0) at st₀ fill
-  emitting-all = let e : count - 0 ≡ count = omega arith in rw e emitting-begin
+  pub emitting-all : Emitting (count - 0) at o₀
+  emitting-all = let e : count - 0 ≡ count = omega arith in record { left = rw e }
 
   -- the bytes of n values are those of the first and of the n - 1 behind it
   one_less : (n place next : ℕ) → 0 < n → drop next rows ≡ (u (drop place rows)).rest
@@ -81,30 +75,26 @@ module _ {A : Type 0} (u : List ℕ → Read A) (w : A → List ℕ) (rows : Lis
   none_left zero t h = refl
   none_left (suc k) t h = absurd (omega arith)
 
-  module _ (n place : ℕ) (st : List ℕ) (f : ℕ) (c : Emitting n place st f) where
+  module _ (n place : ℕ) (o : Store ℕ) (c : Emitting n place o) where
     -- a turn: one value is read and its bytes are written
-    pub emitting-more : 0 < n → (z : List ℕ) (g : ℕ) → record { bytes = z; fill = g } ≡ emits (record { bytes = st; fill = f }) (w (u (drop place rows)).value)
-        → length z ≡ length st → (next : ℕ) → drop next rows ≡ (u (drop place rows)).rest → Emitting (n - 1) next z g
-    emitting-more h z g e k next d =
-        record { left = onto _ _ _ _ e ∙ sym (ap (emits (record { bytes = st; fill = f })) (one_less n place next h d)) ∙ c.left; long = k ∙ c.long }
+    pub emitting-more : 0 < n → (o₁ : Store ℕ) → o₁ ≡ emits o (w (u (drop place rows)).value) → (next : ℕ) → drop next rows ≡ (u (drop place rows)).rest
+        → Emitting (n - 1) next o₁
+    emitting-more h o₁ e next d = record { left = onto _ _ _ _ e ∙ sym (ap (emits o) (one_less n place next h d)) ∙ c.left }
 
     -- with none left the bytes of all values are written
-    pub emitting-done : n ≤ 0
-        → record { bytes = st; fill = f } ≡ emits (record { bytes = st₀; fill = fill }) (texts_many w (read_many u count (drop at rows)).value)
-    emitting-done h = sym (ap (emits (record { bytes = st; fill = f })) (none_left n (drop place rows) h) ∙ emits_none _) ∙ c.left
+    pub emitting-done : n ≤ 0 → o ≡ emits o₀ (texts_many w (read_many u count (drop at rows)).value)
+    emitting-done h = sym (ap (emits o) (none_left n (drop place rows) h) ∙ emits_none _) ∙ c.left
 
     -- with the store full, what is left to write changes nothing more
-    pub emitting-past : f ≡ length st + 1
-        → record { bytes = st; fill = f } ≡ emits (record { bytes = st₀; fill = fill }) (texts_many w (read_many u count (drop at rows)).value)
+    pub emitting-past : o.fill ≡ length o.bytes + 1 → o ≡ emits o₀ (texts_many w (read_many u count (drop at rows)).value)
     emitting-past h =
         let xs : List ℕ = texts_many w (read_many u n (drop place rows)).value in
-        let e : emits (record { bytes = st; fill = f }) xs ≡ record { bytes = st; fill = f } = rw h (past_end st xs) in
-        sym e ∙ c.left
+        let f : o ≡ record { bytes = o.bytes; fill = length o.bytes + 1 } = ap (λ (k : ℕ). record { bytes = o.bytes; fill = k }) h in
+        f ∙ sym (past_end o.bytes xs) ∙ sym (ap (λ (x : Store ℕ). emits x xs) f) ∙ c.left
 
   -- a turn, by how many values were read before
-  pub emitting-next : (i place : ℕ) (st : List ℕ) (f : ℕ) → Emitting (count - i) place st f → i < count → (z : List ℕ) (g : ℕ)
-      → record { bytes = z; fill = g } ≡ emits (record { bytes = st; fill = f }) (w (u (drop place rows)).value) → length z ≡ length st
-      → (next : ℕ) → drop next rows ≡ (u (drop place rows)).rest → Emitting (count - (i + 1)) next z g
-  emitting-next i place st f c h z g e k next d =
+  pub emitting-next : (i place : ℕ) (o : Store ℕ) → Emitting (count - i) place o → i < count → (o₁ : Store ℕ)
+      → o₁ ≡ emits o (w (u (drop place rows)).value) → (next : ℕ) → drop next rows ≡ (u (drop place rows)).rest → Emitting (count - (i + 1)) next o₁
+  emitting-next i place o c h o₁ e next d =
       let q : count - (i + 1) ≡ count - i - 1 = omega arith in
-      rw q (emitting-more (count - i) place st f c (omega arith) z g e k next d)
+      rw q (emitting-more (count - i) place o c (omega arith) o₁ e next d)

@@ -24,7 +24,7 @@ use Rattle.compiled.specs.Number.{number_limit}
 use Rattle.compiled.specs.Sheet.{selector_bytes}
 use Rattle.compiler.specs.Selectors.{compiled_selector, styled_selectors, rule_selectors, sheet_selectors}
 use Rattle.compiler.specs.Writing.{styled_bytes, rule_bytes, SelectorsFew, RuleLent, RulesLent}
-use Rattle.compiler.proofs.EmittingLaws.{Emitting, emitting-begin, emitting-more, emitting-done, emitting-past}
+use Rattle.compiler.proofs.EmittingLaws.{Emitting, emitting-all, emitting-more, emitting-done, emitting-past}
 
 -- ---- selectors of a rule with its styles
 module _ (origin : ℕ) where
@@ -55,7 +55,7 @@ module _ (origin : ℕ) where
       ∙ sym (texts-append (λ _ _. []) selector_bytes (rule_selectors origin r) (sheet_selectors origin rs))
 
   -- the bytes of all rules are those of their compiled selectors
-  pub rules-written : (rs : List RuleSet) (o₀ o₁ : Store) → o₁ ≡ emits o₀ (texts_many (rule_bytes origin) rs)
+  pub rules-written : (rs : List RuleSet) (o₀ o₁ : Store ℕ) → o₁ ≡ emits o₀ (texts_many (rule_bytes origin) rs)
       → o₁ ≡ emits o₀ (texts_many selector_bytes (sheet_selectors origin rs))
   rules-written rs o₀ o₁ p = p ∙ ap (emits o₀) (sheet-bytes rs)
 
@@ -83,10 +83,10 @@ module _ (rows : List ℕ) (at declarations count : ℕ) (d : (texts : List ℕ)
       ∙ get_or-drop at rows layout.rule_selectors 0
       ∙ sym g)
 
--- ---- returns of `emit_styled`: a rule at a place with so many styles, whose rows lie in a store
-module _ (rows : List ℕ) (at origin : ℕ) (tokens : List ℕ) (styles : ℕ) (texts : List ℕ) where
+-- ---- returns of `emit_styled`: a rule at a place with so many styles, whose rows lie in a store with texts of their own
+module _ (rows : List ℕ) (at origin : ℕ) (tokens : List ℕ) (styles : ℕ) (own texts : List ℕ) where
   abbrev ds : List StyleDecl
-  ds = styles_at tokens texts styles
+  ds = styles_at tokens own styles
 
   -- the bytes of its selectors
   abbrev styled_text : List ℕ
@@ -95,15 +95,15 @@ module _ (rows : List ℕ) (at origin : ℕ) (tokens : List ℕ) (styles : ℕ) 
   -- as many styles are read as were counted
   long : length ds ≡ styles
   unfolding styles_at
-  long = many-length (read_style texts) styles tokens
+  long = many-length (read_style own) styles tokens
 
   -- a rule without styles writes nothing
-  pub styled-none : styles ≡ 0 → (o : Store) → o ≡ emits o styled_text
+  pub styled-none : styles ≡ 0 → (o : Store ℕ) → o ≡ emits o styled_text
   unfolding texts_many
   styled-none h o = sym (emits_none o) ∙ ap (emits o) (ap (texts_many selector_bytes) (sym (none-styled origin ds _ (long ∙ h))))
 
   -- a rule with styles writes the bytes of all its selectors
-  pub styled-all : ¬ (styles ≡ 0) → (n : ℕ) → n ≡ get_or rows (at + layout.rule_selectors) 0 → (first : ℕ) → drop first rows ≡ drop (at + rule_head) rows → (o₀ o₁ : Store)
+  pub styled-all : ¬ (styles ≡ 0) → (n : ℕ) → n ≡ get_or rows (at + layout.rule_selectors) 0 → (first : ℕ) → drop first rows ≡ drop (at + rule_head) rows → (o₀ o₁ : Store ℕ)
       → o₁ ≡ emits o₀ (texts_many (styled_bytes origin ds) (read_many (read_selector texts) n (drop first rows)).value) → o₁ ≡ emits o₀ styled_text
   unfolding read_rule
   styled-all h n g first l o₀ o₁ p =
@@ -116,7 +116,7 @@ module _ (rows : List ℕ) (at origin : ℕ) (tokens : List ℕ) (styles : ℕ) 
 -- with the styles taken back, the store of tokens is as it was, and the bytes of the rule's selectors are written
 pub rule-written : (rows : List ℕ) (at origin : ℕ) (texts x y z : List ℕ) (n : ℕ) → Zeros x 0 → y ≡ sets x 0 (rule_styles (drop at rows))
     → style_width * n ≡ length (rule_styles (drop at rows))
-    → ((texts : List ℕ) → styles_at y texts n ≡ styles_of (read_rule texts (drop at rows)).value.declarations) → (o₀ o₁ : Store)
+    → ((texts : List ℕ) → styles_at y texts n ≡ styles_of (read_rule texts (drop at rows)).value.declarations) → (o₀ o₁ : Store ℕ)
     → o₁ ≡ emits o₀ (texts_many selector_bytes (styled_selectors origin (styles_at y texts n) (read_rule texts (drop at rows)).value.selectors))
     → z ≡ wiped 0 (style_width * n) y → (z ≡ x) × (o₁ ≡ emits o₀ (rule_bytes origin (read_rule texts (drop at rows)).value))
 unfolding rule_bytes rule_selectors
@@ -142,51 +142,48 @@ lent-next (suc k) t tokens h o x ex next e =
     rw (ex, q)
     (record { room = record { texts = o.room.texts; each = rw (e o.room.texts) o.room.each.1 }; zeros = o.zeros })
 
-module _ (rows : List ℕ) (count at origin : ℕ) (tokens₀ texts st₀ : List ℕ) (fill : ℕ) where
-  pub record Writing (n place : ℕ) (tokens st : List ℕ) (f : ℕ) : Type 0 where
-    pub emitted : Emitting (read_rule texts) (rule_bytes origin) rows count at st₀ fill n place st f
+module _ (rows : List ℕ) (count at origin : ℕ) (tokens₀ texts : List ℕ) (o₀ : Store ℕ) where
+  pub record Writing (n place : ℕ) (tokens : List ℕ) (o : Store ℕ) : Type 0 where
+    pub emitted : Emitting (read_rule texts) (rule_bytes origin) rows count at o₀ n place o
     pub lent : RulesLent n (drop place rows) tokens
     pub same : tokens ≡ tokens₀
 
-  -- before the first rule all of them are left to write
-  pub writing-begin : RulesLent count (drop at rows) tokens₀ → Writing count at tokens₀ st₀ fill
-  writing-begin o = record { emitted = emitting-begin (read_rule texts) (rule_bytes origin) rows count at st₀ fill; lent = o; same = refl }
-
   -- with none written so far all of them are left
-  pub writing-all : RulesLent count (drop at rows) tokens₀ → Writing (count - 0) at tokens₀ st₀ fill
-  writing-all o = let e : count - 0 ≡ count = omega arith in rw e (writing-begin o)
+  pub writing-all : RulesLent count (drop at rows) tokens₀ → Writing (count - 0) at tokens₀ o₀
+  writing-all l =
+      let e : count - 0 ≡ count = omega arith in
+      record { emitted = emitting-all (read_rule texts) (rule_bytes origin) rows count at o₀; lent = rw e l; same = refl }
 
-  module _ (n place : ℕ) (tokens st : List ℕ) (f : ℕ) (c : Writing n place tokens st f) where
+  module _ (n place : ℕ) (tokens : List ℕ) (o : Store ℕ) (c : Writing n place tokens o) where
     -- a turn: one rule is written, and the rules behind it are left
-    pub writing_more : 0 < n → (x : List ℕ) → x ≡ tokens → (z : List ℕ) (g : ℕ)
-        → record { bytes = z; fill = g } ≡ emits (record { bytes = st; fill = f }) (rule_bytes origin (read_rule texts (drop place rows)).value) → length z ≡ length st
-        → (next : ℕ) → ((texts : List ℕ) → drop next rows ≡ (read_rule texts (drop place rows)).rest) → Writing (n - 1) next x z g
-    writing_more h x ex z g e k next d =
+    pub writing_more : 0 < n → (x : List ℕ) → x ≡ tokens → (o₁ : Store ℕ) → o₁ ≡ emits o (rule_bytes origin (read_rule texts (drop place rows)).value)
+        → (next : ℕ) → ((texts : List ℕ) → drop next rows ≡ (read_rule texts (drop place rows)).rest) → Writing (n - 1) next x o₁
+    writing_more h x ex o₁ e next d =
         record {
-          emitted = emitting-more (read_rule texts) (rule_bytes origin) rows count at st₀ fill n place st f c.emitted h z g e k next (d texts);
+          emitted = emitting-more (read_rule texts) (rule_bytes origin) rows count at o₀ n place o c.emitted h o₁ e next (d texts);
           lent = lent-next n (drop place rows) tokens h c.lent x ex (drop next rows) d;
           same = ex ∙ c.same;
         }
 
-    -- with no rule left the bytes of all rules are written, and the store of tokens is as it was
-    pub writing-done : n ≤ 0 → (tokens ≡ tokens₀)
-        × (record { bytes = st; fill = f } ≡ emits (record { bytes = st₀; fill = fill }) (texts_many selector_bytes (sheet_selectors origin (read_many (read_rule texts) count (drop at rows)).value)))
-    writing-done h =
-        (c.same, rules-written origin _ _ _ (emitting-done (read_rule texts) (rule_bytes origin) rows count at st₀ fill n place st f c.emitted h))
+    -- the bytes of all rules, and the store of tokens as it was
+    abbrev Whole : Type 0
+    Whole = (tokens ≡ tokens₀) × (o ≡ emits o₀ (texts_many selector_bytes (sheet_selectors origin (read_many (read_rule texts) count (drop at rows)).value)))
 
-    -- with the store full, what is left to write changes nothing more, and the store of tokens is as it was
-    pub writing-past : f ≡ length st + 1 → (tokens ≡ tokens₀)
-        × (record { bytes = st; fill = f } ≡ emits (record { bytes = st₀; fill = fill }) (texts_many selector_bytes (sheet_selectors origin (read_many (read_rule texts) count (drop at rows)).value)))
-    writing-past h =
-        (c.same, rules-written origin _ _ _ (emitting-past (read_rule texts) (rule_bytes origin) rows count at st₀ fill n place st f c.emitted h))
+    -- with no rule left they are written
+    pub writing-done : n ≤ 0 → Whole
+    writing-done h = (c.same, rules-written origin _ _ _ (emitting-done (read_rule texts) (rule_bytes origin) rows count at o₀ n place o c.emitted h))
+
+    -- with the store full, what is left to write changes nothing more
+    pub writing-past : o.fill ≡ length o.bytes + 1 → Whole
+    writing-past h = (c.same, rules-written origin _ _ _ (emitting-past (read_rule texts) (rule_bytes origin) rows count at o₀ n place o c.emitted h))
 
   -- a turn, by how many rules were written before
-  pub writing-next : (i place : ℕ) (tokens st : List ℕ) (f : ℕ) → Writing (count - i) place tokens st f → i < count → (x : List ℕ) → x ≡ tokens → (z : List ℕ) (g : ℕ)
-      → record { bytes = z; fill = g } ≡ emits (record { bytes = st; fill = f }) (rule_bytes origin (read_rule texts (drop place rows)).value) → length z ≡ length st
-      → (next : ℕ) → ((texts : List ℕ) → drop next rows ≡ (read_rule texts (drop place rows)).rest) → Writing (count - (i + 1)) next x z g
-  writing-next i place tokens st f c h x ex z g e k next d =
+  pub writing-next : (i place : ℕ) (tokens : List ℕ) (o : Store ℕ) → Writing (count - i) place tokens o → i < count → (x : List ℕ) → x ≡ tokens → (o₁ : Store ℕ)
+      → o₁ ≡ emits o (rule_bytes origin (read_rule texts (drop place rows)).value)
+      → (next : ℕ) → ((texts : List ℕ) → drop next rows ≡ (read_rule texts (drop place rows)).rest) → Writing (count - (i + 1)) next x o₁
+  writing-next i place tokens o c h x ex o₁ e next d =
       let q : count - (i + 1) ≡ count - i - 1 = omega arith in
-      rw q (writing_more (count - i) place tokens st f c (omega arith) x ex z g e k next d)
+      rw q (writing_more (count - i) place tokens o c (omega arith) x ex o₁ e next d)
 
 -- ---- turns of `count_selectors`
 module _ (rows : List ℕ) (count at : ℕ) where

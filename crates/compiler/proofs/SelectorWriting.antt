@@ -8,7 +8,7 @@ use lib.ListN.{length, get_or, drop, length-reverse}
 use lib.Seq.{get_or-drop, drop-drop}
 use Rattle.combinators.specs.Store.{Store, emits}
 use Rattle.combinators.proofs.Emitted.{emits_none, onto, then}
-use Rattle.combinators.proofs.Rules.{pick_true, pick-false, is-yes, is-no}
+use Rattle.combinators.proofs.Rules.{pick-false, is-no}
 use Rattle.syntax.specs.RuleLayout.{component_width, component_kind_at, component_text_at, component_first_at, component_second_at, component_from, read_component, selector_head, selector_components, selector_pseudo, pseudo_number, pseudo_from, read_selector}
 use Rattle.syntax.specs.Selector.{Component}
 use Rattle.syntax.specs.Stream.{read_many, texts_many}
@@ -22,7 +22,7 @@ use Rattle.compiler.specs.Writing.{styled_bytes}
 -- ---- components
 -- the numbers of a component's row are the component that is read there
 pub component-at : (rows : List ℕ) (at : ℕ) (texts : List ℕ) (k f a b : ℕ) → k ≡ get_or rows (at + component_kind_at) 0 → f ≡ get_or rows (at + component_text_at) 0
-    → a ≡ get_or rows (at + component_first_at) 0 → b ≡ get_or rows (at + component_second_at) 0 → (o₀ o₁ : Store)
+    → a ≡ get_or rows (at + component_first_at) 0 → b ≡ get_or rows (at + component_second_at) 0 → (o₀ o₁ : Store ℕ)
     → o₁ ≡ emits o₀ (component_bytes (component_from texts k f a b)) → o₁ ≡ emits o₀ (component_bytes (read_component texts (drop at rows)).value)
 unfolding read_component
 component-at rows at texts k f a b ek ef ea eb o₀ o₁ p =
@@ -38,24 +38,18 @@ component-at rows at texts k f a b ek ef ea eb o₀ o₁ p =
     )
 
 -- turns of `emit_components`, which counts down
-module _ (rows : List ℕ) (at count : ℕ) (texts st₀ : List ℕ) (fill : ℕ) where
+module _ (rows : List ℕ) (at count : ℕ) (texts : List ℕ) (o₀ : Store ℕ) where
   -- the bytes of the first n, the last of them first
   abbrev pub backwards : ℕ → List ℕ
   backwards n = texts_many component_bytes (reverse (read_many (read_component texts) n (drop at rows)).value)
 
   -- what is left to write of them is what was to be written
-  pub record Returning (n : ℕ) (st : List ℕ) (f : ℕ) : Type 0 where
-    pub left : emits (record { bytes = st; fill = f }) (backwards n) ≡ emits (record { bytes = st₀; fill = fill }) (backwards count)
-    pub long : length st ≡ length st₀
-    pub few : n ≤ count
-
-  -- before the last component all of them are left to write
-  pub returning-begin : Returning count st₀ fill
-  returning-begin = record { left = refl; long = refl; few = omega arith }
+  pub record Returning (n : ℕ) (o : Store ℕ) : Type 0 where
+    pub left : emits o (backwards n) ≡ emits o₀ (backwards count)
 
   -- with none written so far all of them are left
-  pub returning-all : Returning (count - 0) st₀ fill
-  returning-all = let e : count - 0 ≡ count = omega arith in rw e returning-begin
+  pub returning-all : Returning (count - 0) o₀
+  returning-all = let e : count - 0 ≡ count = omega arith in record { left = rw e }
 
   -- the bytes of n components, the last first, are those of the n-th and then of the n - 1 before it
   last-first : (n place : ℕ) → 0 < n → drop place rows ≡ drop (at + component_width * (n - 1)) rows
@@ -77,26 +71,23 @@ module _ (rows : List ℕ) (at count : ℕ) (texts st₀ : List ℕ) (fill : ℕ
   unfolding texts_many read_many
   none_left n h = let q : n ≡ 0 = omega arith in rw q
 
-  module _ (n : ℕ) (st : List ℕ) (f : ℕ) (c : Returning n st f) where
+  module _ (n : ℕ) (o : Store ℕ) (c : Returning n o) where
     -- a turn: the component before the last one written is written
-    pub returning-more : 0 < n → (place : ℕ) → drop place rows ≡ drop (at + component_width * (n - 1)) rows → (z : List ℕ) (g : ℕ)
-        → record { bytes = z; fill = g } ≡ emits (record { bytes = st; fill = f }) (component_bytes (read_component texts (drop place rows)).value)
-        → length z ≡ length st → Returning (n - 1) z g
-    returning-more h place d z g e k =
-        record { left = onto _ _ _ _ e ∙ sym (ap (emits (record { bytes = st; fill = f })) (last-first n place h d)) ∙ c.left; long = k ∙ c.long; few = omega (arith, c.few) }
+    pub returning-more : 0 < n → (place : ℕ) → drop place rows ≡ drop (at + component_width * (n - 1)) rows → (o₁ : Store ℕ)
+        → o₁ ≡ emits o (component_bytes (read_component texts (drop place rows)).value) → Returning (n - 1) o₁
+    returning-more h place d o₁ e = record { left = onto _ _ _ _ e ∙ sym (ap (emits o) (last-first n place h d)) ∙ c.left }
 
     -- with none left the components are written, the last first
-    pub returning-done : n ≤ 0 → record { bytes = st; fill = f } ≡ emits (record { bytes = st₀; fill = fill }) (backwards count)
-    returning-done h = sym (ap (emits (record { bytes = st; fill = f })) (none_left n h) ∙ emits_none _) ∙ c.left
+    pub returning-done : n ≤ 0 → o ≡ emits o₀ (backwards count)
+    returning-done h = sym (ap (emits o) (none_left n h) ∙ emits_none _) ∙ c.left
 
   -- a turn, by how many components were written before
-  pub returning-next : (i : ℕ) (st : List ℕ) (f : ℕ) → Returning (count - i) st f → i < count → (place : ℕ) → drop place rows ≡ drop (at + component_width * (count - 1 - i)) rows
-      → (z : List ℕ) (g : ℕ) → record { bytes = z; fill = g } ≡ emits (record { bytes = st; fill = f }) (component_bytes (read_component texts (drop place rows)).value)
-      → length z ≡ length st → Returning (count - (i + 1)) z g
-  returning-next i st f c h place d z g e k =
+  pub returning-next : (i : ℕ) (o : Store ℕ) → Returning (count - i) o → i < count → (place : ℕ) → drop place rows ≡ drop (at + component_width * (count - 1 - i)) rows
+      → (o₁ : Store ℕ) → o₁ ≡ emits o (component_bytes (read_component texts (drop place rows)).value) → Returning (count - (i + 1)) o₁
+  returning-next i o c h place d o₁ e =
       let q : count - (i + 1) ≡ count - i - 1 = omega arith in
       let l : count - 1 - i ≡ count - i - 1 = omega arith in
-      rw q (returning-more (count - i) st f c (omega arith) place (rw l at d) z g e k)
+      rw q (returning-more (count - i) o c (omega arith) place (rw l at d) o₁ e)
 
 -- ---- pseudo elements
 -- a number above that of `::after` stands for it
@@ -109,7 +100,7 @@ pseudo-least (suc (suc n)) =
     e ∙ ap pseudo_number (pick-false _ _ _ _ (is-no (suc (suc n)) 0 (λ h. absurd (omega arith))) (pick-false _ _ _ _ (is-no (suc (suc n)) 1 (λ h. absurd (omega arith))) refl))
 
 -- ---- the bytes of a selector at a place
-module _ (rows : List ℕ) (at origin : ℕ) (o₀ o₁ : Store) where
+module _ (rows : List ℕ) (at origin : ℕ) (o₀ o₁ : Store ℕ) where
   -- what stands before the components of one at a place
   abbrev pub head_at : List ℕ
   head_at = head_bytes origin (pseudo_number (pseudo_from (get_or (drop at rows) selector_pseudo 0))) (get_or (drop at rows) selector_components 0)
@@ -121,7 +112,7 @@ module _ (rows : List ℕ) (at origin : ℕ) (o₀ o₁ : Store) where
 
   -- head, components and styles, one behind the other, are the bytes of the selector
   pub selector-written : o₁ ≡ emits o₀ head_at → (n first : ℕ) → n ≡ get_or rows (at + selector_components) 0 → drop first rows ≡ drop (at + selector_head) rows
-      → (texts : List ℕ) (o₂ o₃ : Store) → o₂ ≡ emits o₁ (texts_many component_bytes (reverse (read_many (read_component texts) n (drop first rows)).value))
+      → (texts : List ℕ) (o₂ o₃ : Store ℕ) → o₂ ≡ emits o₁ (texts_many component_bytes (reverse (read_many (read_component texts) n (drop first rows)).value))
       → (ds : List StyleDecl) → o₃ ≡ emits o₂ (styles_bytes ds) → o₃ ≡ emits o₀ (styled_bytes origin ds (read_selector texts (drop at rows)).value)
   unfolding styled_bytes selector_bytes compiled_selector read_selector
   selector-written p n first en ef texts o₂ o₃ q ds r =

@@ -143,7 +143,7 @@ module _ (rows : List ℕ) (count at own : ℕ) (height-zero overflow-hidden : B
 -- ---- styles from their rows
 module _ (rows : List ℕ) (at : ℕ) (texts : List ℕ) where
   -- the bytes of the numbers of a style row are those of the style
-  pub style-there : (x : StyleNumbers) → x ≡ numbers_at (drop at rows) → (o₀ o₁ : Store) → o₁ ≡ emits o₀ (style_bytes (style_in texts x))
+  pub style-there : (x : StyleNumbers) → x ≡ numbers_at (drop at rows) → (o₀ o₁ : Store ℕ) → o₁ ≡ emits o₀ (style_bytes (style_in texts x))
       → o₁ ≡ emits o₀ (style_bytes (read_style texts (drop at rows)).value)
   unfolding read_style
   style-there x e o₀ o₁ p = p ∙ ap (λ (y : StyleNumbers). emits o₀ (style_bytes (style_in texts y))) e
@@ -154,7 +154,7 @@ module _ (rows : List ℕ) (at : ℕ) (texts : List ℕ) where
   behind-style place p = p ∙ sym (drop-drop style_width at rows)
 
 -- the count, and the styles behind it, are the bytes of all styles
-pub styles-written : (rows texts : List ℕ) (count : ℕ) (o₀ o₁ o₂ : Store) → o₁ ≡ emits o₀ (number_bytes count) → o₂ ≡ emits o₁ (texts_many style_bytes (styles_at rows texts count))
+pub styles-written : (rows texts : List ℕ) (count : ℕ) (o₀ o₁ o₂ : Store ℕ) → o₁ ≡ emits o₀ (number_bytes count) → o₂ ≡ emits o₁ (texts_many style_bytes (styles_at rows texts count))
     → o₂ ≡ emits o₀ (styles_bytes (styles_at rows texts count))
 unfolding styles_bytes styles_at
 styles-written rows texts count o₀ o₁ o₂ p q =

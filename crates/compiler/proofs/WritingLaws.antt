@@ -56,7 +56,7 @@ texts-both (x ∷ xs) ys =
 
 -- ---- a sheet
 -- the selectors of the rules that lie in a sheet's part of the stores are those of the sheet
-pub sheet-written : (rows texts : List ℕ) (s : SheetRules) (origin : ℕ) (o₀ o₁ : Store)
+pub sheet-written : (rows texts : List ℕ) (s : SheetRules) (origin : ℕ) (o₀ o₁ : Store ℕ)
     → o₁ ≡ emits o₀ (texts_many selector_bytes (sheet_selectors origin (read_many (read_rule (take (length texts - s.from) (drop s.from texts))) s.count (drop s.place rows)).value))
     → o₁ ≡ emits o₀ (texts_many selector_bytes (sheet_selectors origin (rules_from rows texts s)))
 unfolding rules_from rules_at
@@ -101,7 +101,7 @@ module _ (rows texts : List ℕ) (s : SheetsRules) where
       ∙ ap (λ (r : List ℕ). n ++ r) (ap (λ (r : List ℕ). x ++ r) (sym (texts-both u w)) ∙ sym (texts-both a (u ++ w)))
 
   -- the count and the three sheets, one behind the other
-  pub all-written : (o₀ o₁ o₂ o₃ o₄ : Store) (count : ℕ) → count ≡ length all → o₁ ≡ emits o₀ (number_bytes count)
+  pub all-written : (o₀ o₁ o₂ o₃ o₄ : Store ℕ) (count : ℕ) → count ≡ length all → o₁ ≡ emits o₀ (number_bytes count)
       → o₂ ≡ emits o₁ (texts_many selector_bytes (sheet_selectors agent_origin (rules_from rows texts s.agent)))
       → o₃ ≡ emits o₂ (texts_many selector_bytes (sheet_selectors user_origin (rules_from rows texts s.user)))
       → o₄ ≡ emits o₃ (texts_many selector_bytes (sheet_selectors author_origin (rules_from rows texts s.author))) → o₄ ≡ emits o₀ (encode all)
@@ -166,7 +166,7 @@ module _ (l : List ℕ) {r : ℕ} (e : r ≡ room_of (length l)) where
       → (f ≡ fill_of (room_of (length l)) bytes) × (ys ++ drop r l ≡ written_in (room_of (length l)) bytes l)
   unfolding fill_of written_in
   within bytes ys f h =
-      let g : f ≡ (emits (record { bytes = take r l; fill = 0 }) bytes).fill = ap (λ (o : Store). o.fill) h in
+      let g : f ≡ (emits (record { bytes = take r l; fill = 0 }) bytes).fill = ap (λ (o : Store ℕ). o.fill) h in
       rw (← e) (
         ⊎_elim
             (λ (k : r < length bytes). pick-false _ _ _ _ (lt-leb (length bytes) r k)

@@ -1,5 +1,6 @@
 -- What `compile` answers and leaves: the refusals of document 01 in the order of their numbers, or the compiled sheet.
 use Rattle.std.specs.Prelude.{ℕ, ◌+◌, Result, Ok, Err, List, leb, ltb, length, replicate}
+use Rattle.combinators.specs.declared.lent.Stores.{Stores}
 use Rattle.combinators.specs.Choice.{pick}
 use Rattle.combinators.specs.LeastLengths.{stores_suffice}
 use Rattle.combinators.specs.Refusal.{no_refusal, refused, refused_in, too_long, short_store, not_utf8, panic, no_room}
@@ -43,6 +44,11 @@ pub record CompileLeft : Type 0 where
   pub rules : List ℕ
   pub tokens : List ℕ
   pub brackets : List ℕ
+
+-- by a call that is lent the stores: its answer, and what all buffers then hold
+abbrev pub leaving : CompileNumbers → List ℕ → Stores → CompileLeft
+leaving a compiled stores =
+    record { answer = a; compiled = compiled; texts = stores.texts.now; rules = stores.rules.now; tokens = stores.tokens.now; brackets = stores.brackets.now }
 
 module _ (compiled texts rules₀ tokens brackets : List ℕ) where
   -- "After 4 and 10 each writable buffer is zero throughout"

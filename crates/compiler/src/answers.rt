@@ -7,7 +7,8 @@ use combinators::refusals::{
     NO_ROOM, NOT_UTF8, PANIC, Refusal, SHORT_STORE, TOO_LONG, no_refusal, refused, refused_in,
 };
 
-// The refusal; of sheets that were compiled how many bytes they take, and those of the texts that their rules name. What does not apply is 0.
+// The refusal; of sheets that were compiled how many bytes they take, and those of the texts that their rules name. What does not apply is 0, as C has
+// it.
 #[derive(Clone, Copy)]
 pub struct CompileNumbers {
     pub refusal: Refusal,
@@ -18,6 +19,7 @@ pub struct CompileNumbers {
 impl From<CompileError> for Refusal {
     ghost from_gives = { λ error refusal. refusal ≡ refusal_of error };
 
+    #[tactic(auto, unfolding(crate::specs::CompileAnswer::refusal_of))]
     fn from(error: CompileError) -> Refusal {
         match error {
             CompileError::TooLong => refused(TOO_LONG),
@@ -29,6 +31,7 @@ impl From<CompileError> for Refusal {
     }
 }
 
+// The fields are this struct's own: others with zeros in them share that shape alone.
 fn refused_compile(refusal: Refusal) -> CompileNumbers
     ensures { result ≡ refused_compile refusal }
 {
@@ -40,6 +43,7 @@ fn refused_compile(refusal: Refusal) -> CompileNumbers
 }
 
 // What an answer stands for.
+#[tactic(auto, unfolding(crate::specs::CompileAnswer::numbers_of))]
 pub fn numbers_of(answer: Result<Compiled, CompileError>) -> CompileNumbers
     ensures { result ≡ numbers_of answer }
 {

@@ -2,17 +2,18 @@
 // texts are known to be UTF-8, and all sheets are read before the room for the bytes is judged.
 ghost use Rattle.std.specs.Prelude.{◌≡◌};
 ghost use Rattle.compiler.specs.declared.compile.CompileError.TheVariants as CompileError;
-ghost use Rattle.combinators.specs.Store.{cleared};
+ghost use Rattle.combinators.specs.Lent.{SameStores};
 ghost use Rattle.origins.specs.Checks.{Lent};
 ghost use Rattle.origins.specs.Reading.{sheets_of};
-ghost use Rattle.compiler.specs.CompileAnswer.{numbers_of, compiled_left, compile_of};
+ghost use Rattle.compiler.specs.CompileAnswer.{numbers_of, leaving, compiled_left, compile_of};
 
+use crate::lent::Rows;
 use crate::writing::{room_of, write_within};
 use combinators::least::stores_suffice;
-use combinators::stores::{clear_bytes, clear_numbers};
+use combinators::lent::{SheetTexts, Stores};
+use combinators::stores::fill_from;
 use origins::checks::{all_valid, any_too_long};
 use origins::reading::{SheetPanic, read_sheets};
-use sheets::sheet::clear_stores;
 
 // How many bytes the compiled sheet has, and the texts that its rules name.
 #[derive(Clone, Copy, Debug, PartialEq, Eq)]
@@ -21,7 +22,7 @@ pub struct Compiled {
     pub texts: usize,
 }
 
-// Why sheets are refused; of a panic the sheet and the byte where the crate panics.
+// Why sheets are refused; of a panic the sheet and the byte where the crate panics. It is the error of a `Result`: no variant stands for sheets that compile.
 #[derive(Clone, Copy, Debug, PartialEq, Eq)]
 pub enum CompileError {
     TooLong,
@@ -39,84 +40,64 @@ impl From<SheetPanic> for CompileError {
     }
 }
 
-// Zeros throughout all buffers.
-fn clear_all(
-    compiled: &mut [u8],
-    texts: &mut [u8],
-    rules: &mut [u32],
-    tokens: &mut [u32],
-    brackets: &mut [u8],
-)
-    ensures compiled_after { compiled.new ≡ cleared 0 compiled.old }
-    ensures texts_after { texts.new ≡ cleared 0 texts.old }
-    ensures rules_after { rules.new ≡ cleared 0 rules.old }
-    ensures tokens_after { tokens.new ≡ cleared 0 tokens.old }
-    ensures brackets_after { brackets.new ≡ cleared 0 brackets.old }
-{
-    clear_bytes(compiled, 0);
-    clear_stores(rules, tokens, brackets, texts);
-}
-
-// Compiles sheets for which the stores suffice, whatever the buffers hold.
+// Compiles sheets for which the stores suffice, whatever the buffers hold. The clause joins the sheets with the stores, which are lent apart, shared and to
+// write in, so neither struct can carry it.
 fn compile_texts(
-    agent: &[u8],
-    user: &[u8],
-    author: &[u8],
+    sheets: SheetTexts<'_>,
     compiled: &mut [u8],
-    texts: &mut [u8],
-    rules: &mut [u32],
-    tokens: &mut [u32],
-    brackets: &mut [u8],
+    stores: &mut Stores<'_>,
 ) -> Result<Compiled, CompileError>
-    requires { Lent agent.now user.now author.now rules.old tokens.old brackets.old texts.old }
-    ensures { record { answer = numbers_of result; compiled = compiled.new; texts = texts.new; rules = rules.new; tokens = tokens.new; brackets = brackets.new }
-        ≡ compiled_left compiled.old texts.old rules.old tokens.old brackets.old (sheets_of agent.now user.now author.now) }
+    requires { Lent sheets.agent.now sheets.user.now sheets.author.now stores.old.rules.now stores.old.tokens.now stores.old.brackets.now stores.old.texts.now }
+    ensures same { SameStores stores.old stores.new }
+    ensures buffers_after { leaving (numbers_of result) compiled.new stores.new
+        ≡ compiled_left compiled.old stores.old.texts.now stores.old.rules.now stores.old.tokens.now stores.old.brackets.now (sheets_of sheets.entry.agent.now sheets.entry.user.now sheets.entry.author.now) }
 {
-    clear_all(compiled, texts, rules, tokens, brackets);
-    let sheets = read_sheets(agent, user, author, rules, tokens, brackets, texts)?;
-    let bytes = write_within(rules, texts, sheets, tokens, compiled);
-    clear_numbers(rules, 0);
+    fill_from(compiled, 0, 0);
+    stores.clear();
+    let read = read_sheets(sheets, stores)?;
+    let rules = &mut *stores.rules;
+    let texts = &mut *stores.texts;
+    let rows = Rows {
+        numbers: rules,
+        texts,
+    };
+    let bytes = write_within(rows, read, stores.tokens, compiled);
+    fill_from(rules, 0, 0);
     if bytes > room_of(compiled.len()) {
-        clear_bytes(compiled, 0);
-        clear_bytes(texts, 0);
+        fill_from(compiled, 0, 0);
+        fill_from(texts, 0, 0);
         return Err(CompileError::NoRoom);
     }
     Ok(Compiled {
         bytes,
-        texts: sheets.end,
+        texts: read.end,
     })
 }
 
-// Compiles three sheets into `compiled`; `texts` then holds the texts that their rules name.
+// Compiles three sheets into `compiled`; the stores' texts are then those that their rules name.
 pub fn compile(
-    agent: &[u8],
-    user: &[u8],
-    author: &[u8],
+    sheets: SheetTexts<'_>,
     compiled: &mut [u8],
-    texts: &mut [u8],
-    rules: &mut [u32],
-    tokens: &mut [u32],
-    brackets: &mut [u8],
+    stores: &mut Stores<'_>,
 ) -> Result<Compiled, CompileError>
-    ensures { record { answer = numbers_of result; compiled = compiled.new; texts = texts.new; rules = rules.new; tokens = tokens.new; brackets = brackets.new }
-        ≡ compile_of agent.now user.now author.now compiled.old texts.old rules.old tokens.old brackets.old }
+    ensures same { SameStores stores.old stores.new }
+    ensures buffers_after { leaving (numbers_of result) compiled.new stores.new
+        ≡ compile_of sheets.entry.agent.now sheets.entry.user.now sheets.entry.author.now compiled.old stores.old.texts.now stores.old.rules.now stores.old.tokens.now stores.old.brackets.now }
 {
-    if any_too_long(agent.len(), user.len(), author.len()) {
+    if any_too_long(sheets.agent.len(), sheets.user.len(), sheets.author.len()) {
         return Err(CompileError::TooLong);
     }
     if !stores_suffice(
-        agent.len() + user.len() + author.len(),
-        rules.len(),
-        tokens.len(),
-        brackets.len(),
-        texts.len(),
+        sheets.agent.len() + sheets.user.len() + sheets.author.len(),
+        stores.rules.len(),
+        stores.tokens.len(),
+        stores.brackets.len(),
+        stores.texts.len(),
     ) {
         return Err(CompileError::ShortStore);
     }
-    if !all_valid(agent, user, author) {
+    if !all_valid(sheets) {
         return Err(CompileError::NotUtf8);
     }
-    compile_texts(
-        agent, user, author, compiled, texts, rules, tokens, brackets,
-    )
+    compile_texts(sheets, compiled, stores)
 }

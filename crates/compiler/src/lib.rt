@@ -1,6 +1,7 @@
 // The compiler: the selectors of three sheets (specs/) as the bytes of a compiled sheet.
 #![tactic(auto)]
 
+pub mod lent; // lent.rt: rows with their texts, and what a rule gives its selectors
 pub mod past; // past.rt: whether bytes passed the end of a store
 pub mod styles; // styles.rt: the styles of a rule, counted and written
 pub mod selector; // selector.rt: one selector, written

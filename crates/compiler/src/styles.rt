@@ -1,13 +1,16 @@
 // The styles of a rule: how many its declaration rows ask for, and the bytes of its style rows.
 ghost use Rattle.std.specs.Prelude.{◌≡◌, ◌*◌, ◌≤◌, length, drop};
 ghost use Rattle.combinators.specs.Store.{emits};
+ghost use Rattle.combinators.specs.Writer.{written, SameStore};
 ghost use Rattle.syntax.specs.Layout.{read_style, styles_at, style_width};
 ghost use Rattle.syntax.specs.Stream.{texts_many};
 ghost use Rattle.declarations.specs.StyleNumbers.{own_row, style_count};
 ghost use Rattle.compiled.specs.Style.{style_bytes};
 ghost use Rattle.compiled.specs.Sheet.{styles_bytes};
 
+use crate::lent::Rows;
 use crate::past::is_past;
+use combinators::writer::Writer;
 use compiled::numbers::emit_number;
 use compiled::styles::emit_style;
 use declarations::styles::{hides_overflow, is_zero_height, own_style_at};
@@ -23,7 +26,7 @@ fn count_own_style(rows: &[u32], at: usize) -> u32
     u32::from(own_style_at(rows, at).is_some())
 }
 
-// How many styles `count` declarations from `at` on ask for.
+// How many styles `count` declarations from `at` on ask for. A rule's row says the count, and may say more than is lent (as in rules.rt).
 pub fn count_styles(rows: &[u32], at: usize, count: u32) -> u32
     ensures { result ≡ style_count (drop at rows.now) count }
 {
@@ -40,39 +43,40 @@ pub fn count_styles(rows: &[u32], at: usize, count: u32) -> u32
     own + flag_of(height_zero & overflow_hidden)
 }
 
-// Writes the style whose row starts at `at`, with its text in `texts`; the fill behind it.
-fn emit_style_at(rows: &[u32], at: usize, texts: &[u8], store: &mut [u8], fill: usize) -> usize
-    ensures { record { bytes = store.new; fill = result }
-        ≡ emits (record { bytes = store.old; fill = fill })
-        (style_bytes (read_style texts.now (drop at rows.now)).value) }
+// Writes the style whose row starts at `at`, with its text in `texts`.
+fn emit_style_at(rows: Rows<'_>, at: usize, writer: &mut Writer<'_>)
+    ensures same_store { SameStore writer.old writer.new }
+    ensures written { written writer.new
+        ≡ emits (written writer.old)
+        (style_bytes (read_style rows.entry.texts.now (drop at rows.entry.numbers.now)).value) }
 {
-    emit_style(style_at(rows, at), texts, store, fill)
+    emit_style(style_at(rows.numbers, at), rows.texts, writer);
 }
 
-// Writes the styles of `count` rows; the fill behind them.
-fn emit_style_rows(rows: &[u32], count: u32, texts: &[u8], store: &mut [u8], fill: usize) -> usize
-    ensures { record { bytes = store.new; fill = result }
-        ≡ emits (record { bytes = store.old; fill = fill })
-        (texts_many style_bytes (styles_at rows.now texts.now count)) }
+// Writes the styles of `count` rows.
+fn emit_style_rows(rows: Rows<'_>, count: u32, writer: &mut Writer<'_>)
+    ensures same_store { SameStore writer.old writer.new }
+    ensures written { written writer.new
+        ≡ emits (written writer.old)
+        (texts_many style_bytes (styles_at rows.entry.numbers.now rows.entry.texts.now count)) }
 {
-    let mut f = fill;
     let mut place = 0;
     for _ in 0..count {
-        if is_past(store.len(), f) {
-            return f;
+        if is_past(writer) {
+            return;
         }
-        f = emit_style_at(rows, place, texts, store, f);
-        place = forward(rows, place, STYLE_WIDTH);
+        emit_style_at(rows, place, writer);
+        place = forward(rows.numbers, place, STYLE_WIDTH);
     }
-    f
 }
 
-// Writes how many rows there are and their styles; the fill behind them.
-pub fn emit_styles(rows: &[u32], count: u32, texts: &[u8], store: &mut [u8], fill: usize) -> usize
-    ensures { record { bytes = store.new; fill = result }
-        ≡ emits (record { bytes = store.old; fill = fill })
-        (styles_bytes (styles_at rows.now texts.now count)) }
+// Writes how many rows there are and their styles.
+pub fn emit_styles(rows: Rows<'_>, count: u32, writer: &mut Writer<'_>)
+    ensures same_store { SameStore writer.old writer.new }
+    ensures written { written writer.new
+        ≡ emits (written writer.old)
+        (styles_bytes (styles_at rows.entry.numbers.now rows.entry.texts.now count)) }
 {
-    let behind_count = emit_number(count, store, fill);
-    emit_style_rows(rows, count, texts, store, behind_count)
+    emit_number(count, writer);
+    emit_style_rows(rows, count, writer);
 }

@@ -1,5 +1,5 @@
 -- `parse_declaration`: what is left in the stores, from what its parts left.
-use mathlib.Core.Path.{◌≡◌, refl, sym, ap, ◌∙◌}
+use mathlib.Core.Path.{subst, ◌≡◌, refl, sym, ap, ◌∙◌}
 use mathlib.Core.Bool.{Bool, true, false}
 use mathlib.Core.List.{List, [], ◌++◌, append_assoc, append-nil}
 use mathlib.Core.Logic.{⊎_elim}
@@ -346,13 +346,13 @@ module _ (names : Bool) (at : ℕ) (s rules : List ℕ) (place : ℕ) (tokens br
       none-text = text-bits none_here.text
 
       -- the return where a bracket is wrong: no declaration, and all that was used is wiped
-      pub none_left : {x' b' z' : List ℕ} → x' ≡ wiped 0 (token_width * k) x → b' ≡ wiped 0 k b → z' ≡ wiped fill (n + m) z
-          → record { answer = None; rules = rules; tokens = x'; brackets = b'; store = z' } ≡ declaration_left names at s rules place tokens brackets store fill
-      none_left {x'} {b'} {z'} ex eb ez =
+      pub none_left : {y x' b' z' : List ℕ} → y ≡ rules → x' ≡ wiped 0 (token_width * k) x → b' ≡ wiped 0 k b → z' ≡ wiped fill (n + m) z
+          → record { answer = None; rules = y; tokens = x'; brackets = b'; store = z' } ≡ declaration_left names at s rules place tokens brackets store fill
+      none_left {y} {x'} {b'} {z'} ey ex eb ez =
           let u = none_here in
-          left-err names at s rules place tokens brackets store fill _ (used-is s v name read.reads) (declaration-err s v name read.reads u.balanced) x' b' z'
+          rw ey (left-err names at s rules place tokens brackets store fill _ (used-is s v name read.reads) (declaration-err s v name read.reads u.balanced) x' b' z'
           (tokens-wiped (drop v s) tokens brackets store (fill + n) left_is u.count ex)
-          (brackets-zero (drop v s) tokens brackets store (fill + n) left_is u.count eb) (ez ∙ store-wiped u.text)
+          (brackets-zero (drop v s) tokens brackets store (fill + n) left_is u.count eb) (ez ∙ store-wiped u.text))
 
     -- a value was read, of k tokens and m bytes of text
     module _ {t k m : ℕ} {i : Bool} (ea : a ≡ Ok (record { taken = t; count = k; text = m; important = i })) where
@@ -431,10 +431,11 @@ module _ (names : Bool) (at : ℕ) (s rules : List ℕ) (place : ℕ) (tokens br
           text-is = keeps-text names z fill n name name-is read.long ks held
 
           -- the return where a value was read: the declaration's row and text are put down, and the rest is wiped
-          pub some_left : {q : ℕ} {y x' b' z' : List ℕ} → Put names i (at + w) x j rules place z fill n m q y z' → x' ≡ wiped 0 (token_width * k) x → b' ≡ wiped 0 k b
+          pub some_left : {q : ℕ} {y₀ y x' b' z' : List ℕ} → y₀ ≡ rules → Put names i (at + w) x j y₀ place z fill n m q y z' → x' ≡ wiped 0 (token_width * k) x → b' ≡ wiped 0 k b
               → record { answer = Some (record { taken = v + t; text = q }); rules = y; tokens = x'; brackets = b'; store = z' } ≡ declaration_left names at s rules place tokens brackets store fill
           unfolding text_kept kept declaration_text declaration_row
-          some_left {q} {y} {x'} {b'} {z'} put ex eb =
+          some_left {q} {y₀} {y} {x'} {b'} {z'} e₀ put₀ ex eb =
+              let put = subst (λ l. Put names i (at + w) x j l place z fill n m q y z') e₀ put₀ in
               let u = some-here in
               let D = named_decl names decl in
               let eq : q ≡ length (decl_text D) = put.kept ∙ ap text_length said-is ∙ decl-length D in

@@ -5,23 +5,18 @@ use Prim.Native.Nat.{ℕ, ◌+◌, ◌-◌}
 use native.Mathlib.Omega.{arith}
 use lib.ListN.{length, drop, replicate, length-replicate, length-drop}
 use lib.Seq.{sets, length-take-le}
-use Rattle.combinators.specs.Store.{emits, wiped}
+use Rattle.combinators.specs.Store.{filled_part, emits, wiped}
 use Rattle.combinators.specs.Part.{part}
 use Rattle.combinators.proofs.Emitted.{then, sets-emitted}
 use Rattle.combinators.proofs.Wiped.{sets_over, wiped-apart, wiped-add}
 use Rattle.values.specs.DeclAnswer.{text_length}
 use Rattle.values.specs.declared.properties.Decl as declared
-use Rattle.declarations.specs.Moved.{Downward}
 use Rattle.declarations.specs.DeclRow.{shift, kept_text, Keeping, kind_of, row_value, row_by}
 
 -- ---- `keep_text`: the text of a declaration moved down to the fill, and zeros behind it
 module _ (d : declared.Decl) (store : List ℕ) (f n t : ℕ) (k : Keeping d store f n t) where
   abbrev from : ℕ
   from = f + shift d n
-
-  -- the text is moved down, within the store
-  pub keep-down : (m : ℕ) → m ≡ shift d n → Downward store (f + m) f (text_length d)
-  keep-down m e = record { down = omega arith; inside = omega (arith, k.inside, k.among) }
 
   -- the part that is kept has all bytes of the declaration's text
   length-kept : length (part store from (text_length d)) ≡ (text_length d)
@@ -38,7 +33,7 @@ module _ (d : declared.Decl) (store : List ℕ) (f n t : ℕ) (k : Keeping d sto
       let M = n + t - N in
       let l = length-kept in
       let e : n + t ≡ N + M = omega (arith, k.among) in
-      let zeros : wiped f N store ≡ sets store f (replicate N 0) = unfold wiped in refl in
+      let zeros : wiped f N store ≡ sets store f (replicate N 0) = unfold filled_part in refl in
       let p : wiped (f + N) M (sets store f x) ≡ sets (wiped (f + N) M store) f x = wiped-apart store f (f + N) M x (omega arith) in
       let q : wiped f (n + t) store ≡ sets (wiped (f + N) M store) f (replicate N 0) =
       ap (λ j. wiped f j store) e ∙ wiped-add f N M store ∙ ap (wiped (f + N) M) zeros ∙ wiped-apart store f (f + N) M (replicate N 0) (omega (arith, length-replicate {A = ℕ} N 0))

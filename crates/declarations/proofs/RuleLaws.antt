@@ -21,7 +21,7 @@ use Rattle.syntax.specs.Layout.{declaration_width, declaration_text, declaration
 use Rattle.syntax.specs.Stream.{texts_many, rows_many}
 use Rattle.syntax.proofs.RowSizes.{length-declaration}
 use Rattle.declarations.specs.Rules.{declaration_of, starts_at, more_rules}
-use Rattle.declarations.specs.Leaving.{kept, Used, unused, used_by, used_then, text_kept, used_more, Leaves, leaves}
+use Rattle.declarations.specs.Leaving.{Used, unused, used_by, used_then, text_kept, used_more, Leaves, leaves}
 
 -- ---- one declaration, and more behind it, in the stores
 -- the greater of two numbers, times a width
@@ -54,11 +54,6 @@ module _ {A B : Type 0} (a₁ : A) (a₂ : B) (d : Declaration) (ds : List Decla
       )
 
 -- ---- the meaning, step by step
--- a declaration that starts at a byte of a part of the text
-pub kept-moved : (names : Bool) (at w : ℕ) (d : Declaration) → kept names at (starts_at w d) ≡ kept names (at + w) d
-unfolding kept starts_at
-kept-moved names at w d = let e : at + (w + d.start) ≡ at + w + d.start = omega arith in rw e
-
 module _ (names : Bool) (s : List ℕ) (i : ℕ) where
   -- the rest at i, as the code has it: w is where a declaration is looked for
   module _ (w : ℕ) (ew : w ≡ i + 1 + skip_whitespace (drop (i + 1) s)) where

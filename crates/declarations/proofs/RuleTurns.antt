@@ -5,11 +5,14 @@ use mathlib.Core.List.{List, [], ◌∷◌, ◌++◌}
 use Prim.Native.Nat.{ℕ, suc, ◌+◌, ◌-◌, ◌*◌, ◌^◌, ◌≤◌, ◌<◌}
 use native.Mathlib.Nat.{add-zero}
 use native.Mathlib.Omega.{arith}
-use lib.ListN.{length, get_or, take, drop, length-append, length-drop}
+use lib.Seq.{length-sets}
+use lib.ListN.{length, get_or, take, drop, length-append, length-drop, replicate}
 use Rattle.combinators.specs.Ascii as ascii
 use Rattle.combinators.specs.Choice.{is}
+use Rattle.combinators.specs.Lent.{SameStores}
+use Rattle.combinators.specs.declared.lent.Stores.{Stores}
 use Rattle.combinators.specs.Parsed.{Parsed, ok, err, on_parsed}
-use Rattle.combinators.specs.Store.{wiped}
+use Rattle.combinators.specs.Store.{wiped, filled_part}
 use Rattle.combinators.proofs.Lists.{rest, byte-there}
 use Rattle.combinators.proofs.Wiped.{wiped-none}
 use Rattle.lexer.specs.TokenRow.{token_width}
@@ -95,6 +98,11 @@ pub record Reading (names : Bool) (at : ℕ) (s : List ℕ) (from : ℕ) (rules�
   pub brackets-long : length brackets ≡ length brackets₀
   pub store_long : length store ≡ length store₀
 
+-- the reader, with the stores that it was lent and as they are
+pub record Going (names : Bool) (at : ℕ) (s : List ℕ) (from : ℕ) (stores₀ : Stores) (place fill : ℕ) (stores : Stores) (taken count text : ℕ) : Type 0 where
+  pub same : SameStores stores₀ stores
+  pub reading : Reading names at s from stores₀.rules.now place stores₀.tokens.now stores₀.brackets.now stores₀.texts.now fill stores.rules.now stores.tokens.now stores.brackets.now stores.texts.now taken count text
+
 -- before the first further declaration nothing is counted
 pub begin : (names : Bool) (at : ℕ) (s : List ℕ) (from : ℕ) (rules : List ℕ) (place : ℕ) (tokens brackets store : List ℕ) (fill : ℕ)
     → MoreRoom s from at rules place tokens brackets store fill → Reading names at s from rules place tokens brackets store fill rules tokens brackets store from 0 0
@@ -141,6 +149,23 @@ module _ (names : Bool) (at : ℕ) (s rules : List ℕ) (place : ℕ) (tokens br
   pub answer-is : a ≡ declaration_answer names (declaration_of s)
   unfolding declaration_left leaves
   answer-is = ap (λ (l : Leaves (Option DeclarationRead)). l.answer) e
+
+  -- the stores keep their lengths
+  pub rules-long : length y ≡ length rules
+  unfolding declaration_left leaves
+  rules-long = ap (λ (l : Leaves (Option DeclarationRead)). length l.rules) e ∙ length-sets rules place (declaration_rows fill (kept_of names at (declaration_of s)))
+
+  pub tokens-long : length x ≡ length tokens
+  unfolding declaration_left leaves filled_part
+  tokens-long = ap (λ (l : Leaves (Option DeclarationRead)). length l.tokens) e ∙ length-sets tokens 0 (replicate (token_width * (used_by s).tokens) 0)
+
+  pub brackets-long : length b ≡ length brackets
+  unfolding declaration_left leaves filled_part
+  brackets-long = ap (λ (l : Leaves (Option DeclarationRead)). length l.brackets) e ∙ length-sets brackets 0 (replicate (used_by s).tokens 0)
+
+  pub store_long : length z ≡ length store
+  unfolding declaration_left leaves filled_part
+  store_long = ap (λ (l : Leaves (Option DeclarationRead)). length l.store) e ∙ length-sets (wiped fill (used_by s).bytes store) fill (declaration_texts (kept_of names at (declaration_of s))) ∙ length-sets store fill (replicate (used_by s).bytes 0)
 
   -- where no declaration reads, what was used is zero again
   pub none_is : declaration_of s ≡ err → {B : Type 0} (r : B)
@@ -293,9 +318,8 @@ module _ {names : Bool} {at : ℕ} {s : List ℕ} {from : ℕ} {rules₀ : List 
           next-text = omega (arith, took.text, next.keeps, next-within, c.long, c.within)
 
           -- with the declaration counted, what is left to read still leaves what all declarations leave
-          pub goes : length y ≡ length rules → length x ≡ length tokens → length b ≡ length brackets → length z ≡ length store
-              → Reading names at s from rules₀ place tokens₀ brackets₀ store₀ fill y x b z (w + n) (count + 1) (text + k)
-          goes ly lx lb lz =
+          pub goes : Reading names at s from rules₀ place tokens₀ brackets₀ store₀ fill y x b z (w + n) (count + 1) (text + k)
+          goes =
               let p = more-next names s taken w ew (sym et ∙ f) left_over.0 n next.declaration next.reads in
               let q = left_over.1 in
               let l = semicolon-there in
@@ -315,10 +339,10 @@ module _ {names : Bool} {at : ℕ} {s : List ℕ} {from : ℕ} {rules₀ : List 
                 counted = omega (arith, c.counted);
                 long = omega (arith, took.text, next.keeps, c.sharp l);
                 sharp = λ g. omega (arith, took.sharp (omega (arith, length-drop w s)), next.keeps, c.sharp l);
-                rules-long = ly ∙ c.rules-long;
-                tokens-long = lx ∙ c.tokens-long;
-                brackets-long = lb ∙ c.brackets-long;
-                store_long = lz ∙ c.store_long;
+                rules-long = rules-long names (at + w) (drop w s) rules (place + declaration_width * count) tokens brackets store (fill + text) left_is ∙ c.rules-long;
+                tokens-long = tokens-long names (at + w) (drop w s) rules (place + declaration_width * count) tokens brackets store (fill + text) left_is ∙ c.tokens-long;
+                brackets-long = brackets-long names (at + w) (drop w s) rules (place + declaration_width * count) tokens brackets store (fill + text) left_is ∙ c.brackets-long;
+                store_long = store_long names (at + w) (drop w s) rules (place + declaration_width * count) tokens brackets store (fill + text) left_is ∙ c.store_long;
               }
 
 -- ---- `parse_rules`, from what `parse_declaration` left
@@ -364,10 +388,9 @@ module _ (names : Bool) (at : ℕ) (s rules : List ℕ) (place : ℕ) (tokens br
     pub behind-fits : fill + k < 2 ^ 64
     behind-fits = omega (arith, one-took.text, one-said.keeps, one-took.within, o.room.bits)
 
-    -- behind the first declaration the stores have room for more, where they keep their lengths
-    pub behind-room : length y ≡ length rules → length x ≡ length tokens → length b ≡ length brackets → length z ≡ length store
-        → MoreRoom s n at y (place + declaration_width) x b z (fill + k)
-    behind-room ly lx lb lz =
+    -- behind the first declaration the stores have room for more
+    pub behind-room : MoreRoom s n at y (place + declaration_width) x b z (fill + k)
+    behind-room =
         let q = o.room in
         let t = one-took in
         record {
@@ -377,12 +400,12 @@ module _ (names : Bool) (at : ℕ) (s rules : List ℕ) (place : ℕ) (tokens br
               λ l. let h = t.sharp l in
               let j = one-said.keeps in
               record {
-                for-tokens = omega (arith, q.for-tokens, lx);
-                for-brackets = omega (arith, q.for-brackets, lb);
-                for-texts = omega (arith, q.for-texts, lz);
+                for-tokens = omega (arith, q.for-tokens, tokens-long names at s rules place tokens brackets store fill e);
+                for-brackets = omega (arith, q.for-brackets, brackets-long names at s rules place tokens brackets store fill e);
+                for-texts = omega (arith, q.for-texts, store_long names at s rules place tokens brackets store fill e);
                 bits = omega (arith, q.bits);
               };
-          for-rules = omega (arith, o.for-rules, ly, t.some, t.within);
+          for-rules = omega (arith, o.for-rules, rules-long names at s rules place tokens brackets store fill e, t.some, t.within);
           row-bits = omega (arith, o.row-bits, t.some, t.within);
           start-bits = o.start-bits;
         }

@@ -22,7 +22,7 @@ use Rattle.std.specs.Bool.{then_some}
 use Rattle.declarations.proofs.StyleLaws.{styles-meant, numbers-long, count-le}
 
 -- the row of a style, one number behind the other
-pub row_put : (x : StyleNumbers) (i : ℕ) → i ≡ flag x.important → (o₀ o₁ o₂ o₃ o₄ o₅ : Store) → o₁ ≡ emits o₀ (x.slot ∷ []) → o₂ ≡ emits o₁ (i ∷ [])
+pub row_put : (x : StyleNumbers) (i : ℕ) → i ≡ flag x.important → (o₀ o₁ o₂ o₃ o₄ o₅ : Store ℕ) → o₁ ≡ emits o₀ (x.slot ∷ []) → o₂ ≡ emits o₁ (i ∷ [])
     → o₃ ≡ emits o₂ (x.value.number ∷ []) → o₄ ≡ emits o₃ (x.value.second ∷ []) → o₅ ≡ emits o₄ (x.value.start ∷ []) → o₅ ≡ emits o₀ (row_of_numbers x)
 unfolding row_of_numbers value_numbers
 row_put x i e o₀ o₁ o₂ o₃ o₄ o₅ p q r s u = then _ _ _ _ _ (then _ _ _ _ _ (then _ _ _ _ _ (then _ _ _ _ _ p (q ∙ ap (λ (n : ℕ). emits o₁ (n ∷ [])) e)) r) s) u
@@ -79,9 +79,9 @@ value_none rows at k ek m n v s es e =
     e ∙ and-gives-false _ _ (rw (get_or-drop at rows declaration_kind 0, ← ek) (sym es ∙ e))
 
 -- ---- what a declaration asks for by itself is written
-module _ (t : List ℕ) (r : Option StyleNumbers) (e : r ≡ own_numbers_at t) (o₀ : Store) where
+module _ (t : List ℕ) (r : Option StyleNumbers) (e : r ≡ own_numbers_at t) (o₀ : Store ℕ) where
   -- a declaration that has a style puts its row
-  pub own_put : (x : StyleNumbers) → r ≡ Some x → (o₁ : Store) → o₁ ≡ emits o₀ (row_of_numbers x) → o₁ ≡ emits o₀ (own_row t)
+  pub own_put : (x : StyleNumbers) → r ≡ Some x → (o₁ : Store ℕ) → o₁ ≡ emits o₀ (row_of_numbers x) → o₁ ≡ emits o₀ (own_row t)
   unfolding own_row row_of_own
   own_put x h o₁ p = p ∙ ap (λ (q : Option StyleNumbers). emits o₀ (row_of_own q)) (sym h ∙ e)
 
@@ -186,7 +186,7 @@ styled rows count styles₀ styles place room e = (stored, (counted, (meant, rw 
     stored = sets-emitted styles₀ styles (style_numbers rows count) 0 place e
 
     counted : place / style_width ≡ style_count rows count
-    counted = omega (arith, ap (λ (o : Store). o.fill) e ∙ emits-fill (style_numbers rows count) styles₀ 0 long)
+    counted = omega (arith, ap (λ (o : Store ℕ). o.fill) e ∙ emits-fill (style_numbers rows count) styles₀ 0 long)
 
     meant : (store : List ℕ) → styles_at styles store (place / style_width) ≡ styles_of (declarations_at rows store count)
     meant store = rw (stored, counted, sets-drop styles₀ 0 (style_numbers rows count) long) (styles-meant store rows count _)

@@ -4,6 +4,7 @@ use Rattle.std.specs.Prelude.{ℕ, zero, suc, ◌+◌, ◌-◌, ◌*◌, ◌^◌
 use Rattle.std.proofs.lemmas.List.Edits.{sets}
 use Rattle.combinators.specs.Ascii as ascii
 use Rattle.combinators.specs.Choice.{pick, is}
+use Rattle.combinators.specs.declared.lent.Stores.{Stores}
 use Rattle.combinators.specs.Parsed.{Parsed, ok, on_parsed}
 use Rattle.combinators.specs.Store.{wiped, most}
 use Rattle.combinators.specs.Part.{part}
@@ -80,6 +81,10 @@ pub record Leaves (A : Type 0) : Type 0 where
   pub tokens : List ℕ
   pub brackets : List ℕ
   pub store : List ℕ
+
+-- by a call that is lent the stores: its answer, and what they then hold
+abbrev pub leaving : {A : Type 0} → A → Stores → Leaves A
+leaving a stores = record { answer = a; rules = stores.rules.now; tokens = stores.tokens.now; brackets = stores.brackets.now; store = stores.texts.now }
 
 unfoldable pub leaves : {A : Type 0} → A → List Declaration → Used → List ℕ → ℕ → List ℕ → List ℕ → List ℕ → ℕ → Leaves A
 leaves a ds u rules place tokens brackets store fill =

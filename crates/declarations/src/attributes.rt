@@ -1,14 +1,17 @@
-// Attributes: `parse_style_attribute` and `parse_color_attribute`, and the colour of a text that lacks its '#'.
+// Attributes: `parse_style_attribute` and `parse_color_attribute`, and the colour of a text that lacks its '#'. Each asks for the room of its own
+// text; `fill` stands beside the stores, whose texts alone are written behind others.
 ghost use Rattle.std.specs.Prelude.{◌≡◌, ◌≤◌, length};
+ghost use Rattle.combinators.specs.Lent.{SameStores};
 ghost use Rattle.values.specs.Layout.{Room};
 ghost use Rattle.values.specs.ColourAnswer.{colour_answer};
 ghost use Rattle.declarations.specs.Attribute.{pairs, faulty_colour, trimmed};
-ghost use Rattle.declarations.specs.Leaving.{colour_left, style_left, StyleRoom};
+ghost use Rattle.declarations.specs.Leaving.{leaving, colour_left, style_left, StyleRoom};
 
 use crate::rules::{parse_rules, unmarked, wipe_work};
 use crate::styles::styles_from_properties;
 use characters::trim::trim_start;
-use combinators::stores::{wipe_bytes, wipe_numbers};
+use combinators::lent::Stores;
+use combinators::stores::fill_part;
 use syntax::rows::DECLARATION_WIDTH;
 use values::colour_values::parse_color;
 use values::colours::{MAXIMUM_BYTE, colour_number, parse_hex};
@@ -56,21 +59,17 @@ pub fn parse_faulty_color(s: &[u8]) -> Option<u32>
 }
 
 // The colour of an attribute `color` or `bgcolor`. What was used of the stores is zero again.
-pub fn parse_color_attribute(
-    s: &[u8],
-    tokens: &mut [u32],
-    brackets: &mut [u8],
-    store: &mut [u8],
-    fill: usize,
-) -> Option<u32>
-    requires { Room (length s.now) fill tokens.old brackets.old store.old }
-    ensures { record { answer = result; tokens = tokens.new; brackets = brackets.new; store = store.new }
-        ≡ colour_left s.now tokens.old brackets.old store.old fill }
+pub fn parse_color_attribute(s: &[u8], stores: &mut Stores<'_>, fill: usize) -> Option<u32>
+    requires { Room (length s.now) fill stores.old.tokens.now stores.old.brackets.now stores.old.texts.now }
+    ensures same { SameStores stores.old stores.new }
+    ensures rules_unchanged { stores.new.rules.now ≡ stores.old.rules.now }
+    ensures work_after { record { answer = result; tokens = stores.new.tokens.now; brackets = stores.new.brackets.now; store = stores.new.texts.now }
+        ≡ colour_left s.now stores.old.tokens.now stores.old.brackets.now stores.old.texts.now fill }
 {
-    match parse_value(s, tokens, brackets, store, fill) {
+    match parse_value(s, stores, fill) {
         Err(Unbalanced { count, text, .. }) => {
-            wipe_work(tokens, brackets, count);
-            wipe_bytes(store, fill, text);
+            wipe_work(stores.tokens, stores.brackets, count);
+            fill_part(stores.texts, fill, text, 0);
             None
         }
         Ok(
@@ -81,35 +80,33 @@ pub fn parse_color_attribute(
                 ..
             },
         ) => {
+            let rows = &mut *stores.tokens;
+            let texts = &mut *stores.texts;
             let colour = parse_color(Tokens {
-                rows: tokens,
+                rows,
                 count: unmarked(count, important),
-                store,
+                store: texts,
             });
-            wipe_work(tokens, brackets, count);
-            wipe_bytes(store, fill, text);
+            wipe_work(stores.tokens, stores.brackets, count);
+            fill_part(stores.texts, fill, text, 0);
             colour.or_else(|| parse_faulty_color(s))
         }
     }
 }
 
-// The styles of an attribute `style`: their rows go to `tokens` from 0 on, the texts of their contents to `store` from `fill` on. The
+// The styles of an attribute `style`: their rows go to the stores' tokens from 0 on, the texts of their contents to the texts from `fill` on. The
 // names of unknown declarations are not kept, and what else was used of the stores is zero again.
-pub fn parse_style_attribute(
-    s: &[u8],
-    rules: &mut [u32],
-    tokens: &mut [u32],
-    brackets: &mut [u8],
-    store: &mut [u8],
-    fill: usize,
-) -> StylesRead
-    requires { StyleRoom s.now rules.old tokens.old brackets.old store.old fill }
-    ensures { record { answer = result; rules = rules.new; tokens = tokens.new; brackets = brackets.new; store = store.new }
-        ≡ style_left s.now rules.old tokens.old brackets.old store.old fill }
+pub fn parse_style_attribute(s: &[u8], stores: &mut Stores<'_>, fill: usize) -> StylesRead
+    requires { StyleRoom s.now stores.old.rules.now stores.old.tokens.now stores.old.brackets.now stores.old.texts.now fill }
+    ensures same { SameStores stores.old stores.new }
+    ensures stores_after { leaving result stores.new
+        ≡ style_left s.now stores.old.rules.now stores.old.tokens.now stores.old.brackets.now stores.old.texts.now fill }
 {
-    let read = parse_rules(s, false, 0, rules, 0, tokens, brackets, store, fill);
+    let read = parse_rules(s, false, 0, stores, 0, fill);
+    let rules = &mut *stores.rules;
+    let tokens = &mut *stores.tokens;
     let count = styles_from_properties(rules, read.count, tokens);
-    wipe_numbers(rules, 0, DECLARATION_WIDTH * read.count);
+    fill_part(rules, 0, DECLARATION_WIDTH * read.count, 0);
     StylesRead {
         count,
         text: read.text,

@@ -1,4 +1,4 @@
-// Declarations written to lent rows, and their texts kept.
+// Declarations written to lent rows, and their texts kept. Who writes to one store alone is lent that one.
 ghost use Rattle.std.specs.Prelude.{◌≡◌, ◌+◌, ◌^◌, ◌<◌};
 ghost use Rattle.std.proofs.lemmas.List.Edits.{sets};
 ghost use Rattle.combinators.specs.Store.{wiped};
@@ -6,7 +6,7 @@ ghost use Rattle.syntax.specs.Layout.{flag};
 ghost use Rattle.declarations.specs.DeclRow.{named_by, shift, kept_text, Keeping, kind_of, row_value, row_by, Narrow};
 
 use crate::texts::move_down;
-use combinators::stores::{emit_number, wipe_bytes};
+use combinators::stores::{emit, fill_part};
 use syntax::rows::{
     BACKGROUND_COLOR, COLOR, CONTENT, DISPLAY, HEIGHT, MAX_HEIGHT, OVERFLOW, OVERFLOW_Y, UNKNOWN,
     WHITE_SPACE, flag_of,
@@ -37,6 +37,7 @@ fn shift_of(decl: Decl, length: usize) -> usize
 
 // Keeps, of the name of `length` bytes at `fill` and the `text` bytes behind it, the text of the declaration alone: it then starts at
 // `fill`, and zeros follow.
+// `length` and `text` measure what lies side by side in a lent store.
 pub fn keep_text(decl: Decl, store: &mut [u8], fill: usize, length: usize, text: usize)
     requires { Keeping decl store.old fill length text }
     ensures { store.new ≡ sets (wiped fill (length + text) store.old) fill (kept_text decl store.old fill length) }
@@ -44,7 +45,7 @@ pub fn keep_text(decl: Decl, store: &mut [u8], fill: usize, length: usize, text:
     let n = decl.text_length();
     let from = fill + shift_of(decl, length);
     move_down(store, from, fill, n);
-    wipe_bytes(store, fill + n, length + text - n);
+    fill_part(store, fill + n, length + text - n, 0);
 }
 
 // The number of a declaration's kind.
@@ -96,9 +97,9 @@ pub fn put_declaration(
     requires { Narrow decl start fill }
     ensures { rules.new ≡ sets rules.old place (row_by (flag important) start fill decl) }
 {
-    let after_kind = emit_number(kind_of(decl), rules, place);
-    let after_mark = emit_number(flag_of(important), rules, after_kind);
-    let after_start = emit_number(start as u32, rules, after_mark);
-    let after_value = emit_number(value_of(decl, fill), rules, after_start);
-    emit_number(decl.text_length() as u32, rules, after_value);
+    let after_kind = emit(kind_of(decl), rules, place);
+    let after_mark = emit(flag_of(important), rules, after_kind);
+    let after_start = emit(start as u32, rules, after_mark);
+    let after_value = emit(value_of(decl, fill), rules, after_start);
+    emit(decl.text_length() as u32, rules, after_value);
 }

@@ -1,17 +1,20 @@
-// Declarations: `parse_declaration` and `parse_rules`. Each writes the rows of what it read to `rules` from `place` on and its texts to
-// `store` from `fill` on; `tokens`, `brackets` and the rest of what was used of `store` are zero again.
-// The stores stay parameters: a struct of `&mut` asks each function for a clause on every one of them, and is no plainer.
+// Declarations: `parse_declaration` and `parse_rules`. Each writes the rows of what it read to the stores' rules from `place` on and its texts to
+// their texts from `fill` on; tokens, brackets and the rest of what was used of the texts are zero again.
+// `place` and `fill` stand beside the stores, and the room from them on is asked of each reader: each hands on other ones. Who writes texts alone
+// is lent the texts.
 ghost use Rattle.std.specs.Prelude.{◌≡◌, ◌+◌, ◌-◌, ◌*◌, ◌^◌, ◌<◌, length};
 ghost use Rattle.std.proofs.lemmas.List.Edits.{sets};
 ghost use Rattle.combinators.specs.Choice.{pick};
+ghost use Rattle.combinators.specs.Lent.{SameStores, SameWork, of_stores, OfStores};
 ghost use Rattle.combinators.specs.Store.{wiped};
 ghost use Rattle.lexer.specs.Name.{ident_of, name_text};
 ghost use Rattle.lexer.specs.TokenRow.{token_width};
-ghost use Rattle.declarations.specs.Leaving.{property_answer, PutRoom, Put, PropertyRead, RulesRoom, MoreRoom, MoreRead, declaration_left, more_left, rules_left};
+ghost use Rattle.declarations.specs.Leaving.{property_answer, PutRoom, Put, PropertyRead, RulesRoom, MoreRoom, MoreRead, leaving, declaration_left, more_left, rules_left};
 
 use crate::rows::{keep_text, named, put_declaration};
 use combinators::bytes::byte_is;
-use combinators::stores::{wipe_bytes, wipe_numbers};
+use combinators::lent::Stores;
+use combinators::stores::fill_part;
 use combinators::texts::part_of;
 use lexer::names::parse_ident;
 use lexer::rows::TOKEN_WIDTH;
@@ -69,6 +72,7 @@ fn parse_property(s: &[u8], store: &mut [u8], fill: usize) -> Result<Property, N
 }
 
 // The tokens of a value, without the mark `!important`.
+#[tactic(auto, unfolding(combinators::specs::Choice::pick))]
 pub fn unmarked(count: usize, important: bool) -> usize
     ensures { result ≡ pick important (count - 2) count }
 {
@@ -79,14 +83,14 @@ pub fn unmarked(count: usize, important: bool) -> usize
     }
 }
 
-// Zeros over the rows of `count` tokens, and over as many brackets.
+// Zeros over the rows of `count` tokens, which lie at the start of a lent store, and over as many brackets.
 pub fn wipe_work(tokens: &mut [u32], brackets: &mut [u8], count: usize)
     requires { token_width * count < 2 ^ 64 }
     ensures tokens_after { tokens.new ≡ wiped 0 (token_width * count) tokens.old }
     ensures brackets_after { brackets.new ≡ wiped 0 count brackets.old }
 {
-    wipe_numbers(tokens, 0, TOKEN_WIDTH * count);
-    wipe_bytes(brackets, 0, count);
+    fill_part(tokens, 0, TOKEN_WIDTH * count, 0);
+    fill_part(brackets, 0, count, 0);
 }
 
 // Puts down the declaration whose name of `length` bytes lies at `fill`, before the `text` bytes of the tokens of its value; the bytes of
@@ -95,53 +99,53 @@ fn put_declared(
     names: bool,
     important: bool,
     start: usize,
-    tokens: &[u32],
     count: usize,
-    rules: &mut [u32],
+    stores: &mut Stores<'_>,
     place: usize,
-    store: &mut [u8],
     fill: usize,
     length: usize,
     text: usize,
 ) -> usize
-    requires { PutRoom start tokens.now count store.old fill length text }
-    ensures { Put names important start tokens.now count rules.old place store.old fill length text result rules.new store.new }
+    requires { PutRoom start stores.old.tokens.now count stores.old.texts.now fill length text }
+    ensures same { SameStores stores.old stores.new }
+    ensures put { Put names important start stores.old.tokens.now count stores.old.rules.now place stores.old.texts.now fill length text result stores.new.rules.now stores.new.texts.now }
+    ensures work_unchanged { SameWork stores.old stores.new }
 {
+    // taken into variables first: no loan of one field is covered where another is read
+    let tokens = &mut *stores.tokens;
+    let texts = &mut *stores.texts;
     let value = Tokens {
         rows: tokens,
         count,
-        store,
+        store: texts,
     };
-    let read = decl_of(part_of(store, fill, length), value);
+    let read = decl_of(part_of(texts, fill, length), value);
     let decl = named(read, names);
-    keep_text(decl, store, fill, length, text);
-    put_declaration(decl, important, start, fill, rules, place);
+    keep_text(decl, texts, fill, length, text);
+    put_declaration(decl, important, start, fill, stores.rules, place);
     decl.text_length()
 }
 
-// Reads the value, from `v` on, of the property that `s` begins with; its name of `length` bytes lies at `fill`.
+// Reads the value of the property that `s` begins with, and whose name lies at `fill`. All of `s` is lent, since the declaration starts at its
+// first byte that is no white space.
 fn parse_declared(
     s: &[u8],
-    v: usize,
-    length: usize,
+    property: Property,
     names: bool,
     at: usize,
-    rules: &mut [u32],
+    stores: &mut Stores<'_>,
     place: usize,
-    tokens: &mut [u32],
-    brackets: &mut [u8],
-    store: &mut [u8],
     fill: usize,
 ) -> Option<DeclarationRead>
-    requires rules_room { RulesRoom s.now at rules.old place tokens.old brackets.old store.old fill }
-    requires property_read { PropertyRead s.now v «length» store.old fill }
-    ensures { record { answer = result; rules = rules.new; tokens = tokens.new; brackets = brackets.new; store = store.new }
-        ≡ declaration_left names at s.now rules.old place tokens.old brackets.old store.old fill }
+    requires rules_room { OfStores (RulesRoom s.now at) stores.old place fill }
+    requires property_read { PropertyRead s.now property.value property.name stores.old.texts.now fill }
+    ensures same { SameStores stores.old stores.new }
+    ensures stores_after { leaving result stores.new ≡ of_stores (declaration_left names at s.now) stores.old place fill }
 {
-    match parse_value(&s[v..], tokens, brackets, store, fill + length) {
+    match parse_value(&s[property.value..], stores, fill + property.name) {
         Err(Unbalanced { count, text, .. }) => {
-            wipe_work(tokens, brackets, count);
-            wipe_bytes(store, fill, length + text);
+            wipe_work(stores.tokens, stores.brackets, count);
+            fill_part(stores.texts, fill, property.name + text, 0);
             None
         }
         Ok(
@@ -157,18 +161,16 @@ fn parse_declared(
                 names,
                 important,
                 start,
-                tokens,
                 unmarked(count, important),
-                rules,
+                stores,
                 place,
-                store,
                 fill,
-                length,
+                property.name,
                 text,
             );
-            wipe_work(tokens, brackets, count);
+            wipe_work(stores.tokens, stores.brackets, count);
             Some(DeclarationRead {
-                taken: v + taken,
+                taken: property.value + taken,
                 text: kept,
             })
         }
@@ -180,23 +182,18 @@ pub fn parse_declaration(
     s: &[u8],
     names: bool,
     at: usize,
-    rules: &mut [u32],
+    stores: &mut Stores<'_>,
     place: usize,
-    tokens: &mut [u32],
-    brackets: &mut [u8],
-    store: &mut [u8],
     fill: usize,
 ) -> Option<DeclarationRead>
-    requires { RulesRoom s.now at rules.old place tokens.old brackets.old store.old fill }
-    ensures { record { answer = result; rules = rules.new; tokens = tokens.new; brackets = brackets.new; store = store.new }
-        ≡ declaration_left names at s.now rules.old place tokens.old brackets.old store.old fill }
+    requires { OfStores (RulesRoom s.now at) stores.old place fill }
+    ensures same { SameStores stores.old stores.new }
+    ensures stores_after { leaving result stores.new ≡ of_stores (declaration_left names at s.now) stores.old place fill }
 {
-    match parse_property(s, store, fill) {
-        Ok(Property { value, name }) => parse_declared(
-            s, value, name, names, at, rules, place, tokens, brackets, store, fill,
-        ),
+    match parse_property(s, stores.texts, fill) {
+        Ok(property) => parse_declared(s, property, names, at, stores, place, fill),
         Err(NoProperty { name }) => {
-            wipe_bytes(store, fill, name);
+            fill_part(stores.texts, fill, name, 0);
             None
         }
     }
@@ -208,35 +205,23 @@ fn more_rules(
     from: usize,
     names: bool,
     at: usize,
-    rules: &mut [u32],
+    stores: &mut Stores<'_>,
     place: usize,
-    tokens: &mut [u32],
-    brackets: &mut [u8],
-    store: &mut [u8],
     fill: usize,
 ) -> RulesRead
-    requires { MoreRoom s.now from at rules.old place tokens.old brackets.old store.old fill }
-    ensures store_after { record { answer = result; rules = rules.new; tokens = tokens.new; brackets = brackets.new; store = store.new }
-        ≡ more_left names at s.now from rules.old place tokens.old brackets.old store.old fill }
+    requires { OfStores (MoreRoom s.now from at) stores.old place fill }
+    ensures same { SameStores stores.old stores.new }
+    ensures stores_after { leaving result stores.new ≡ of_stores (more_left names at s.now from) stores.old place fill }
     ensures more_read { MoreRead s.now from result }
 {
     let mut taken = from;
     let mut count = 0;
     let mut text = 0;
+    // each turn goes on behind the declaration that was read
     while byte_is(s, taken, b';') {
         let w = skip_from(s, taken + 1);
         let row = place + DECLARATION_WIDTH * count;
-        let Some(read) = parse_declaration(
-            &s[w..],
-            names,
-            at + w,
-            rules,
-            row,
-            tokens,
-            brackets,
-            store,
-            fill + text,
-        ) else {
+        let Some(read) = parse_declaration(&s[w..], names, at + w, stores, row, fill + text) else {
             return RulesRead { taken, count, text };
         };
         taken = w + read.taken;
@@ -251,19 +236,15 @@ pub fn parse_rules(
     s: &[u8],
     names: bool,
     at: usize,
-    rules: &mut [u32],
+    stores: &mut Stores<'_>,
     place: usize,
-    tokens: &mut [u32],
-    brackets: &mut [u8],
-    store: &mut [u8],
     fill: usize,
 ) -> RulesRead
-    requires { RulesRoom s.now at rules.old place tokens.old brackets.old store.old fill }
-    ensures { record { answer = result; rules = rules.new; tokens = tokens.new; brackets = brackets.new; store = store.new }
-        ≡ rules_left names at s.now rules.old place tokens.old brackets.old store.old fill }
+    requires { OfStores (RulesRoom s.now at) stores.old place fill }
+    ensures same { SameStores stores.old stores.new }
+    ensures stores_after { leaving result stores.new ≡ of_stores (rules_left names at s.now) stores.old place fill }
 {
-    let Some(read) = parse_declaration(s, names, at, rules, place, tokens, brackets, store, fill)
-    else {
+    let Some(read) = parse_declaration(s, names, at, stores, place, fill) else {
         return RulesRead {
             taken: 0,
             count: 0,
@@ -275,11 +256,8 @@ pub fn parse_rules(
         read.taken,
         names,
         at,
-        rules,
+        stores,
         place + DECLARATION_WIDTH,
-        tokens,
-        brackets,
-        store,
         fill + read.text,
     );
     RulesRead {

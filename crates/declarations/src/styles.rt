@@ -7,7 +7,7 @@ ghost use Rattle.syntax.specs.Layout.{declaration_start, declarations_at, row_of
 ghost use Rattle.declarations.specs.Styles.{styles_of};
 ghost use Rattle.declarations.specs.StyleNumbers.{added_style, style_for, own_numbers, own_numbers_at, own_row, has_value, zero_row, hidden_row, style_numbers, style_count, StylesRoom};
 
-use combinators::stores::{emit_number, number_at};
+use combinators::stores::{emit, number_at};
 use syntax::rows::{
     BACKGROUND_COLOR, BACKGROUND_SLOT, COLOR, COLOUR_SLOT, CONTENT, CONTENT_SLOT,
     DECLARATION_IMPORTANT, DECLARATION_KIND, DECLARATION_SECOND, DECLARATION_START,
@@ -43,7 +43,7 @@ fn style_for(slot: u32, important: bool, value: Value) -> Option<StyleNumbers>
     })
 }
 
-// The style that a declaration's kind and value ask for.
+// The style that a declaration's kind and value ask for. The kind is the number in a row, which may be any.
 fn own_style(kind: u32, important: bool, value: Value) -> Option<StyleNumbers>
     ensures { result ≡ own_numbers kind important value }
 {
@@ -88,11 +88,11 @@ fn put_style(style: StyleNumbers, styles: &mut [u32], place: usize) -> usize
     ensures { record { bytes = styles.new; fill = result }
         ≡ emits (record { bytes = styles.old; fill = place }) (row_of_numbers style) }
 {
-    let after_slot = emit_number(style.slot, styles, place);
-    let after_important = emit_number(flag_of(style.important), styles, after_slot);
-    let after_number = emit_number(style.value.number, styles, after_important);
-    let after_second = emit_number(style.value.second, styles, after_number);
-    emit_number(style.value.start, styles, after_second)
+    let after_slot = emit(style.slot, styles, place);
+    let after_important = emit(flag_of(style.important), styles, after_slot);
+    let after_number = emit(style.value.number, styles, after_important);
+    let after_second = emit(style.value.second, styles, after_number);
+    emit(style.value.start, styles, after_second)
 }
 
 // Writes the row of the style that the declaration asks for whose row starts at `at`, if it asks for one; the place behind it.
@@ -115,7 +115,8 @@ fn has_value(rows: &[u32], at: usize, kind: u32, other: u32, value: u32) -> bool
     is_kind && number_at(rows, at, DECLARATION_VALUE) == value
 }
 
-// Whether it sets a height to zero.
+// Whether it sets a height to zero. This and `hides_overflow` are `has_value` of two kinds each, by the names of the definitions.
+#[tactic(auto, unfolding(crate::specs::StyleNumbers::zero_row, syntax::specs::Layout::flag))]
 pub fn is_zero_height(rows: &[u32], at: usize) -> bool
     ensures { result ≡ zero_row (drop at rows.now) }
 {
@@ -130,13 +131,14 @@ fn zero_height_start(rows: &[u32], at: usize) -> Option<u32>
 }
 
 // Whether it hides what overflows.
+#[tactic(auto, unfolding(crate::specs::StyleNumbers::hidden_row, syntax::specs::Layout::overflow_number))]
 pub fn hides_overflow(rows: &[u32], at: usize) -> bool
     ensures { result ≡ hidden_row (drop at rows.now) }
 {
     has_value(rows, at, OVERFLOW, OVERFLOW_Y, OVERFLOW_HIDDEN)
 }
 
-// Writes the rows of the styles that the first `count` declarations of `rows` ask for to `styles` from 0 on; how many there are. A zero
+// Writes the rows of the styles that the first `count` declarations of `rows`, a lent store, ask for to `styles` from 0 on; how many there are. A zero
 // height and a hidden overflow among them add `display: none`, which is never important and starts where the first zero height does.
 pub fn styles_from_properties(rows: &[u32], count: usize, styles: &mut [u32]) -> usize
     requires { StylesRoom rows.now count styles.old }

@@ -1,11 +1,7 @@
 -- What `hicsolmab_run` returns: the answer as a struct.
 use Rattle.combinators.specs.Refusal.{refused_at}
-use Rattle.running.specs.declared.run.RunAnswer.{RunAnswer}
+use Rattle.running.specs.RunAnswer.{RunAnswer}
 use Rattle.engine.specs.declared.run.RunResult.{RunResult}
-
--- the struct of an answer
-unfoldable pub result_of : RunAnswer → RunResult
-result_of a = record { refusal = a.refusal.number; place = a.refusal.place; texts = a.texts }
 
 -- the answer that a struct tells; the text of a refusal is 0, since no sheet is read
 unfoldable pub answer_in : RunResult → RunAnswer

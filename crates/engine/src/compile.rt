@@ -3,11 +3,12 @@ ghost use Rattle.std.specs.Prelude.{◌≡◌};
 ghost use Rattle.compiler.specs.CompileAnswer.{numbers_of, compile_of};
 ghost use Rattle.engine.specs.Compile.{numbers_in};
 
+use combinators::lent::{SheetTexts, Stores};
 use compiler::answers::{CompileNumbers, numbers_of};
 use compiler::compile::{CompileError, Compiled, compile};
 
 // The refusal's number, text and place; of sheets that were compiled how many bytes they take, and those of the texts that their rules name. What does
-// not apply is 0.
+// not apply is 0. Numbers, for C has no `Result`.
 #[repr(C)]
 #[derive(Clone, Copy)]
 pub struct CompileResult {
@@ -38,6 +39,7 @@ impl From<Result<Compiled, CompileError>> for CompileResult {
 }
 
 // Compiles three sheets, as `compile` does: the bytes to `compiled`, the texts that their rules name to `texts`; the others are work stores.
+// Sheets and stores come one by one, as C lends them.
 #[unsafe(no_mangle)]
 pub extern "C" fn hicsolmab_compile(
     agent: &[u8],
@@ -52,8 +54,16 @@ pub extern "C" fn hicsolmab_compile(
     ensures { record { answer = numbers_in result; compiled = compiled.new; texts = texts.new; rules = rules.new; tokens = tokens.new; brackets = brackets.new }
         ≡ compile_of agent.now user.now author.now compiled.old texts.old rules.old tokens.old brackets.old }
 {
-    compile(
-        agent, user, author, compiled, texts, rules, tokens, brackets,
-    )
-    .into()
+    let sheets = SheetTexts {
+        agent,
+        user,
+        author,
+    };
+    let mut stores = Stores {
+        rules,
+        tokens,
+        brackets,
+        texts,
+    };
+    compile(sheets, compiled, &mut stores).into()
 }

@@ -4,8 +4,9 @@ ghost use Rattle.page.specs.Accepted.{refusal_of, page_refusal};
 ghost use Rattle.engine.specs.Page.{refusal_in};
 
 use page::check::{PageError, check_page, refusal_of};
+use page::lent::Page;
 
-// The refusal's number, and the first row that is refused.
+// The refusal's number, and the first row that is refused. Numbers, for C has no `Result`.
 #[repr(C)]
 #[derive(Clone, Copy)]
 pub struct PageResult {
@@ -25,10 +26,15 @@ impl From<Result<(), PageError>> for PageResult {
     }
 }
 
-// Whether a page is accepted, as `check_page` answers.
+// Whether a page is accepted, as `check_page` answers. Its lists come one by one, as C lends them.
 #[unsafe(no_mangle)]
 pub extern "C" fn hicsolmab_check_page(nodes: &[u32], attributes: &[u32], text: &[u8]) -> PageResult
     ensures { refusal_in result ≡ page_refusal nodes.now attributes.now text.now }
 {
-    check_page(nodes, attributes, text).into()
+    let page = Page {
+        nodes,
+        attributes,
+        text,
+    };
+    check_page(page).into()
 }

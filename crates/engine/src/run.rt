@@ -1,13 +1,18 @@
 // `hicsolmab_run`: the style rows of all elements of a page.
 ghost use Rattle.std.specs.Prelude.{◌≡◌};
-ghost use Rattle.running.specs.RunAnswer.{run_call};
+ghost use Rattle.running.specs.RunAnswer.{numbers_of, run_call};
 ghost use Rattle.engine.specs.Style.{settings_from};
-ghost use Rattle.engine.specs.Run.{result_of, answer_in};
+ghost use Rattle.engine.specs.Run.{answer_in};
 
 use crate::style::settings_from;
-use running::run::{RunAnswer, run};
+use combinators::lent::Stores;
+use combinators::refusals::{NO_REFUSAL, Refusal};
+use page::lent::Page;
+use running::input::RunInput;
+use running::run::{RunError, run};
 
 // The refusal's number and place; of a page that was styled the bytes of its texts. What does not apply is 0.
+// Numbers, for C has no `Result`.
 #[repr(C)]
 #[derive(Clone, Copy)]
 pub struct RunResult {
@@ -16,21 +21,30 @@ pub struct RunResult {
     pub texts: usize,
 }
 
-impl From<RunAnswer> for RunResult {
-    ghost from_gives = { λ answer told. told ≡ result_of answer };
+impl From<Result<usize, RunError>> for RunResult {
+    ghost from_gives = { λ answer told. answer_in told ≡ numbers_of answer };
 
-    fn from(answer: RunAnswer) -> RunResult {
-        let RunAnswer { refusal, texts } = answer;
-        RunResult {
-            refusal: refusal.number,
-            place: refusal.place,
-            texts,
+    fn from(answer: Result<usize, RunError>) -> RunResult {
+        match answer {
+            Ok(texts) => RunResult {
+                refusal: NO_REFUSAL,
+                place: 0,
+                texts,
+            },
+            Err(error) => {
+                let refusal = Refusal::from(error);
+                RunResult {
+                    refusal: refusal.number,
+                    place: refusal.place,
+                    texts: 0,
+                }
+            }
         }
     }
 }
 
 // Runs a compiled sheet down a page, as `run` does: the style row of each node to `rows`, the contents of `style` attributes to `texts`; the others are work
-// stores.
+// stores. All of them come one by one, as C lends them.
 #[unsafe(no_mangle)]
 pub extern "C" fn hicsolmab_run(
     compiled: &[u8],
@@ -48,18 +62,20 @@ pub extern "C" fn hicsolmab_run(
     ensures { record { answer = answer_in result; rows = rows.new; texts = texts.new; state = state.new; rules = rules.new; tokens = tokens.new; brackets = brackets.new }
         ≡ run_call rows.old texts.old state.old rules.old tokens.old brackets.old compiled.now (settings_from document_styles) (record { nodes = nodes.now; attributes = attributes.now; text = text.now }) }
 {
-    run(
-        settings_from(document_styles),
-        compiled,
-        nodes,
-        attributes,
-        text,
-        rows,
-        texts,
-        state,
+    let mut stores = Stores {
         rules,
         tokens,
         brackets,
-    )
-    .into()
+        texts,
+    };
+    let input = RunInput {
+        settings: settings_from(document_styles),
+        compiled,
+        page: Page {
+            nodes,
+            attributes,
+            text,
+        },
+    };
+    run(input, rows, state, &mut stores).into()
 }

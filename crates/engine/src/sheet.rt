@@ -3,11 +3,12 @@ ghost use Rattle.std.specs.Prelude.{◌≡◌};
 ghost use Rattle.sheets.specs.SheetAnswer.{numbers_of, read_sheet};
 ghost use Rattle.engine.specs.Sheet.{numbers_in};
 
+use combinators::lent::Stores;
 use sheets::answers::{SheetNumbers, numbers_of};
 use sheets::sheet::{Sheet, SheetError, read_sheet};
 
 // The refusal's number and place; of a sheet that was read the count of its rules, the first byte not read, the numbers that the rules take and
-// the bytes of their texts. What does not apply is 0.
+// the bytes of their texts. What does not apply is 0. Numbers, for C has no `Result`.
 #[repr(C)]
 #[derive(Clone, Copy)]
 pub struct SheetResult {
@@ -42,6 +43,7 @@ impl From<Result<Sheet, SheetError>> for SheetResult {
 }
 
 // Reads a sheet, as `read_sheet` does: its rules to `rules`, their texts to `texts`; `tokens` and `brackets` are work stores.
+// They come one by one, as C lends them, and are put together as for `hicsolmab_height_length`: both are exported, and answer other structs.
 #[unsafe(no_mangle)]
 pub extern "C" fn hicsolmab_read_sheet(
     sheet: &[u8],
@@ -52,5 +54,11 @@ pub extern "C" fn hicsolmab_read_sheet(
 ) -> SheetResult
     ensures { record { answer = numbers_in result; rules = rules.new; tokens = tokens.new; brackets = brackets.new; texts = texts.new } ≡ read_sheet sheet.now rules.old tokens.old brackets.old texts.old }
 {
-    read_sheet(sheet, rules, tokens, brackets, texts).into()
+    let mut stores = Stores {
+        rules,
+        tokens,
+        brackets,
+        texts,
+    };
+    read_sheet(sheet, &mut stores).into()
 }

@@ -4,8 +4,9 @@ ghost use Rattle.cascade.specs.declared.slots.Cascade.TheVariants.{Crate, Book};
 ghost use Rattle.styling.specs.StyleAnswer.{numbers_of, style_of};
 ghost use Rattle.engine.specs.Style.{settings_from, answer_in};
 
+use combinators::lent::{SheetTexts, Stores};
 use combinators::refusals::{NO_REFUSAL, Refusal};
-use styles::lent::{Page, SheetTexts};
+use page::lent::Page;
 use styles::settings::Settings;
 use styling::style::{StyleError, style, style_book};
 
@@ -13,6 +14,7 @@ use styling::style::{StyleError, style, style_book};
 const SWITCH_OFF: u32 = 0;
 
 // The refusal's number, text and place; of an element that was styled the bytes of its texts. What does not apply is 0.
+// Numbers, for C has no `Result`.
 #[repr(C)]
 #[derive(Clone, Copy)]
 pub struct StyleResult {
@@ -56,6 +58,7 @@ impl From<Result<usize, StyleError>> for StyleResult {
 }
 
 // The style of an element in the crate's cascade, as `style` gives it: its row to `out`, its contents to `texts`; the others are work stores.
+// Sheets, page and stores come one by one, as C lends them.
 #[unsafe(no_mangle)]
 pub extern "C" fn hicsolmab_style(
     agent: &[u8],
@@ -75,6 +78,12 @@ pub extern "C" fn hicsolmab_style(
     ensures { record { answer = answer_in result; row = out.new; texts = texts.new; rules = rules.new; tokens = tokens.new; brackets = brackets.new }
         ≡ style_of Crate (settings_from document_styles) (record { agent = agent.now; user = user.now; author = author.now }) (record { nodes = nodes.now; attributes = attributes.now; text = text.now }) row out.old texts.old rules.old tokens.old brackets.old }
 {
+    let mut stores = Stores {
+        rules,
+        tokens,
+        brackets,
+        texts,
+    };
     style(
         settings_from(document_styles),
         SheetTexts {
@@ -89,15 +98,12 @@ pub extern "C" fn hicsolmab_style(
         },
         row,
         out,
-        texts,
-        rules,
-        tokens,
-        brackets,
+        &mut stores,
     )
     .into()
 }
 
-// The same in the book order.
+// The same in the book order. Both are exported; a function for both would take the same arguments and the cascade.
 #[unsafe(no_mangle)]
 pub extern "C" fn hicsolmab_style_book(
     agent: &[u8],
@@ -117,6 +123,12 @@ pub extern "C" fn hicsolmab_style_book(
     ensures { record { answer = answer_in result; row = out.new; texts = texts.new; rules = rules.new; tokens = tokens.new; brackets = brackets.new }
         ≡ style_of Book (settings_from document_styles) (record { agent = agent.now; user = user.now; author = author.now }) (record { nodes = nodes.now; attributes = attributes.now; text = text.now }) row out.old texts.old rules.old tokens.old brackets.old }
 {
+    let mut stores = Stores {
+        rules,
+        tokens,
+        brackets,
+        texts,
+    };
     style_book(
         settings_from(document_styles),
         SheetTexts {
@@ -131,10 +143,7 @@ pub extern "C" fn hicsolmab_style_book(
         },
         row,
         out,
-        texts,
-        rules,
-        tokens,
-        brackets,
+        &mut stores,
     )
     .into()
 }

@@ -37,7 +37,7 @@ module _ (store : List ℕ) (a n : ℕ) where
   part_length h = omega (arith, length-take n (drop a store), length-drop a store)
 
   -- and begins with the byte that it begins at
-  part-first : 0 < n → get_or (part store a n) 0 0 ≡ get_or store a 0
+  pub part-first : 0 < n → get_or (part store a n) 0 0 ≡ get_or store a 0
   unfolding part
   part-first h = get_or-take n (drop a store) 0 0 h ∙ first store a
 

@@ -1,4 +1,4 @@
--- A selector that awaits two compounds, joined by a child step, of which the right one may not end here and the left one surely fails: its block stays as it is.
+-- Tests that are passed over by their first bytes, the child step behind them, and a segment of two compounds of which the right one may not end here and the left one surely fails.
 use Prim.Native.Nat.{ℕ, suc, ◌+◌, ◌-◌, ◌≤◌, ◌<◌}
 use mathlib.Core.Path.{◌≡◌, refl, sym, ap, ◌∙◌}
 use mathlib.Core.Bool.{true, false}
@@ -6,39 +6,33 @@ use mathlib.Core.List.{List, [], ◌∷◌}
 use native.Mathlib.Omega.{arith}
 use lib.Dec.{leb}
 use lib.ListN.{length, get_or}
-use lib.Seq.{sets}
 use Rattle.combinators.specs.Choice.{pick, or, and, is}
-use Rattle.combinators.specs.Part.{part}
 use Rattle.combinators.proofs.Rules.{at_most, and_right, within-yes}
 use Rattle.syntax.specs.Layout.{flag, flag_of}
 use Rattle.syntax.specs.RuleLayout.{star_kind, child_kind, nth_kind, attribute_equal_kind}
 use Rattle.syntax.specs.Selector.{Component, nth}
 use Rattle.syntax.specs.Signed.{signed_of}
-use Rattle.page.specs.Path.{Element, Path}
+use Rattle.page.specs.Path.{Path}
 use Rattle.compiled.specs.Decoded.{read, fault, on_decoded, and_then, mapped}
 use Rattle.compiled.specs.Number.{group_values, number_at, ranged_at}
 use Rattle.compiled.specs.Text.{span_at, text_in}
 use Rattle.compiled.specs.declared.texts.Span.{Span}
 use Rattle.compiled.specs.Component.{is_mark, is_name, name_at, second_number_at, numbers_at, body_at, written_at, mark_of, named_of, component_in, component_at}
 use Rattle.compiled.specs.declared.components.Written.TheVariants.{Name}
-use Rattle.compiled.specs.Sheet.{compiled_limit}
 use Rattle.compiled.proofs.Following.{then-read}
 use Rattle.segments.specs.Segments.{test, direct, piece, tested}
 use Rattle.segments.specs.Sweep.{pair_at, pair_bytes, on_piece, piece_at, tests_pass, compound_at, with_tests, mark_bytes, marked_tests, sweep_at}
-use Rattle.segments.specs.Before.{no_place}
-use Rattle.segments.specs.Visits.{to_next, to_awaited, to_flags, block_bytes, Visited, decided, visit_at}
+use Rattle.segments.specs.Visits.{decided}
 use Rattle.sweeps.specs.Swept.{swept_one, swept_behind}
-use Rattle.visits.specs.Visiting.{block_stored}
-use Rattle.hints.specs.Hints.{Fits, TestFails, TestsFail}
+use Rattle.hints.specs.Hints.{TestFails, TestsFail}
 use Rattle.std.proofs.Common.{Option, Some, None}
 use Rattle.std.specs.Option.{IfSome}
-use Rattle.hints.specs.Skipping.{TestThere, BehindChild, BehindStep, StepFails, to_step_mark, to_step_tests, to_step_end, StepStays}
+use Rattle.hints.specs.Skipping.{TestThere, BehindChild, BehindStep, StepFails}
 use Rattle.hints.specs.declared.hints.Hint.{Hint}
 use Rattle.sweeps.specs.declared.sweeping.Swept.{Swept}
 use Rattle.hints.proofs.CodeFailLaws.{name-kind, number-one, name-read}
-use Rattle.sweeps.proofs.CodePartLaws.{tests-some, stored-within}
+use Rattle.sweeps.proofs.CodePartLaws.{tests-some}
 use Rattle.sweeps.proofs.CodePieceLaws.{named-test}
-use Rattle.hints.proofs.CodeStayLaws.{byte_of, pair_of}
 use Rattle.sweeps.proofs.CodeSweepLaws.{one-compound, one-mark, sweep-step}
 use Rattle.visits.proofs.CodeVisitLaws.{some_tests}
 
@@ -130,20 +124,16 @@ module _ (code : List ℕ) where
   unfolding compound_at on_decoded on_piece
   compound-child row k i n e = rw e
 
-  -- ---- the loop of `behind_step`
-  pub record Stepping (first i left : ℕ) : Type 0 where
-    pub whole : (row : Path) → compound_at code row left false i ≡ compound_at code row (length code) false first
-    pub near : i ≤ compiled_limit
+  -- ---- the loop of `behind_step`: what is left of the compound is the whole of it
+  abbrev pub Stepping : ℕ → ℕ → ℕ → Type 0
+  Stepping first i left = (row : Path) → compound_at code row left false i ≡ compound_at code row (length code) false first
 
   module _ (first i left : ℕ) (v : Stepping first i left) (more : 0 < left) where
     -- behind a test the compound goes on, and may not end here as before
-    pub step-test : length code ≤ compiled_limit → (size : ℕ) → TestThere code i size → Stepping first (i + size) (left - 1)
-    step-test few size t =
+    pub step-test : (size : ℕ) → TestThere code i size → Stepping first (i + size) (left - 1)
+    step-test size t =
         let d : suc (left - 1) ≡ left = omega arith in
-        record {
-          whole = λ row. sym (compound-test row (left - 1) i (i + size) t.asks t.told) ∙ ap (λ (k : ℕ). compound_at code row k false i) d ∙ v.whole row;
-          near = omega (arith, few, t.inside);
-        }
+        λ row. sym (compound-test row (left - 1) i (i + size) t.asks t.told) ∙ ap (λ (k : ℕ). compound_at code row k false i) d ∙ v row
 
     -- behind the child step the compound is passed: it does not end here, and its left neighbour begins there
     pub step-child : (r : Option ℕ) → IfSome r (λ place. BehindChild code i place) → IfSome r (λ place. BehindStep code first place)
@@ -152,7 +142,7 @@ module _ (code : List ℕ) where
         whole-child : (row : Path) (r : ℕ) → piece_at code i ≡ read r direct → compound_at code row (length code) false first ≡ record { ends = false; place = r }
         whole-child row r e =
             let d : left ≡ suc (left - 1) = omega arith in
-            sym (v.whole row) ∙ ap (λ (k : ℕ). compound_at code row k false i) d ∙ compound-child row (left - 1) i r e
+            sym (v row) ∙ ap (λ (k : ℕ). compound_at code row k false i) d ∙ compound-child row (left - 1) i r e
     step-child None e = tt
 
 -- ---- the return of `step_fails`
@@ -160,34 +150,9 @@ module _ (code : List ℕ) where
 pub step-fails : (code : List ℕ) (at tests : ℕ) (h : Hint) (place : ℕ) → BehindStep code at place → TestsFail code place tests h → StepFails code at tests h
 step-fails code at tests h place b t = record { place = place; far = b.far; behind = b.told; fails = t }
 
--- ---- the return of `step_stays`
--- a block with a flag of 0 and a mark behind it, whose step fails by the hint, stays
-pub step_stays : (code state : List ℕ) (above width p : ℕ) (h : Hint) → ¬ (p ≡ no_place) → p + to_step_end ≤ width → get_or state (above + p + to_flags) 0 ≡ 0
-    → get_or state (above + p + to_step_mark) 0 ≡ with_tests → (awaited : ℕ) → awaited ≡ pair_at state (above + p + to_awaited) → (tests : ℕ) → tests ≡ pair_at state (above + p + to_step_tests)
-    → StepFails code awaited tests h → StepStays code state above width p h
-step_stays code state above width p h z w f m awaited ea tests et s = record { some = omega arith; inside = w; flag = f; mark = m; fails = rw (ea, et) at s }
-
--- ---- the return of `put_step`
--- next, awaited, the flag of 0 and the mark, stored in turn, are the block
-pub step-stored : (s₀ s₁ s₂ s₃ s₄ : List ℕ) (at next awaited tests : ℕ) → s₁ ≡ sets s₀ (at + to_next) (pair_bytes next) → s₂ ≡ sets s₁ (at + to_awaited) (pair_bytes awaited)
-    → s₃ ≡ sets s₂ (at + to_flags) (0 ∷ []) → s₄ ≡ sets s₃ (at + to_step_mark) (with_tests ∷ pair_bytes tests)
-    → s₄ ≡ sets s₀ (at + to_next) (block_bytes next awaited (0 ∷ with_tests ∷ pair_bytes tests))
-unfolding pair_bytes block_bytes
-step-stored s₀ s₁ s₂ s₃ s₄ at next awaited tests e₁ e₂ e₃ e₄ =
-    let a : at + to_awaited ≡ suc (suc (at + to_next)) = omega arith in
-    let f : at + to_flags ≡ suc (suc (suc (suc (at + to_next)))) = omega arith in
-    let m : at + to_step_mark ≡ suc (suc (suc (suc (suc (at + to_next))))) = omega arith in
-    e₄ ∙ rw (e₃, e₂, e₁, a, f, m)
-
--- ---- the return of `copy_step`
--- the block of a step that was stored is that of equal numbers
-pub step-copied : (s₀ s₁ : List ℕ) (at next awaited tests n a t : ℕ) → next ≡ n → awaited ≡ a → tests ≡ t → s₁ ≡ sets s₀ at (block_bytes next awaited (0 ∷ with_tests ∷ pair_bytes tests))
-    → s₁ ≡ sets s₀ at (block_bytes n a (0 ∷ with_tests ∷ pair_bytes t))
-step-copied s₀ s₁ at next awaited tests n a t p q r e = e ∙ rw (p, q, r)
-
 -- ---- what is swept
 -- the right compound does not end here, nor does the left one, whose mark stays
-step-sweep : (code : List ℕ) (row : Path) (flags : List ℕ) (j i place tests k : ℕ) → length code ≡ suc (suc k) → get_or flags j 0 ≡ 0 → get_or flags (j + 1) 0 ≡ with_tests
+pub step-sweep : (code : List ℕ) (row : Path) (flags : List ℕ) (j i place tests k : ℕ) → length code ≡ suc (suc k) → get_or flags j 0 ≡ 0 → get_or flags (j + 1) 0 ≡ with_tests
     → tests ≡ pair_at flags (j + 1 + 1) → compound_at code row (length code) false i ≡ record { ends = false; place = place } → tests_pass code row tests place ≡ false
     → sweep_at code row flags (length code) j i ≡ 0 ∷ 0 ∷ with_tests ∷ pair_bytes tests
 step-sweep code row flags j i place tests k l f m et c fail =
@@ -205,76 +170,6 @@ step-sweep code row flags j i place tests k l f m et c fail =
     ap (λ (x : ℕ). sweep_at code row flags x j i) l ∙ a ∙ a' ∙ ap (λ (x : List ℕ). 0 ∷ x) (b ∙ b' ∙ ap (λ (x : List ℕ). 0 ∷ x) (sym (some_tests code row tests place fail)))
 
 -- where the first flag is 0, the selector does not match and awaits the same segment
-decided-stays : (code : List ℕ) (p awaited : ℕ) (flags : List ℕ) → decided code p awaited (0 ∷ flags) ≡ record { matched = false; awaited = awaited; flags = flags }
+pub decided-stays : (code : List ℕ) (p awaited : ℕ) (flags : List ℕ) → decided code p awaited (0 ∷ flags) ≡ record { matched = false; awaited = awaited; flags = flags }
 unfolding decided flag_of is pick
 decided-stays code p awaited flags = refl
-
--- ---- one selector whose block stays, of two compounds
-module _ (code : List ℕ) (h : Hint) (state : List ℕ) (above own width p : ℕ) (b : StepStays code state above width p h) where
-  -- what its block says
-  abbrev next : ℕ
-  next = pair_at state (above + p + to_next)
-
-  abbrev awaited : ℕ
-  awaited = pair_at state (above + p + to_awaited)
-
-  abbrev tests : ℕ
-  tests = pair_at state (above + p + to_step_tests)
-
-  -- its flags: the right compound may not end here, and the mark of the left one with its tests
-  abbrev staying : List ℕ
-  staying = 0 ∷ with_tests ∷ pair_bytes tests
-
-  -- the block, which is copied
-  abbrev pub copied_step : List ℕ
-  copied_step = sets state (own + p + to_next) (block_bytes next awaited staying)
-
-  -- the next selector is the one that the parent's part says
-  pub step-next : next ≡ pair_at (part state above width) (p + to_next)
-  step-next = pair_of state above width p to_next (let w = b.inside in omega arith)
-
-  -- the segment that is awaited is the one that the parent's part says
-  step-awaited : awaited ≡ pair_at (part state above width) (p + to_awaited)
-  step-awaited = pair_of state above width p to_awaited (let w = b.inside in omega arith)
-
-  module _ (e : Element) (fit : Fits h e) where
-    abbrev visited : Visited
-    visited = visit_at code (e ∷ []) (part state above width) p
-
-    -- the tests of the left compound do not pass
-    no-pass : tests_pass code (e ∷ []) tests b.fails.place ≡ false
-    no-pass = b.fails.fails.fails e fit
-
-    -- so a visit leaves it as it is
-    visit-is : visited ≡ record { matched = false; awaited = pair_at (part state above width) (p + to_awaited); flags = staying }
-    unfolding visit_at
-    visit-is =
-        let w = b.inside in
-        let far = b.fails.far in
-        let there = b.fails.fails.there in
-        let f : p + to_step_mark ≡ p + to_flags + 1 = omega arith in
-        let g : p + to_step_tests ≡ p + to_flags + 1 + 1 = omega arith in
-        let m : get_or (part state above width) (p + to_flags + 1) 0 ≡ with_tests =
-        ap (λ (i : ℕ). get_or (part state above width) i 0) (sym f) ∙ byte_of state above width p to_step_mark (omega arith) ∙ b.mark in
-        let t : tests ≡ pair_at (part state above width) (p + to_flags + 1 + 1) = pair_of state above width p to_step_tests (omega arith) ∙ ap (pair_at (part state above width)) g in
-        let c : compound_at code (e ∷ []) (length code) false (pair_at (part state above width) (p + to_awaited)) ≡ record { ends = false; place = b.fails.place } =
-        ap (compound_at code (e ∷ []) (length code) false) (sym step-awaited) ∙ b.fails.behind (e ∷ []) in
-        ap (decided code p (pair_at (part state above width) (p + to_awaited)))
-        (step-sweep code (e ∷ []) (part state above width) (p + to_flags) (pair_at (part state above width) (p + to_awaited)) b.fails.place tests (length code - 2)
-        (omega arith) (byte_of state above width p to_flags (omega arith) ∙ b.flag) m t c no-pass)
-        ∙ decided-stays code p (pair_at (part state above width) (p + to_awaited)) staying
-
-    -- it does not match, and the block is what a visit stores
-    pub visit-step : (s₁ : List ℕ) → s₁ ≡ copied_step → (false ≡ visited.matched) × (s₁ ≡ block_stored state own width visited (pair_at (part state above width) (p + to_next)) p)
-    unfolding block_stored
-    visit-step s₁ es =
-        let w = b.inside in
-        let at : own + p + to_next ≡ own + (p + to_next) = omega arith in
-        let bytes = block_bytes next awaited staying in
-        let l : length bytes ≡ 8 = unfold block_bytes pair_bytes in refl in (
-          ap (λ (v : Visited). v.matched) (sym visit-is),
-          es ∙ ap (λ (n : ℕ). sets state n bytes) at ∙ stored-within bytes state own width (p + to_next) (omega (arith, l, w))
-              ∙ ap (λ (n : ℕ). block_stored state own width (record { matched = false; awaited = awaited; flags = staying }) n p) step-next
-              ∙ ap (λ (a : ℕ). block_stored state own width (record { matched = false; awaited = a; flags = staying }) (pair_at (part state above width) (p + to_next)) p) step-awaited
-              ∙ ap (λ (v : Visited). block_stored state own width v (pair_at (part state above width) (p + to_next)) p) (sym visit-is),
-        )

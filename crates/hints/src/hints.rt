@@ -50,10 +50,7 @@ fn begins_none(starts: Starts, byte: usize) -> bool
     requires { byte < byte_values }
     ensures { result ≡ true → may_begin starts byte ≡ false }
 {
-    if starts.one == ANY_BYTE || starts.one == byte || starts.two == byte {
-        return false;
-    }
-    true
+    starts.one != ANY_BYTE && starts.one != byte && starts.two != byte
 }
 
 // What texts of attributes begin with: told where there are none.
@@ -102,7 +99,7 @@ fn with_start(starts: Starts, byte: usize) -> Starts
     }
 }
 
-// With what the words of a text begin with.
+// With what the words of a text begin with. A `while`: it steps by what was read, white space and a word.
 fn with_words(s: &[u8], begun: Starts) -> Starts
     ensures keeps { Keeps begun result }
     ensures by_index { (w : List ℕ) → has_word w s.now ≡ true → may_begin result (get_or w 0 0) ≡ true }
@@ -166,8 +163,8 @@ fn name_starts(attributes: &[u32], text: &[u8]) -> Starts
 }
 
 // The hint for an element at which so many selectors are gone over: for a few, attributes are not looked at.
-pub fn hint_of(element: Handed<'_>, selectors: u32) -> Hint
-    ensures { (place : ℕ) → Fits result (handed_element element.entry.name.now element.entry.attributes.now element.entry.text.now place) }
+pub fn hint_of(element: &Handed<'_>, selectors: u32) -> Hint
+    ensures { (place : ℕ) → Fits result (handed_element element.now.name.now element.now.attributes.now element.now.text.now place) }
 {
     let size = element.name.len();
     let first = usize::from(peek(element.name, 0));

@@ -3,6 +3,7 @@ use Rattle.std.specs.Prelude.{ℕ, Option, Some, None, Result, Ok, Err, List, lt
 use Rattle.combinators.specs.Choice.{pick}
 use Rattle.combinators.specs.LeastLengths.{stores_suffice}
 use Rattle.combinators.specs.Refusal.{no_refusal, refused, refused_at, too_long, short_store, not_utf8, bad_length}
+use Rattle.combinators.specs.declared.lent.Stores.{Stores}
 use Rattle.combinators.specs.declared.refusals.Refusal.{Refusal}
 use Rattle.characters.specs.Utf8.{valid}
 use Rattle.sheets.specs.SheetAnswer.{sheet_limit}
@@ -36,6 +37,10 @@ pub record LengthLeft : Type 0 where
   pub tokens : List ℕ
   pub brackets : List ℕ
   pub texts : List ℕ
+
+-- by a call that is lent the stores: its answer, and what they then hold
+abbrev pub leaving : LengthNumbers → Stores → LengthLeft
+leaving a stores = record { answer = a; rules = stores.rules.now; tokens = stores.tokens.now; brackets = stores.brackets.now; texts = stores.texts.now }
 
 -- "this call, S-8's and S-10's leave the text store zero", and all others are work stores; after 12 "buffers are then as after 4"
 unfoldable pub length_left : List ℕ → List ℕ → List ℕ → List ℕ → List ℕ → LengthLeft

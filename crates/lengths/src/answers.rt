@@ -15,7 +15,7 @@ pub enum Kind {
     Ex,
 }
 
-// The kinds by their numbers in an answer; the first where there is no length.
+// The kinds by their numbers in an answer, which C has; the first where there is no length.
 pub const NO_KIND: u32 = 0;
 
 pub const UNIT_KIND: u32 = 1;
@@ -25,6 +25,7 @@ pub const EM_KIND: u32 = 2;
 pub const EX_KIND: u32 = 3;
 
 impl Kind {
+    #[tactic(auto, unfolding(crate::specs::Unit::kind_number))]
     pub fn number(self) -> u32
         ensures { result ≡ kind_number self }
     {
@@ -43,7 +44,7 @@ pub struct Length {
     pub amount: u64,
 }
 
-// Why a value is refused; of a bad length the first byte of the number that is no exact length.
+// Why a value is refused, the error of a `Result`; of a bad length the first byte of the number that is no exact length.
 #[derive(Clone, Copy, Debug, PartialEq, Eq)]
 pub enum LengthError {
     TooLong,
@@ -52,9 +53,11 @@ pub enum LengthError {
     BadLength(usize),
 }
 
+// One `From` for each error.
 impl From<LengthError> for Refusal {
     ghost from_gives = { λ error refusal. refusal ≡ refusal_of error };
 
+    #[tactic(auto, unfolding(crate::specs::HeightLength::refusal_of))]
     fn from(error: LengthError) -> Refusal {
         match error {
             LengthError::TooLong => refused(TOO_LONG),
@@ -65,7 +68,7 @@ impl From<LengthError> for Refusal {
     }
 }
 
-// The refusal; of a length its kind and its amount. What does not apply is 0.
+// The refusal; of a length its kind and its amount. What does not apply is 0: so the documents and C have it.
 #[derive(Clone, Copy)]
 pub struct LengthNumbers {
     pub refusal: Refusal,
@@ -73,7 +76,7 @@ pub struct LengthNumbers {
     pub amount: u64,
 }
 
-// A refusal, or that there is none, and no length.
+// A refusal, or that there is none, and no length: zeros, as in other answers, but of this answer's fields.
 fn without_length(refusal: Refusal) -> LengthNumbers
     ensures { result ≡ without_length refusal }
 {
@@ -85,19 +88,17 @@ fn without_length(refusal: Refusal) -> LengthNumbers
 }
 
 // What an answer stands for.
+#[tactic(auto, unfolding(crate::specs::HeightLength::numbers_of))]
 pub fn numbers_of(answer: Result<Option<Length>, LengthError>) -> LengthNumbers
     ensures { result ≡ numbers_of answer }
 {
-    let length = match answer {
-        Ok(length) => length,
-        Err(error) => return without_length(Refusal::from(error)),
-    };
-    match length {
-        Some(length) => LengthNumbers {
+    match answer {
+        Ok(Some(length)) => LengthNumbers {
             refusal: no_refusal(),
             kind: length.kind.number(),
             amount: length.amount,
         },
-        None => without_length(no_refusal()),
+        Ok(None) => without_length(no_refusal()),
+        Err(error) => without_length(Refusal::from(error)),
     }
 }

@@ -1,4 +1,5 @@
-// Numbers as S-8 reads them: `1.5` is one number. All else is as the lexer has it.
+// Numbers as S-8 reads them: `1.5` is one number. All else is as the lexer has it, but stands here again: there too a reader handed in would bring
+// its clauses along, what it takes and that it stays within the text, which are longer than the bodies.
 ghost use Rattle.std.specs.Prelude.{◌≡◌, ◌≤◌, length};
 ghost use Rattle.lengths.specs.Number.{unsigned, signed, number};
 
@@ -6,15 +7,15 @@ use lexer::numbers::{parse_decimal, parse_integer, parse_sign};
 use lexer::whitespace::skip_optional_whitespace;
 
 // A decimal, or else digits.
+#[tactic(auto, unfolding(crate::specs::Number::unsigned, combinators::specs::Choice::pick, combinators::specs::Choice::is))]
 fn parse_unsigned(s: &[u8]) -> usize
     ensures value { result ≡ unsigned s.now }
     ensures upper_bound { result ≤ length s.now }
 {
-    let n = parse_decimal(s);
-    if n == 0 {
-        return parse_integer(s);
+    match parse_decimal(s) {
+        0 => parse_integer(s),
+        n => n,
     }
-    n
 }
 
 // A sign or none, and a number without one behind it.
@@ -23,11 +24,10 @@ fn parse_signed(s: &[u8]) -> usize
     ensures upper_bound { result ≤ length s.now }
 {
     let k = parse_sign(s);
-    let n = parse_unsigned(&s[k..]);
-    if n == 0 {
-        return 0;
+    match parse_unsigned(&s[k..]) {
+        0 => 0,
+        n => k + n,
     }
-    k + n
 }
 
 // White space or none, and a number with a sign or none behind it.
@@ -36,9 +36,8 @@ pub fn parse_number(s: &[u8]) -> usize
     ensures upper_bound { result ≤ length s.now }
 {
     let w = skip_optional_whitespace(s);
-    let n = parse_signed(&s[w..]);
-    if n == 0 {
-        return 0;
+    match parse_signed(&s[w..]) {
+        0 => 0,
+        n => w + n,
     }
-    w + n
 }

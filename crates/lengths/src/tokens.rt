@@ -23,13 +23,15 @@ fn plus_of(t: &[u8]) -> usize
 }
 
 // Whether `s` is white space and comments alone.
+#[tactic(auto, unfolding(crate::specs::Length::only_whitespace, combinators::specs::Choice::is))]
 fn only_whitespace(s: &[u8]) -> bool
     ensures { result ≡ only_whitespace s.now }
 {
     skip_optional_whitespace(s) == s.len()
 }
 
-// The length of a number of `n` bytes at the start of `t`, by what stands behind it; its token starts at `place`.
+// The length of a number of `n` bytes at the start of `t`, by what stands behind it; its token starts at `place`. The number and what is behind it
+// are both read, so that `t` is lent whole.
 fn length_behind(
     place: usize,
     t: &[u8],

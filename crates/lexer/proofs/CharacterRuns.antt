@@ -7,7 +7,7 @@ use native.Mathlib.Omega.{arith}
 use lib.ListN.{length, take, drop}
 use lib.Seq.{sets}
 use Rattle.combinators.specs.Repeat.{many, texts}
-use Rattle.combinators.specs.Store.{emits}
+use Rattle.combinators.specs.Store.{Store, emits}
 use Rattle.combinators.proofs.Lists.{rest}
 use Rattle.combinators.proofs.Repeats.{many-le, many-took, many-from, texts-took}
 use Rattle.characters.specs.Utf8.{utf8, taken_of}
@@ -69,48 +69,47 @@ chars-text-le : (s : List ℕ) → length (chars_text s) ≤ length s + 2
 chars-text-le s = omega (arith, bound-two (chars-bound s), chars-le s)
 
 -- ---- the loop of `emit_nmchars`
--- i bytes are read and n bytes of text are emitted; the store is st, filled to f
-abbrev pub Chars : List ℕ → List ℕ → ℕ → List ℕ → ℕ → ℕ → ℕ → Type 0
-Chars s st₀ fill st f i n = Writing char_taken char_text s st₀ fill st f i n
+-- i bytes are read and n bytes of text are emitted; v is what the store was at the start, w what it is
+abbrev pub Chars : List ℕ → Store ℕ → Store ℕ → ℕ → ℕ → Type 0
+Chars s v w i n = Writing char_taken char_text s v w i n
 
 -- what the loop leaves: the bytes taken, the length of the text, and the text in the store
 abbrev pub Emitted : List ℕ → List ℕ → ℕ → List ℕ → ℕ → ℕ → Type 0
 Emitted s st₀ fill st i n = ((i ≡ chars_end s) × (n ≡ length (chars_text s))) × (st ≡ sets st₀ fill (chars_text s))
 
 -- the loop's end says so
-emitted : (s st₀ : List ℕ) (fill : ℕ) (st : List ℕ) (i n : ℕ) → Wrote char_taken char_text s st₀ fill st i n → Emitted s st₀ fill st i n
+emitted : (s : List ℕ) (v w : Store ℕ) (i n : ℕ) → Wrote char_taken char_text s v w i n → Emitted s v.bytes v.fill w.bytes i n
 unfolding chars_end chars_text
-emitted s st₀ fill st i n w = ((w.0, w.1), w.2)
+emitted s v w i n e = ((e.0, e.1), e.2)
 
 -- a character that is read takes a byte or more
 pub chars-some : (x : Option Scalar) (t : List ℕ) → x ≡ nmchar_of t → (k v : ℕ) → x ≡ Some (record { taken = k; value = v }) → 1 ≤ k
 chars-some x t ex k v h = (char_of t k v (sym ex ∙ h)).some
 
-module _ (s st₀ : List ℕ) (fill : ℕ) (st : List ℕ) (f i n : ℕ) (w : Chars s st₀ fill st f i n) where
+module _ (s : List ℕ) (v w : Store ℕ) (i n : ℕ) (c : Chars s v w i n) where
   -- no more text is emitted than the text has bytes, and two
   pub chars-small : n ≤ length s + 2
   unfolding chars_text
-  chars-small = writing-small _ _ _ _ _ _ _ _ _ w (chars-text-le s)
+  chars-small = writing-small _ _ _ _ _ _ _ c (chars-text-le s)
 
-  -- a turn that reads v for k bytes
-  pub chars-more : (x : Option Scalar) → x ≡ nmchar_of (take (length s - i) (drop i s)) → (k v : ℕ) → x ≡ Some (record { taken = k; value = v }) → (z : List ℕ) (g : ℕ)
-      → record { bytes = z; fill = g } ≡ emits (record { bytes = st; fill = f }) (utf8 v) → length z ≡ length st → (m : ℕ) → m ≡ length (utf8 v)
-      → Chars s st₀ fill z g (i + k) (n + m)
+  -- a turn that reads a character y for k bytes
+  pub chars-more : (x : Option Scalar) → x ≡ nmchar_of (take (length s - i) (drop i s)) → (k y : ℕ) → x ≡ Some (record { taken = k; value = y }) → (z : Store ℕ)
+      → z ≡ emits w (utf8 y) → (m : ℕ) → m ≡ length (utf8 y) → Chars s v z (i + k) (n + m)
   unfolding taken_of
-  chars-more x ex k v h z g ez lz m em =
-      let e : nmchar_of (drop i s) ≡ Some (record { taken = k; value = v }) = ap nmchar_of (sym (rest s i)) ∙ sym ex ∙ h in
-      let c = char_of (drop i s) k v e in
-      let t = stands (drop i s) k v e in
-      writing_more _ _ _ _ _ _ _ _ _ w k m z g (takes (drop i s) _ e) c.within_text (λ q. omega (arith, c.some))
-      (em ∙ ap length (sym t)) (ez ∙ ap (emits _) (sym t)) lz
+  chars-more x ex k y h z ez m em =
+      let e : nmchar_of (drop i s) ≡ Some (record { taken = k; value = y }) = ap nmchar_of (sym (rest s i)) ∙ sym ex ∙ h in
+      let r = char_of (drop i s) k y e in
+      let t = stands (drop i s) k y e in
+      writing_more _ _ _ _ _ _ _ c k m z (takes (drop i s) _ e) r.within_text (λ q. omega (arith, r.some))
+      (em ∙ ap length (sym t)) (ez ∙ ap (emits _) (sym t))
 
   -- the return where no character is left: what was taken and written is all of it
-  pub chars-stop : (x : Option Scalar) → x ≡ nmchar_of (take (length s - i) (drop i s)) → x ≡ None → Emitted s st₀ fill st i n
+  pub chars-stop : (x : Option Scalar) → x ≡ nmchar_of (take (length s - i) (drop i s)) → x ≡ None → Emitted s v.bytes v.fill w.bytes i n
   unfolding taken_of
   chars-stop x ex h =
       let e : nmchar_of (drop i s) ≡ None = ap nmchar_of (sym (rest s i)) ∙ sym ex ∙ h in
-      emitted _ _ _ _ _ _ (writing-stop _ _ _ _ _ _ _ _ _ w (takes (drop i s) _ e))
+      emitted s v w i n (writing-stop _ _ _ _ _ _ _ c (takes (drop i s) _ e))
 
   -- the text is at its end
-  pub chars-end : length s ≤ i → Emitted s st₀ fill st i n
-  chars-end h = emitted _ _ _ _ _ _ (writing-end _ _ _ _ _ _ _ _ _ w h)
+  pub chars-end : length s ≤ i → Emitted s v.bytes v.fill w.bytes i n
+  chars-end h = emitted s v w i n (writing-end _ _ _ _ _ _ _ c h)

@@ -1,5 +1,5 @@
 -- The characters of a quoted string: what one takes and stands for, where the string ends, and how long its text is.
-use mathlib.Core.Path.{◌≡◌, refl, sym}
+use mathlib.Core.Path.{◌≡◌, refl, sym, ap, ◌∙◌}
 use mathlib.Core.List.{List, [], ◌∷◌}
 use mathlib.Core.Logic.{◌⊎◌, inl, inr, ⊎_elim}
 use Prim.Native.Nat.{ℕ, ◌+◌, ◌-◌, ◌≤◌}
@@ -8,7 +8,7 @@ use lib.ListN.{length, get_or, take, drop, length-drop}
 use lib.Seq.{sets}
 use Rattle.combinators.specs.Ascii.{line_feed}
 use Rattle.combinators.specs.Repeat.{many}
-use Rattle.combinators.specs.Store.{emits}
+use Rattle.combinators.specs.Store.{Store, emits}
 use Rattle.combinators.proofs.Rules.{pick-holds, is_true, is_false}
 use Rattle.combinators.proofs.Lists.{rest, first, nil-of}
 use Rattle.combinators.proofs.Repeats.{many-le}
@@ -68,27 +68,25 @@ unfolding quoted_taken quoted_text
 quoted-short q s = (fine q s).small
 
 -- ---- the returns of `emit_quoted`
--- what one turn answers: bytes taken, bytes of text, and the store behind them
-abbrev pub Turned : ℕ → List ℕ → List ℕ → ℕ → ℕ → ℕ → List ℕ → ℕ → Type 0
-Turned q s st f k m z g =
-    ((k ≡ quoted_taken q s) × (m ≡ length (quoted_text q s))) × (record { bytes = z; fill = g } ≡ emits (record { bytes = st; fill = f }) (quoted_text q s))
-
-module _ (q : ℕ) (s : List ℕ) (c : Quoted) (e : c ≡ quoted_of q s) (st : List ℕ) (f : ℕ) where
-  -- the return where a byte of text was read: it is emitted
-  pub turn_byte : (n x : ℕ) → c ≡ Byte n x → (z : List ℕ) (g : ℕ) → record { bytes = z; fill = g } ≡ emits (record { bytes = st; fill = f }) (x ∷ [])
-      → Turned q s st f n 1 z g
+module _ (q : ℕ) (s : List ℕ) (c : Quoted) (e : c ≡ quoted_of q s) where
+  -- where a byte of text was read: so many bytes are taken, for one byte
+  pub turn_byte : (n x : ℕ) → c ≡ Byte n x → (n ≡ quoted_taken q s) × (1 ≡ length (quoted_text q s)) × (x ∷ [] ≡ quoted_text q s)
   unfolding quoted_taken quoted_text taken_of text_of
-  turn_byte n x h z g ez = rw (← e, h) ((refl, refl), ez)
+  turn_byte n x h = rw (← e, h) (refl, refl, refl)
 
   -- bytes that stand for nothing
-  pub turn-skip : (n : ℕ) → c ≡ Skip n → Turned q s st f n 0 st f
+  pub turn-skip : (n : ℕ) → c ≡ Skip n → (n ≡ quoted_taken q s) × (0 ≡ length (quoted_text q s)) × ([] ≡ quoted_text q s)
   unfolding quoted_taken quoted_text taken_of text_of
-  turn-skip n h = rw (← e, h) ((refl, refl), sym (emits_none _))
+  turn-skip n h = rw (← e, h) (refl, refl, refl)
 
   -- the end of the string
-  pub turn-stop : c ≡ Stop → Turned q s st f 0 0 st f
+  pub turn-stop : c ≡ Stop → (0 ≡ quoted_taken q s) × (0 ≡ length (quoted_text q s)) × ([] ≡ quoted_text q s)
   unfolding quoted_taken quoted_text taken_of text_of
-  turn-stop h = rw (← e, h) ((refl, refl), sym (emits_none _))
+  turn-stop h = rw (← e, h) (refl, refl, refl)
+
+-- nothing is written where the text is empty
+pub kept : (o : Store ℕ) (t : List ℕ) → [] ≡ t → o ≡ emits o t
+kept o t h = sym (emits_none o) ∙ ap (emits o) h
 
 -- ---- the string as a whole
 -- it ends within the text
@@ -137,39 +135,42 @@ string-at q s =
 
 -- ---- the loop of `emit_string`
 -- what it leaves: the bytes taken, the length of the text, and the text in the store
-abbrev pub Ended : ℕ → List ℕ → List ℕ → ℕ → List ℕ → ℕ → ℕ → Type 0
-Ended q s st₀ fill st i n = ((i ≡ string_end q s) × (n ≡ length (string_text q s))) × (st ≡ sets st₀ fill (string_text q s))
+abbrev pub Ended : ℕ → List ℕ → Store ℕ → List ℕ → ℕ → ℕ → Type 0
+Ended q s v st i n = ((i ≡ string_end q s) × (n ≡ length (string_text q s))) × (st ≡ sets v.bytes v.fill (string_text q s))
 
 -- the loop's end says so
-string-wrote : (q : ℕ) (s st₀ : List ℕ) (fill : ℕ) (st : List ℕ) (i n : ℕ) → Wrote (quoted_taken q) (quoted_text q) s st₀ fill st i n → Ended q s st₀ fill st i n
+string-wrote : (q : ℕ) (s : List ℕ) (v w : Store ℕ) (i n : ℕ) → Wrote (quoted_taken q) (quoted_text q) s v w i n → Ended q s v w.bytes i n
 unfolding string_end string_text
-string-wrote q s st₀ fill st i n w = ((w.0, w.1), w.2)
+string-wrote q s v w i n e = ((e.0, e.1), e.2)
 
-module _ (q : ℕ) (s st₀ : List ℕ) (fill : ℕ) (st : List ℕ) (f i n : ℕ) (w : Writing (quoted_taken q) (quoted_text q) s st₀ fill st f i n) where
+module _ (q : ℕ) (s : List ℕ) (v w : Store ℕ) (i n : ℕ) (c : Writing (quoted_taken q) (quoted_text q) s v w i n) where
   -- at the end of the text the string ends: what was taken and written is all of it
-  pub string-done : length s ≤ i → Ended q s st₀ fill st i n
-  string-done h = string-wrote q s st₀ fill st i n (writing-end _ _ _ _ _ _ _ _ _ w h)
+  pub string-done : length s ≤ i → Ended q s v w.bytes i n
+  string-done h = string-wrote q s v w i n (writing-end _ _ _ _ _ _ _ c h)
 
   -- the text so far is no longer than the whole
   pub string-small : n ≤ length s
   unfolding string_end string_text
-  string-small = let l = string-short q s in let h = string-le q s in omega (arith, w.text)
+  string-small = let l = string-short q s in let h = string-le q s in omega (arith, c.text)
 
-module _ (q : ℕ) (s st₀ : List ℕ) (fill : ℕ) (st : List ℕ) (f i n : ℕ) (w : Writing (quoted_taken q) (quoted_text q) s st₀ fill st f i n)
-    (k m : ℕ) (z : List ℕ) (g : ℕ) (t : Turned q (take (length s - i) (drop i s)) st f k m z g) where
-  -- the call is lent the rest of the text
-  onward : Turned q (drop i s) st f k m z g
-  onward = rw (rest s i) at t
+  -- a turn that takes k bytes for m bytes of text is lent the rest of the text
+  module _ (k m : ℕ) (x : Store ℕ) (t : (k ≡ quoted_taken q (take (length s - i) (drop i s))) × (m ≡ length (quoted_text q (take (length s - i) (drop i s)))))
+      (ex : x ≡ emits w (quoted_text q (take (length s - i) (drop i s)))) where
+    taken : k ≡ quoted_taken q (drop i s)
+    taken = rw (rest s i) at t.0
 
-  -- behind a turn that takes k bytes, not 0, what is left to read and to write has the result of the whole
-  pub string-more : ¬ (k ≡ 0) → length z ≡ length st → Writing (quoted_taken q) (quoted_text q) s st₀ fill z g (i + k) (n + m)
-  string-more d l =
-      let o = onward in
-      writing_more _ _ _ _ _ _ _ _ _ w k m z g (sym o.0.0) (omega (arith, o.0.0, quoted-le q (drop i s))) d o.0.1 o.1 l
+    long : m ≡ length (quoted_text q (drop i s))
+    long = rw (rest s i) at t.1
 
-  -- a turn that takes nothing ends the string: what was taken and written is all of it
-  pub string-stop : k ≡ 0 → Ended q s st₀ fill z i n
-  string-stop h =
-      let o = onward in
-      let e = nil-of (quoted_text q (drop i s)) (omega (arith, o.0.0, quoted-short q (drop i s))) in
-      string-wrote q s st₀ fill z i n (writing-none _ _ _ _ _ _ _ _ _ w k z g o.0.0 h e o.1)
+    stored : x ≡ emits w (quoted_text q (drop i s))
+    stored = rw (rest s i) at ex
+
+    -- behind a turn that takes k bytes, not 0, what is left to read and to write has the result of the whole
+    pub string-more : ¬ (k ≡ 0) → Writing (quoted_taken q) (quoted_text q) s v x (i + k) (n + m)
+    string-more d = writing_more _ _ _ _ _ _ _ c k m x (sym taken) (omega (arith, taken, quoted-le q (drop i s))) d long stored
+
+    -- a turn that takes nothing ends the string: what was taken and written is all of it
+    pub string-stop : k ≡ 0 → Ended q s v x.bytes i n
+    string-stop h =
+        let e = nil-of (quoted_text q (drop i s)) (omega (arith, taken, quoted-short q (drop i s))) in
+        string-wrote q s v x i n (writing-none _ _ _ _ _ _ _ c k x taken h e stored)

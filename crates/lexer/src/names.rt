@@ -9,6 +9,7 @@ use characters::utf8::{
     REPLACEMENT_CHARACTER, Scalar, emit_scalar, length_of, or_replacement, scalar_at,
 };
 use combinators::bytes::{byte_is, peek};
+use combinators::writer::Writer;
 
 // An escape takes up to six hex digits.
 const MAXIMUM_DIGITS: usize = 6;
@@ -37,19 +38,24 @@ fn lower_of(b: u8) -> u32
     u32::from(b.to_ascii_lowercase())
 }
 
-// A character that can start a name, other than an escape.
+// A byte as a character of a name.
+fn folded(b: u8) -> Scalar
+    ensures { result ≡ record { taken = 1; value = lower b } }
+{
+    Scalar {
+        taken: 1,
+        value: lower_of(b),
+    }
+}
+
+// A character that can start a name, other than an escape. This one and the next have a definition each and share all but their test, which would
+// bring its clauses along if it were handed in.
 #[tactic(auto, unfolding(crate::specs::Name::nmstart_char_of, crate::specs::Name::folded_char, combinators::specs::Choice::pick))]
 pub fn nmstart_char(s: &[u8]) -> Option<Scalar>
     ensures { result ≡ nmstart_char_of s.now }
 {
     let b = peek(s, 0);
-    if !is_nmstart(b) {
-        return None;
-    }
-    Some(Scalar {
-        taken: 1,
-        value: lower_of(b),
-    })
+    is_nmstart(b).then_some(folded(b))
 }
 
 // A character of a name, other than an escape.
@@ -58,13 +64,7 @@ pub fn nmchar_char(s: &[u8]) -> Option<Scalar>
     ensures { result ≡ nmchar_char_of s.now }
 {
     let b = peek(s, 0);
-    if !is_nmchar(b) {
-        return None;
-    }
-    Some(Scalar {
-        taken: 1,
-        value: lower_of(b),
-    })
+    is_nmchar(b).then_some(folded(b))
 }
 
 // Whether `b` is a hex digit.
@@ -92,11 +92,12 @@ pub fn hex_digit_of(b: u8) -> u32
 fn hex_run(t: &[u8]) -> usize
     ensures { result ≡ hex_run 0 maximum_digits t.now }
 {
-    let mut i = 0;
-    while i < MAXIMUM_DIGITS && is_hex_digit(peek(t, i)) {
-        i += 1;
+    for i in 0..MAXIMUM_DIGITS {
+        if !is_hex_digit(peek(t, i)) {
+            return i;
+        }
     }
-    i
+    MAXIMUM_DIGITS
 }
 
 // How many of them the escape takes: only the first where they run to the end of the text.
@@ -108,7 +109,7 @@ fn hex_count(t: &[u8]) -> usize
     if n == t.len() { 1 } else { n }
 }
 
-// The number that the first `n` digits of `t` write.
+// The number that the first `n` digits of `t` write. `peek` reads past the end too, so that no clause has to bound `n` by the text, as a slice would.
 fn hex_value_of(t: &[u8], n: usize) -> u32
     requires { n ≤ maximum_digits }
     ensures { result ≡ hex_value 0 n t.now }
@@ -154,7 +155,7 @@ pub fn ident_escape(s: &[u8]) -> Option<Scalar>
     escaped(&s[1..])
 }
 
-// A character that can start a name.
+// A character that can start a name. This one and the next have no body to share.
 pub fn nmstart(s: &[u8]) -> Option<Scalar>
     ensures { result ≡ nmstart_of s.now }
 {
@@ -168,19 +169,19 @@ pub fn nmchar(s: &[u8]) -> Option<Scalar>
     nmchar_char(s).or_else(|| ident_escape(s))
 }
 
-// The characters of names that `s` begins with, as many as there are.
+// The characters of names that `s` begins with, as many as there are. A step is what a character takes, so this is no range.
 fn emit_nmchars(s: &[u8], store: &mut [u8], fill: usize) -> Written
     ensures taken_value { (result.taken ≡ chars_end s.now) × (result.length ≡ length (chars_text s.now)) }
     ensures store_after { store.new ≡ sets store.old fill (chars_text s.now) }
 {
+    let mut writer = Writer { store, fill };
     let mut i = 0;
-    let mut f = fill;
     let mut n = 0;
     while i < s.len() {
         let Some(c) = nmchar(&s[i..]) else {
             break;
         };
-        f = emit_scalar(c.value, store, f);
+        emit_scalar(c.value, &mut writer);
         n += length_of(c.value);
         i += c.taken;
     }
@@ -217,7 +218,8 @@ fn parse_chars(t: &[u8], store: &mut [u8], fill: usize) -> Option<Written>
     if n.taken == 0 { None } else { Some(n) }
 }
 
-// A name behind white space and comments.
+// A name behind white space and comments. This one and the next stay two: a reader handed in would bring its clauses along, what it answers
+// and what it leaves in the store, which are longer than the body. They place a text in a store whose fill their callers keep, so no writer is lent.
 pub fn parse_ident(s: &[u8], store: &mut [u8], fill: usize) -> Option<Written>
     ensures value { result ≡ name_answer (ident_of s.now) }
     ensures store_after { store.new ≡ sets store.old fill (name_text (ident_of s.now)) }

@@ -19,11 +19,12 @@ pub fn parse_integer(s: &[u8]) -> usize
     ensures value { result ≡ digits s.now }
     ensures upper_bound { result ≤ length s.now }
 {
-    let mut i = 0;
-    while i < s.len() && is_digit(s[i]) {
-        i += 1;
+    for (i, b) in s.iter().enumerate() {
+        if !is_digit(*b) {
+            return i;
+        }
     }
-    i
+    s.len()
 }
 
 // Digits or none, a full stop, and digits.
@@ -41,7 +42,7 @@ pub fn parse_decimal(s: &[u8]) -> usize
     }
 }
 
-// An integer, or else a decimal.
+// An integer, or else a decimal: of `1.5` it takes `1`. crates/lengths tries them the other way round, which is another rule with its own definition.
 #[tactic(auto, unfolding(crate::specs::Number::unsigned, combinators::specs::Choice::pick, combinators::specs::Choice::is))]
 fn parse_unsigned(s: &[u8]) -> usize
     ensures value { result ≡ unsigned s.now }
@@ -62,7 +63,8 @@ pub fn parse_sign(s: &[u8]) -> usize
     usize::from(matches!(peek(s, 0), b'-' | b'+'))
 }
 
-// A sign or none, and a number without one behind it.
+// A sign or none, and a number without one behind it. This and `parse_number`, and both again in crates/lengths with its own numbers without a
+// sign, stay apart: a reader handed in would bring its clauses along, which are longer than the body.
 pub fn parse_signed(s: &[u8]) -> usize
     ensures value { result ≡ signed s.now }
     ensures upper_bound { result ≤ length s.now }

@@ -4,7 +4,7 @@ ghost use Rattle.combinators.specs.Store.{emits};
 ghost use Rattle.lexer.specs.TokenRow.{columns_of, word, row_of, mark_from, token_from, token_in};
 
 use crate::tokens::Token;
-use combinators::stores::{emit_number, number_at};
+use combinators::stores::{emit_all, number_at};
 
 // Numbers in a row: the kind, the byte of the text where the token starts, the place of the store where its text starts, and two more.
 pub const TOKEN_WIDTH: usize = 5;
@@ -67,6 +67,7 @@ pub struct Columns {
     pub second: usize,
 }
 
+// Two numbers of a kind. What they are depends on it, so they have no names.
 fn with_kind(kind: u32, first: usize, second: usize) -> Columns
     ensures { result ≡ record { kind = kind; first = first; second = second } }
 {
@@ -116,18 +117,25 @@ fn word_of(x: usize) -> u32
 
 // Writes the row of the token `k`, which starts at the byte `byte` of the text and whose text starts at `start` in the text store,
 // from `at` on; the place behind the row.
+#[tactic(auto, unfolding(crate::specs::TokenRow::row_of))]
 pub fn put_token(k: Token, byte: usize, start: usize, rows: &mut [u32], at: usize) -> usize
     ensures { record { bytes = rows.new; fill = result } ≡ emits (record { bytes = rows.old; fill = at }) (row_of byte start k) }
 {
     let row = Columns::from(k);
-    let after_kind = emit_number(row.kind, rows, at);
-    let after_byte = emit_number(word_of(byte), rows, after_kind);
-    let after_start = emit_number(word_of(start), rows, after_byte);
-    let after_first = emit_number(word_of(row.first), rows, after_start);
-    emit_number(word_of(row.second), rows, after_first)
+    emit_all(
+        &[
+            row.kind,
+            word_of(byte),
+            word_of(start),
+            word_of(row.first),
+            word_of(row.second),
+        ],
+        rows,
+        at,
+    )
 }
 
-// The mark of a kind: a closing brace where no other fits.
+// The mark of a kind: a closing brace where no other fits. Here and below a `match` is the table itself: pairs would be searched at each row.
 #[tactic(auto, unfolding(crate::specs::TokenRow::mark_from, combinators::specs::Choice::pick, combinators::specs::Choice::is))]
 fn mark_of(kind: u32) -> Token
     ensures { result ≡ mark_from kind }

@@ -2,11 +2,12 @@
 ghost use Rattle.std.specs.Prelude.{◌≡◌, length};
 ghost use Rattle.std.proofs.lemmas.List.Edits.{sets};
 ghost use Rattle.combinators.specs.Store.{emits};
+ghost use Rattle.combinators.specs.Writer.{written, SameStore};
 ghost use Rattle.lexer.specs.Quoted.{escaped_byte, quoted_of, quoted_taken, quoted_text, string_end, string_text};
 
 use crate::Written;
 use combinators::bytes::peek;
-use combinators::stores::emit;
+use combinators::writer::Writer;
 
 // One turn of the string's loop: a byte of its text for so many bytes read, bytes read that stand for nothing, or the end.
 #[derive(Clone, Copy)]
@@ -14,14 +15,6 @@ pub enum Quoted {
     Byte(usize, u8),
     Skip(usize),
     Stop,
-}
-
-// What one turn took from the text, how many bytes it stands for, and the store's fill behind them.
-#[derive(Clone, Copy)]
-struct Turn {
-    taken: usize,
-    length: usize,
-    fill: usize,
 }
 
 // What stands behind the backslash that `s` begins with.
@@ -54,45 +47,39 @@ fn quoted_byte(s: &[u8], quote: u8) -> Quoted
     }
 }
 
-// The character that `s` begins with, written from `fill` on; it takes 0 at the end of the string.
-fn emit_quoted(s: &[u8], quote: u8, store: &mut [u8], fill: usize) -> Turn
+// The character that `s` begins with, written; it takes 0 at the end of the string.
+fn emit_quoted(s: &[u8], quote: u8, writer: &mut Writer<'_>) -> Written
+    ensures same_store { SameStore writer.old writer.new }
     ensures taken_value { (result.taken ≡ quoted_taken quote s.now) × (result.length ≡ length (quoted_text quote s.now)) }
-    ensures fill_after { record { bytes = store.new; fill = result.fill } ≡ emits (record { bytes = store.old; fill = fill }) (quoted_text quote s.now) }
+    ensures written { written writer.new ≡ emits (written writer.old) (quoted_text quote s.now) }
 {
     match quoted_byte(s, quote) {
-        Quoted::Byte(n, b) => Turn {
-            taken: n,
-            length: 1,
-            fill: emit(b, store, fill),
-        },
-        Quoted::Skip(n) => Turn {
-            taken: n,
-            length: 0,
-            fill,
-        },
-        Quoted::Stop => Turn {
+        Quoted::Byte(taken, b) => {
+            writer.emit(b);
+            Written { taken, length: 1 }
+        }
+        Quoted::Skip(taken) => Written { taken, length: 0 },
+        Quoted::Stop => Written {
             taken: 0,
             length: 0,
-            fill,
         },
     }
 }
 
-// The characters of the string, written from `fill` on; `s` begins behind the quote.
+// The characters of the string, written from `fill` on; `s` begins behind the quote. A step is what a turn takes, so this is no range.
 pub fn emit_string(s: &[u8], quote: u8, store: &mut [u8], fill: usize) -> Written
     ensures taken_value { (result.taken ≡ string_end quote s.now) × (result.length ≡ length (string_text quote s.now)) }
     ensures store_after { store.new ≡ sets store.old fill (string_text quote s.now) }
 {
+    let mut writer = Writer { store, fill };
     let mut i = 0;
-    let mut f = fill;
     let mut n = 0;
     while i < s.len() {
-        let r = emit_quoted(&s[i..], quote, store, f);
+        let r = emit_quoted(&s[i..], quote, &mut writer);
         if r.taken == 0 {
             break;
         }
         i += r.taken;
-        f = r.fill;
         n += r.length;
     }
     Written {

@@ -1,4 +1,4 @@
-// Tokens: a token by value, read from the start of a text; its text goes to the store.
+// Tokens: a token by value, read from the start of a text; its text goes to the store, from a fill that the callers keep, so that no writer is lent.
 ghost use Rattle.std.specs.Prelude.{◌≡◌, ◌≤◌, length};
 ghost use Rattle.std.proofs.lemmas.List.Edits.{sets};
 ghost use Rattle.lexer.specs.Token.{numeric_of, ident_like_of, is_quote, string_of, is_ident_start, start_of, mark_of, hash_of, plus_of, minus_of, less_of, token_by, token_at, token_of, coded, token_answer, token_text, lexed_answer, or_delim};
@@ -11,7 +11,7 @@ use crate::strings::emit_string;
 use crate::whitespace::skip_optional_whitespace;
 use characters::utf8::{Scalar, scalar_at};
 use combinators::bytes::{byte_is, peek, starts_with};
-use combinators::stores::emit_part;
+use combinators::writer::Writer;
 
 // A token, with the lengths of its texts, which lie in the store one behind the other, or the scalar value of a delimiter.
 #[derive(Clone, Copy)]
@@ -77,14 +77,16 @@ pub fn parse_numeric_token(s: &[u8], store: &mut [u8], fill: usize) -> Option<To
     if n == 0 {
         return None;
     }
-    let f = emit_part(s, n, store, fill);
+    let mut writer = Writer { store, fill };
+    writer.emit_all(&s[..n]);
+    let behind = writer.fill;
     if byte_is(s, n, b'%') {
         return Some(TokenRead {
             taken: n + 1,
             token: Token::Percentage(n),
         });
     }
-    match parse_ident(&s[n..], store, f) {
+    match parse_ident(&s[n..], writer.store, behind) {
         Some(unit) => Some(TokenRead {
             taken: n + unit.taken,
             token: Token::Dimension(n, unit.length),
@@ -261,6 +263,8 @@ fn or_delim(a: Option<TokenRead>, c: u32) -> Option<TokenRead>
     }))
 }
 
+// The readers from here on are told the first character of `t`, which therefore is not empty: three of them ask for it, to read on behind a first
+// byte, and a type for a text that is not empty would serve them alone. They place a token's text as all readers do.
 // Behind '#': a name that may start with any character of names.
 fn hash_token(t: &[u8], c: u32, store: &mut [u8], fill: usize) -> Option<TokenRead>
     requires { 1 ≤ length t.now }

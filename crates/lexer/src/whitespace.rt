@@ -6,7 +6,8 @@ use combinators::bytes::{byte_is, peek};
 
 const FORM_FEED: u8 = 0x0c;
 
-// Where the comment ends of which `s` is what follows "/*", those two bytes counted; 0 where it does not end.
+// Where the comment ends of which `s` is what follows "/*", those two bytes counted; 0 where it does not end, as its
+// definition counts.
 fn comment_end(s: &[u8]) -> usize
     ensures { result ≡ comment_end 2 s.now }
 {
@@ -18,7 +19,7 @@ fn comment_end(s: &[u8]) -> usize
     0
 }
 
-// The bytes of the comment that `s` begins with, 0 where it begins with none.
+// The bytes of the comment that `s` begins with, 0 where it begins with none: a count, which `many` takes.
 pub fn match_comment(s: &[u8]) -> usize
     ensures { result ≡ comment_of s.now }
 {
@@ -37,7 +38,8 @@ fn is_whitespace(b: u8) -> bool
     matches!(b, b' ' | b'\t' | b'\r' | b'\n' | FORM_FEED)
 }
 
-// The bytes of the character of white space or the comment that `s` begins with, 0 where it begins with neither.
+// The bytes of the character of white space or the comment that `s` begins with, 0 where it begins with neither: a count, which `many`
+// takes.
 #[tactic(auto, unfolding(crate::specs::Whitespace::whitespace_item, combinators::specs::Choice::pick))]
 pub fn match_whitespace_item(s: &[u8]) -> usize
     ensures { result ≡ whitespace_item s.now }
@@ -49,7 +51,7 @@ pub fn match_whitespace_item(s: &[u8]) -> usize
     }
 }
 
-// How many bytes of white space and comments `s` begins with.
+// How many bytes of white space and comments `s` begins with. A step is what an item takes, so this is no range.
 pub fn skip_optional_whitespace(s: &[u8]) -> usize
     ensures value { result ≡ skip_whitespace s.now }
     ensures upper_bound { result ≤ length s.now }

@@ -1,10 +1,11 @@
 -- A loop over the attributes of an element: any that passes, or the first of a name.
-use Rattle.std.specs.Prelude.{Option, Some, None, MatchOption, cond, ◌||◌}
-use Rattle.std.specs.List.{find, list_any, range_with_len}
-use Prim.Native.Nat.{ℕ, zero, suc, ◌+◌}
+use Rattle.std.specs.Prelude.{Option, Some, None, cond, is_some}
+use Rattle.std.specs.List.{find, range_with_len}
+use Prim.Native.Nat.{ℕ, zero, suc, ◌+◌, ◌-◌, ◌≤◌, ◌<◌}
 use mathlib.Core.Bool.{Bool, true, false}
 use mathlib.Core.List.{List, [], ◌∷◌}
-use mathlib.Core.Path.{◌≡◌, refl, sym, ap, ◌∙◌}
+use mathlib.Core.Path.{◌≡◌, refl, sym, ap, subst, ◌∙◌}
+use native.Mathlib.Omega.{arith}
 use Rattle.combinators.specs.Choice.{pick, or}
 use Rattle.combinators.specs.Part.{part}
 use Rattle.combinators.specs.Word.{same_text}
@@ -74,17 +75,55 @@ module _ (attributes names : List ℕ) (row : ℕ) where
     unfolding is_id
     id_other h = and-gives-false _ _ (id-test ∙ h)
 
+-- ---- the loop of `find`: the first that passes of the rows from one on is the first of all
+unfoldable pub Finding : (f : ℕ → Bool) (at count row end : ℕ) → Type 0
+Finding f at count row end = find f (range_with_len row (end - row)) ≡ find f (range_with_len at count)
+
+module _ (f : ℕ → Bool) (at count : ℕ) where
+  -- all rows are left
+  pub finding-begin : Finding f at count at (at + count)
+  unfolding Finding
+  finding-begin = let e : at + count - at ≡ count = omega arith in rw e refl
+
+  module _ (row end : ℕ) (g : Finding f at count row end) where
+    -- no row is left
+    pub none-found : end ≤ row → None ≡ find f (range_with_len at count)
+    unfolding Finding
+    none-found h = let e : end - row ≡ 0 = omega arith in subst (λ (k : ℕ). find f (range_with_len row k) ≡ find f (range_with_len at count)) e g
+
+    module _ (h : row < end) (b : Bool) (eb : b ≡ f row) where
+      -- one row is left at least
+      left-is : end - row ≡ suc (end - (row + 1))
+      left-is = omega arith
+
+      opened : cond (f row) (Some row) (find f (range_with_len (row + 1) (end - (row + 1)))) ≡ find f (range_with_len at count)
+      unfolding Finding
+      opened = subst (λ (k : ℕ). find f (range_with_len row k) ≡ find f (range_with_len at count)) left-is g
+
+      -- it passes
+      pub found-here : b ≡ true → Some row ≡ find f (range_with_len at count)
+      found-here e = subst (λ (t : Bool). cond t (Some row) (find f (range_with_len (row + 1) (end - (row + 1)))) ≡ find f (range_with_len at count)) (sym eb ∙ e) opened
+
+      -- it does not
+      pub finding-on : b ≡ false → Finding f at count (row + 1) end
+      unfolding Finding
+      finding-on e = subst (λ (t : Bool). cond t (Some row) (find f (range_with_len (row + 1) (end - (row + 1)))) ≡ find f (range_with_len at count)) (sym eb ∙ e) opened
+
 -- ---- all of them, from row `at` on
 module _ (attributes names : List ℕ) where
   -- any that passes
-  pub any-row : (f : Attribute → Bool) (k at : ℕ) → list_any (λ row. f (attribute_of attributes names row)) (range_with_len at k) ≡ any_attribute f (attributes_from attributes names k at)
+  some-row : (f : Attribute → Bool) (k at : ℕ) → is_some (find (λ row. f (attribute_of attributes names row)) (range_with_len at k)) ≡ any_attribute f (attributes_from attributes names k at)
   unfolding any_attribute attributes_from attribute_of or
-  any-row f zero at = refl
-  any-row f (suc k) at = go (f (attribute_of attributes names at)) (any-row f k (at + 1))
+  some-row f zero at = refl
+  some-row f (suc k) at = go (f (attribute_of attributes names at)) (find (λ row. f (attribute_of attributes names row)) (range_with_len (at + 1) k)) (some-row f k (at + 1))
     where
-      go : (t : Bool) {a b : Bool} → a ≡ b → t || a ≡ or t b
-      go true e = refl
-      go false e = e
+      go : (t : Bool) (o : Option ℕ) {b : Bool} → is_some o ≡ b → is_some (cond t (Some at) o) ≡ or t b
+      go true o e = refl
+      go false o e = e
+
+  -- whether one was found is what the definition answers
+  pub any-answer : (f : Attribute → Bool) (k at : ℕ) (o : Option ℕ) → o ≡ find (λ row. f (attribute_of attributes names row)) (range_with_len at k) → is_some o ≡ any_attribute f (attributes_from attributes names k at)
+  any-answer f k at o e = ap is_some e ∙ some-row f k at
 
   module _ (n w : List ℕ) where
     -- by the value of a row that was found
@@ -102,12 +141,13 @@ module _ (attributes names : List ℕ) where
         go true o e = refl
         go false o e = e
 
-    -- what was answered of it is what the definition answers
-    pub first-answer : (k at : ℕ) (o : Option ℕ) → o ≡ find (λ row. is_named n (attribute_of attributes names row)) (range_with_len at k) → (r : Bool) (P : ℕ → Type 0) → MatchOption o (r ≡ false) P
-        → ((row : ℕ) → P row → r ≡ same_text (attribute_value attributes names row) w) → r ≡ first_is n w (attributes_from attributes names k at)
-    unfolding by_value
-    first-answer k at o e r P m f = go o m ∙ ap by_value e ∙ first-row k at
-      where
-        go : (o : Option ℕ) → MatchOption o (r ≡ false) P → r ≡ by_value o
-        go None m = m
-        go (Some row) m = f row m
+    module _ (k at : ℕ) (o : Option ℕ) (e : o ≡ find (λ row. is_named n (attribute_of attributes names row)) (range_with_len at k)) where
+      -- the value of the first decides
+      pub first-answer : {row : ℕ} → o ≡ Some row → (r : Bool) → r ≡ same_text (attribute_value attributes names row) w → r ≡ first_is n w (attributes_from attributes names k at)
+      unfolding by_value
+      first-answer h r q = q ∙ ap by_value (sym h ∙ e) ∙ first-row k at
+
+      -- where there is none, no value is right
+      pub first_none : o ≡ None → false ≡ first_is n w (attributes_from attributes names k at)
+      unfolding by_value
+      first_none h = ap by_value (sym h ∙ e) ∙ first-row k at

@@ -4,18 +4,20 @@ use mathlib.Core.Bool.{Bool, true, false}
 use mathlib.Core.List.{List, [], ◌∷◌}
 use mathlib.Core.Path.{◌≡◌, refl, sym, ap, subst, ◌∙◌}
 use native.Mathlib.Omega.{arith}
+use Rattle.std.specs.Prelude.{Option, Some, None, MatchOption}
 use Rattle.combinators.specs.Choice.{pick, is}
 use Rattle.combinators.specs.Word.{same_text}
-use Rattle.combinators.proofs.Rules.{is-no}
+use Rattle.combinators.proofs.Rules.{is-no, pick-false}
 use Rattle.syntax.specs.RuleLayout.{star_kind, element_kind, child_kind, descendant_kind, component_kind_at}
-use Rattle.page.specs.Ancestors.{line_of}
+use Rattle.page.specs.Ancestors.{ancestors_from, ancestors_of, line_of}
 use Rattle.page.specs.PathOf.{path_of}
 use Rattle.page.specs.Rows.{node_at, name_of}
+use Rattle.page.proofs.Ancestry.{below-ancestors}
 use Rattle.matching.specs.Matches.{matches}
 use Rattle.matching.specs.Rows.{component_number, component_at, components_at, first_text, SimpleAt, Rooted}
 use Rattle.matching.specs.Rows.Rooted.{document, below}
 use Rattle.matching.specs.Recursion.{or_else, result_on_parent, result_on_ancestors, result_step, match_recursively}
-use Rattle.matching.specs.Climb.{Inner, NameAt, AtDescendant, NextAncestor, reaches, climb_of, first_reaching}
+use Rattle.matching.specs.Climb.{NameAt, AtDescendant, NextAncestor, NoneLeft, reaches, climb_of, first_reaching}
 use Rattle.matching.specs.declared.matcher.SelectorMatch.{SelectorMatch}
 use Rattle.matching.specs.declared.matcher.SelectorMatch.TheVariants.{Matches, FailsLocally, FailsCompletely}
 use Rattle.matching.specs.declared.matcher.Climbed.{Climbed}
@@ -25,7 +27,13 @@ use Rattle.matching.proofs.ComponentLaws.{components-none, components-more}
 use Rattle.matching.proofs.MatchLaws as one
 use Rattle.matching.proofs.PassLaws.{name-passes}
 use Rattle.matching.proofs.PathLaws.{top-path, other_path, parent-rooted, parent-before}
-use Rattle.matching.proofs.ReachLaws.{first_above}
+
+-- a second result is not asked for where the first does not fail locally
+or-else-first : (s t : SelectorMatch) → ¬ (s ≡ FailsLocally) → or_else s t ≡ s
+unfolding or_else
+or-else-first Matches t d = refl
+or-else-first FailsLocally t d = absurd (d refl)
+or-else-first FailsCompletely t d = refl
 
 module _ (store components nodes attributes text : List ℕ) where
   -- the result of the first l components on the path of a row
@@ -142,115 +150,136 @@ module _ (store components nodes attributes text : List ℕ) where
         record { fewer = w.0; not-below = w.1; rooted = w.2; same = w.3 }
 
   -- ---- the next ancestor that is tried
+  -- an element of another name fails locally where the last component asks for a name, and the document whatever it is called
+  pub other_name : (n : ℕ) → NameAt components n → (at : ℕ) → Rooted nodes at → (b : Bool) → b ≡ same_text (name_of nodes text at) (first_text store components (n - 1)) → b ≡ false
+      → Climb n at ≡ Ended FailsLocally
+  other_name n a at r b eb h = go at r b eb h
+    where
+      kind-is : component_number components (n - 1) component_kind_at ≡ element_kind
+      kind-is = a.element
+
+      no-child : ¬ (component_number components (n - 1) component_kind_at ≡ child_kind)
+      no-child y = absurd (omega (arith, kind-is))
+
+      no-descendant : ¬ (component_number components (n - 1) component_kind_at ≡ descendant_kind)
+      no-descendant y = absurd (omega (arith, kind-is))
+
+      no-star : ¬ (component_number components (n - 1) component_kind_at ≡ star_kind)
+      no-star y = absurd (omega (arith, kind-is))
+
+      no_zero : ¬ (n ≡ 0)
+      no_zero y = absurd (omega (arith, a.some))
+
+      simple : SimpleAt components (n - 1)
+      simple = record { no-child = no-child; no-descendant = no-descendant }
+
+      go : (at : ℕ) → Rooted nodes at → (b : Bool) → b ≡ same_text (name_of nodes text at) (first_text store components (n - 1)) → b ≡ false → Climb n at ≡ Ended FailsLocally
+      go at (document d) b eb h =
+          one.match-fails store components nodes attributes text n 0 no_zero _ refl no-child no-descendant false
+          (one.document-passes store components nodes attributes text (n - 1) 0 _ refl simple (document d) no-star refl) refl
+      go at (below k l m r) b eb h =
+          let z : ¬ (at ≡ 0) = λ y. absurd (omega arith) in
+          one.match-fails store components nodes attributes text n at no_zero _ refl no-child no-descendant b
+          (one.element-passes store components nodes attributes text (n - 1) at _ refl simple (below k l m r) no-star z b
+          (name-passes store components nodes attributes text (n - 1) at _ refl kind-is (first_text store components (n - 1)) refl b eb)) h
+
   module _ (n row : ℕ) where
-    -- the parent of a row is the next ancestor to be tried
-    pub next-parent : Inner nodes row → (p : ℕ) → p ≡ (node_at nodes row).parent → NextAncestor store components nodes attributes text n row p
-    unfolding result_on_ancestors
-    next-parent i p ep =
-        record {
-          rooted = parent-rooted nodes row i.rooted i.no-document p ep;
-          higher = parent-before nodes row i.rooted i.no-document p ep;
-          same =
-              ap (result_on_ancestors (match_recursively (components_at store components n))) (other_path nodes attributes text row i.rooted i.no-document)
-              ∙ ap (λ (q : ℕ). or_else (Result n q) (Above n q)) (sym ep);
-          passed = ap (λ (q : ℕ). first_reaching nodes attributes text (components_at store components n) (line_of nodes q)) (sym ep);
-        }
+    -- the first of some rows from which the components reach a descendant combinator
+    abbrev FirstOf : List ℕ → ℕ
+    FirstOf rows = first_reaching nodes attributes text (components_at store components n) rows
 
-  module _ (n row above : ℕ) (next : NextAncestor store components nodes attributes text n row above) where
-    -- one that fails locally is passed over, and its parent is the next
-    pub next-on : ¬ (above ≡ 0) → Climb n above ≡ Ended FailsLocally → (p : ℕ) → p ≡ (node_at nodes above).parent
-        → NextAncestor store components nodes attributes text n row p
-    unfolding or_else reaches
-    next-on z f p ep =
-        let up = next-parent n above (record { rooted = next.rooted; no-document = z }) p ep in
-        record {
-          rooted = up.rooted;
-          higher = omega (arith, up.higher, next.higher);
-          same = next.same ∙ ap (λ (x : SelectorMatch). or_else x (Above n above)) (sym (climb-ends n above next.rooted _ refl f)) ∙ up.same;
-          passed = next.passed ∙ first_above nodes attributes text (components_at store components n) above next.rooted z (ap reaches f) ∙ up.passed;
-        }
+    -- where the search stands: the ancestors of the row up to this one fail locally, so that those above it have the result of all
+    pub record Seeking (at : ℕ) : Type 0 where
+      pub rooted : Rooted nodes at
+      pub not-below : at ≤ row
+      pub same : Above n row ≡ Above n at
+      pub passed : FirstOf (ancestors_of nodes row) ≡ FirstOf (ancestors_of nodes at)
 
-    -- an element of another name fails locally where the last component asks for a name
-    pub other_name : NameAt components n → ¬ (above ≡ 0) → (b : Bool) → b ≡ same_text (name_of nodes text above) (first_text store components (n - 1)) → b ≡ false
-        → Climb n above ≡ Ended FailsLocally
-    other_name a z b eb h =
-        let k = component_number components (n - 1) component_kind_at in
-        let e : k ≡ element_kind = a.element in
-        let no-child : ¬ (k ≡ child_kind) = λ y. absurd (omega arith) in
-        let no-descendant : ¬ (k ≡ descendant_kind) = λ y. absurd (omega arith) in
-        let no-star : ¬ (k ≡ star_kind) = λ y. absurd (omega arith) in
-        let no_zero : ¬ (n ≡ 0) = λ y. absurd (omega (arith, a.some)) in
-        let simple : SimpleAt components (n - 1) = record { no-child = no-child; no-descendant = no-descendant } in
-        one.match-fails store components nodes attributes text n above no_zero k refl no-child no-descendant b
-        (one.element-passes store components nodes attributes text (n - 1) above k refl simple next.rooted no-star z b
-        (name-passes store components nodes attributes text (n - 1) above k refl e (first_text store components (n - 1)) refl b eb)) h
+    -- none is passed over yet
+    pub seek-begin : Rooted nodes row → Seeking row
+    seek-begin r = record { rooted = r; not-below = omega arith; same = refl; passed = refl }
 
-  -- ---- `match_recursively`: the ancestors of a row above have the result of all on the row
-  module _ (left row : ℕ) where
-    module _ (n above : ℕ) (d : AtDescendant store components nodes attributes text left row n above) where
-      -- the document has no ancestor
-      pub none_above : above ≡ 0 → FailsCompletely ≡ Result left row
-      unfolding result_on_ancestors
-      none_above z = sym (d.same ∙ ap (result_on_ancestors (match_recursively (components_at store components n))) (top-path nodes attributes text above d.rooted z))
+    module _ (at : ℕ) (s : Seeking at) where
+      -- the document has no ancestor: none is left
+      pub seek-end : at ≡ 0 → NoneLeft store components nodes attributes text n row
+      unfolding result_on_ancestors first_reaching ancestors_of ancestors_from
+      seek-end z =
+          record {
+            fails = s.same ∙ ap (result_on_ancestors (match_recursively (components_at store components n))) (top-path nodes attributes text at s.rooted z);
+            unreached = s.passed ∙ ap (λ (q : ℕ). FirstOf (ancestors_of nodes q)) z;
+          }
 
-      module _ (q : ℕ) (next : NextAncestor store components nodes attributes text n above q) where
-        -- fewer components on a row above
-        pub falls : (t : ℕ) → left + row ≡ t → n + q < t
-        falls t e = omega (arith, d.fewer, d.not-below, next.higher)
+      module _ (z : ¬ (at ≡ 0)) (p : ℕ) (ep : p ≡ (node_at nodes at).parent) where
+        -- the parent may be tried next
+        pub seek-found : NextAncestor store components nodes attributes text n row p
+        unfolding result_on_ancestors
+        seek-found =
+            record {
+              rooted = parent-rooted nodes at s.rooted z p ep;
+              higher = omega (arith, s.not-below, parent-before nodes at s.rooted z p ep);
+              same =
+                  s.same ∙ ap (result_on_ancestors (match_recursively (components_at store components n))) (other_path nodes attributes text at s.rooted z)
+                  ∙ ap (λ (q : ℕ). or_else (Result n q) (Above n q)) (sym ep);
+              passed = s.passed ∙ ap FirstOf (below-ancestors nodes at (parent-before nodes at s.rooted z _ refl)) ∙ ap (λ (q : ℕ). FirstOf (line_of nodes q)) (sym ep);
+            }
+
+        -- where it fails locally it is passed over
+        pub seek-on : Climb n p ≡ Ended FailsLocally → Seeking p
+        unfolding or_else reaches first_reaching
+        seek-on f =
+            record {
+              rooted = seek-found.rooted;
+              not-below = omega (arith, seek-found.higher);
+              same = seek-found.same ∙ ap (λ (x : SelectorMatch). or_else x (Above n p)) (sym (climb-ends n p seek-found.rooted _ refl f));
+              passed = seek-found.passed ∙ sym (pick-false _ _ _ (reaches (Climb n p)) (ap reaches f) refl);
+            }
+
+    -- without a name that is asked for the parent is tried next
+    pub next-parent : Rooted nodes row → (o : Option ℕ) → MatchOption o (row ≡ 0) (λ p. (p ≡ (node_at nodes row).parent) × ¬ (row ≡ 0))
+        → MatchOption o (NoneLeft store components nodes attributes text n row) (NextAncestor store components nodes attributes text n row)
+    next-parent r (Some p) m = seek-found row (seek-begin r) m.1 p m.0
+    next-parent r None m = seek-end row (seek-begin r) m
+
+  -- fewer components are left at a descendant combinator, on no row below
+  pub fewer-left : (left row n at : ℕ) → AtDescendant store components nodes attributes text left row n at → (t : ℕ) → left + row ≡ t → n + at < t
+  fewer-left left row n at d t e = omega (arith, d.fewer, d.not-below)
+
+  -- ---- `match_on_ancestors`: the ancestors of a row above have the result of all ancestors
+  module _ (n row : ℕ) where
+    pub record Trying (at : ℕ) : Type 0 where
+      pub rooted : Rooted nodes at
+      pub not-below : at ≤ row
+      pub same : Above n row ≡ Above n at
+
+    -- none is tried yet
+    pub try-begin : Rooted nodes row → Trying row
+    try-begin r = record { rooted = r; not-below = omega arith; same = refl }
+
+    module _ (at : ℕ) (d : Trying at) where
+      -- on no ancestor is more to come
+      pub none_above : NoneLeft store components nodes attributes text n at → FailsCompletely ≡ Above n row
+      none_above e = sym (d.same ∙ e.fails)
+
+      module _ (q : ℕ) (next : NextAncestor store components nodes attributes text n at q) where
+        -- it stands above
+        pub falls : (t : ℕ) → n + row ≡ t → n + q < t
+        falls t e = omega (arith, d.not-below, next.higher)
 
         module _ (r : SelectorMatch) (er : r ≡ Result n q) where
           -- the ancestor's result decides, or else that of its own ancestors
-          tried : Result left row ≡ or_else r (Above n q)
+          tried : Above n row ≡ or_else r (Above n q)
           tried = d.same ∙ next.same ∙ ap (λ (x : SelectorMatch). or_else x (Above n q)) (sym er)
 
-          -- an ancestor that matches what is left makes the selector match
-          pub ancestor-matches : r ≡ Matches → Matches ≡ Result left row
-          unfolding or_else
-          ancestor-matches e = sym (tried ∙ ap (λ (x : SelectorMatch). or_else x (Above n q)) e)
-
-          -- it fails, and so do all rows above
-          pub ancestor-fails : r ≡ FailsCompletely → FailsCompletely ≡ Result left row
-          unfolding or_else
-          ancestor-fails e = sym (tried ∙ ap (λ (x : SelectorMatch). or_else x (Above n q)) e)
+          -- an ancestor that does not fail locally decides
+          pub ancestor-decides : ¬ (r ≡ FailsLocally) → r ≡ Above n row
+          ancestor-decides d = sym (tried ∙ or-else-first r (Above n q) d)
 
           -- it fails locally, and its own ancestors are tried
-          pub ancestor-passed-over : r ≡ FailsLocally → AtDescendant store components nodes attributes text left row n q
+          pub ancestor-passed-over : r ≡ FailsLocally → Trying q
           unfolding or_else
           ancestor-passed-over e =
               record {
-                fewer = d.fewer;
-                not-below = omega (arith, d.not-below, next.higher);
                 rooted = next.rooted;
+                not-below = omega (arith, d.not-below, next.higher);
                 same = tried ∙ ap (λ (x : SelectorMatch). or_else x (Above n q)) e;
               }
-
--- ---- the loop of `named_ancestor`: the rows below are passed over, whatever the attributes are
-pub record Seeking (store components nodes text : List ℕ) (n row above : ℕ) : Type 0 where
-  pub rooted : Rooted nodes above
-  pub next : (attributes : List ℕ) → NextAncestor store components nodes attributes text n row above
-
-module _ (store components nodes text : List ℕ) (n row : ℕ) where
-  -- the parent is asked first
-  pub seek-begin : Inner nodes row → (p : ℕ) → p ≡ (node_at nodes row).parent → Seeking store components nodes text n row p
-  seek-begin i p ep =
-      record {
-        rooted = parent-rooted nodes row i.rooted i.no-document p ep;
-        next = λ attributes. next-parent store components nodes attributes text n row i p ep;
-      }
-
-  -- an element of another name is passed over
-  pub seek-on : NameAt components n → (above : ℕ) → Seeking store components nodes text n row above → ¬ (above ≡ 0)
-      → (name : List ℕ) → name ≡ first_text store components (n - 1) → (b : Bool) → b ≡ same_text (name_of nodes text above) name → b ≡ false
-      → (p : ℕ) → p ≡ (node_at nodes above).parent → Seeking store components nodes text n row p
-  seek-on a above s z name en b eb h p ep =
-      record {
-        rooted = parent-rooted nodes above s.rooted z p ep;
-        next =
-            λ attributes. next-on store components nodes attributes text n row above (s.next attributes) z
-            (other_name store components nodes attributes text n row above (s.next attributes) a z b (eb ∙ ap (same_text (name_of nodes text above)) en) h) p ep;
-      }
-
-  -- where no element above has the name, the document is the next to be tried
-  pub seek-end : (above : ℕ) → Seeking store components nodes text n row above → above ≡ 0 → (attributes : List ℕ)
-      → NextAncestor store components nodes attributes text n row 0
-  seek-end above s e attributes = subst (NextAncestor store components nodes attributes text n row) e (s.next attributes)

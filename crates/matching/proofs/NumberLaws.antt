@@ -7,7 +7,7 @@ use mathlib.Core.Path.{◌≡◌, refl, sym, ap, subst, ◌∙◌}
 use native.Mathlib.Numerals.{add-one}
 use native.Mathlib.Omega.{arith}
 use lib.Dec.{eqb}
-use Rattle.std.specs.Prelude.{◌||◌}
+use Rattle.std.specs.Prelude.{◌||◌, not, Option, Some, None, MatchOption, is_some}
 use Rattle.std.specs.List.{list_any, range_with_len}
 use Rattle.std.proofs.lemmas.List.Folds.{list_any-append}
 use Rattle.std.proofs.lemmas.List.FromFn.{map-range_with_len_more}
@@ -16,7 +16,8 @@ use Rattle.combinators.specs.Choice.{pick, is}
 use Rattle.combinators.proofs.Rules.{never, pick_true, pick-false, pick-holds, is-yes, is-no, is_true, is_false}
 use Rattle.syntax.specs.RuleLayout.{descendant_kind, component_kind_at}
 use Rattle.syntax.specs.Selector.{Component}
-use Rattle.page.specs.Ancestors.{line_of}
+use Rattle.page.specs.Ancestors.{ancestors_from, ancestors_of, line_of}
+use Rattle.page.proofs.Ancestry.{below-ancestors}
 use Rattle.page.specs.PathOf.{path_of}
 use Rattle.page.specs.Rows.{node_at}
 use Rattle.matching.specs.Matches.{matches}
@@ -96,6 +97,31 @@ before-number nodes top row (Ended Matches) h u l = never (sym u)
 before-number nodes top row (Ended FailsLocally) h u l = refl
 before-number nodes top row (Ended FailsCompletely) h u l = refl
 before-number nodes top row (Descendant n at) h u l = le-ltb top at (omega (arith, h.0))
+
+-- what is said of an answer that may be none, where there is one
+pub of-some : {T : Type 0} (A : Type 0) (P : T → Type 0) (o : Option T) → MatchOption o A P → is_some o ≡ true → {B : Type 0} → ((x : T) → P x → B) → B
+of-some A P (Some x) m e f = f x m
+of-some A P None m e f = never e
+
+-- and where there is none
+pub of_none : {T : Type 0} (A : Type 0) (P : T → Type 0) (o : Option T) → MatchOption o A P → is_some o ≡ false → A
+of_none A P (Some x) m e = never (sym e)
+of_none A P None m e = m
+
+-- what is not true is false, and the other way round
+not-true : (t : Bool) → not t ≡ true → t ≡ false
+not-true true e = never e
+not-true false e = refl
+
+not-false : (t : Bool) → not t ≡ false → t ≡ true
+not-false true e = refl
+not-false false e = never (sym e)
+
+-- what is no descendant combinator reaches none
+reaches-none : (t : Climbed) → ((n q : ℕ) → ¬ (t ≡ Descendant n q)) → reaches t ≡ false
+unfolding reaches
+reaches-none (Ended r) d = refl
+reaches-none (Descendant n q) d = absurd (d n q refl)
 
 module _ (nodes attributes text : List ℕ) where
   abbrev Climb : List Component → ℕ → Climbed
@@ -296,43 +322,58 @@ module _ (nodes attributes text : List ℕ) where
         unfolding reached_number
         number-none z = pick_true _ _ _ _ (is-yes _ _ (sym ef ∙ z)) refl
 
-        module _ (z : ¬ (first ≡ 0)) (p : ℕ) (ep : p ≡ (node_at nodes first).parent) where
-          -- from the parent, too, parents lead to the document
-          pub above-rooted : Rooted nodes p
-          above-rooted = parent-rooted nodes first first-is-rooted z p ep
+        module _ (z : ¬ (first ≡ 0)) (a : Bool) (ea : a ≡ not (is (first_reaching nodes attributes text cs (ancestors_of nodes first)) 0)) where
+          -- the second row is that of the definition
+          asked-above : a ≡ not (is Second 0)
+          asked-above =
+              ea ∙ ap (λ (rows : List ℕ). not (is (first_reaching nodes attributes text cs rows) 0)) (below-ancestors nodes first (parent-before nodes first first-is-rooted z _ refl))
+              ∙ ap (λ (i : ℕ). not (is (First (node_at nodes i).parent) 0)) ef
 
-          module _ (second : ℕ) (es : second ≡ First p) where
-            -- the second row is that of the definition
-            second_is : second ≡ Second
-            second_is = es ∙ ap First ep ∙ ap (λ (i : ℕ). First (node_at nodes i).parent) ef
+          -- and the first is none that the definition passes over
+          no-first : ¬ (First row ≡ 0)
+          no-first e = z (ef ∙ e)
 
-            -- and the first is none that the definition passes over
-            no-first : ¬ (First row ≡ 0)
-            no-first e = z (ef ∙ e)
+          -- the return where more than one row reaches a descendant combinator: the number is the selector's topmost row
+          pub number_more : a ≡ true → (t : ℕ) → t ≡ Top → t ≡ reached_number nodes attributes text row cs
+          unfolding reached_number
+          number_more y t et = pick-false _ _ _ _ (is-no _ _ no-first) (pick-false _ _ _ _ (not-true _ (sym asked-above ∙ y)) et)
 
-            -- the return where more than one row reaches a descendant combinator: the number is the selector's topmost row
-            pub number_more : ¬ (second ≡ 0) → (t : ℕ) → t ≡ Top → t ≡ reached_number nodes attributes text row cs
+          -- only the first row reaches a descendant combinator: the matcher is asked there
+          module _ (none : a ≡ false) (b : Bool) (eb : b ≡ matches cs (path_of nodes attributes text first)) where
+            -- the number by what the matcher answers
+            number-one : (n : ℕ) → n ≡ Sole → n ≡ reached_number nodes attributes text row cs
             unfolding reached_number
-            number_more y t et = pick-false _ _ _ _ (is-no _ _ no-first) (pick-false _ _ _ _ (is-no _ _ (λ e. y (second_is ∙ e))) et)
+            number-one n e = pick-false _ _ _ _ (is-no _ _ no-first) (pick_true _ _ _ _ (not-false _ (sym asked-above ∙ none)) e)
 
-            -- only the first row reaches a descendant combinator: the matcher is asked there
-            module _ (none : second ≡ 0) (b : Bool) (eb : b ≡ matches cs (path_of nodes attributes text first)) where
-              -- the number by what the matcher answers
-              number-one : (n : ℕ) → n ≡ Sole → n ≡ reached_number nodes attributes text row cs
-              unfolding reached_number
-              number-one n e = pick-false _ _ _ _ (is-no _ _ no-first) (pick_true _ _ _ _ (is-yes _ _ (sym second_is ∙ none)) e)
+            -- which it answers of the first row
+            first-matched : b ≡ matches cs (path_of nodes attributes text (First row))
+            first-matched = eb ∙ ap (λ (i : ℕ). matches cs (path_of nodes attributes text i)) ef
 
-              -- which it answers of the first row
-              first-matched : b ≡ matches cs (path_of nodes attributes text (First row))
-              first-matched = eb ∙ ap (λ (i : ℕ). matches cs (path_of nodes attributes text i)) ef
+            -- and the selector matches it
+            pub number-yes : b ≡ true → (t : ℕ) → t ≡ parent_reached nodes (Climb cs first) → t ≡ reached_number nodes attributes text row cs
+            number-yes h t et = number-one t (pick_true _ _ _ _ (sym first-matched ∙ h) (et ∙ ap (λ (i : ℕ). parent_reached nodes (Climb cs i)) ef))
 
-              -- and the selector matches it
-              pub number-yes : b ≡ true → (t : ℕ) → t ≡ parent_reached nodes (Climb cs first) → t ≡ reached_number nodes attributes text row cs
-              number-yes h t et = number-one t (pick_true _ _ _ _ (sym first-matched ∙ h) (et ∙ ap (λ (i : ℕ). parent_reached nodes (Climb cs i)) ef))
+            -- the selector does not match the first row: its number is the row itself
+            pub number-no : b ≡ false → row ≡ reached_number nodes attributes text row cs
+            number-no h = number-one row (pick-false _ _ _ _ (sym first-matched ∙ h) refl)
 
-              -- the selector does not match the first row: its number is the row itself
-              pub number-no : b ≡ false → row ≡ reached_number nodes attributes text row cs
-              number-no h = number-one row (pick-false _ _ _ _ (sym first-matched ∙ h) refl)
+    -- ---- the returns of `reached_above`
+    module _ (row : ℕ) (r : Rooted nodes row) where
+      -- above the document there is no row
+      pub none-above : row ≡ 0 → false ≡ not (is (first_reaching nodes attributes text cs (ancestors_of nodes row)) 0)
+      unfolding first_reaching ancestors_of ancestors_from is
+      none-above z = rw z refl
+
+      -- above an element there is one if there is a first from its parent on
+      pub asked-from : (p : ℕ) → p ≡ (node_at nodes row).parent → ¬ (row ≡ 0) → (b : Bool) → (b ≡ true → ¬ (First p ≡ 0)) → (b ≡ false → First p ≡ 0)
+          → b ≡ not (is (first_reaching nodes attributes text cs (ancestors_of nodes row)) 0)
+      asked-from p ep z b some none =
+          go b some none ∙ ap (λ (i : ℕ). not (is (First i) 0)) ep
+          ∙ ap (λ (rows : List ℕ). not (is (first_reaching nodes attributes text cs rows) 0)) (sym (below-ancestors nodes row (parent-before nodes row r z _ refl)))
+        where
+          go : (b : Bool) → (b ≡ true → ¬ (First p ≡ 0)) → (b ≡ false → First p ≡ 0) → b ≡ not (is (First p) 0)
+          go true some none = ap not (sym (is-no (First p) 0 (some refl)))
+          go false some none = ap not (sym (is-yes (First p) 0 (none refl)))
 
     -- ---- the returns of `parent_reached`
     module _ (row : ℕ) (t : Climbed) (et : t ≡ Climb cs row) where
@@ -374,19 +415,27 @@ module _ (nodes attributes text : List ℕ) where
 
     module _ (row at : ℕ) (g : Reaching row at) where
       -- with no element left, no row reaches a descendant combinator
-      pub reach-end : at ≡ 0 → 0 ≡ First row
-      reach-end e = sym (g.same_first ∙ ap First e ∙ first-document nodes attributes text cs)
+      pub reach-end : at ≡ 0 → First row ≡ 0
+      reach-end e = g.same_first ∙ ap First e ∙ first-document nodes attributes text cs
 
-      module _ (z : ¬ (at ≡ 0)) (t : Climbed) (et : t ≡ Climb cs at) where
+      module _ (t : Climbed) (et : t ≡ Climb cs at) where
         -- a descendant combinator is reached
         pub reach-found : {n q : ℕ} → t ≡ Descendant n q → at ≡ First row
-        unfolding reaches
-        reach-found e = sym (g.same_first ∙ first-here nodes attributes text cs at g.rooted z (ap reaches (sym et ∙ e)))
+        unfolding reaches first_reaching
+        reach-found e = pick_true _ _ _ (reaches (Climb cs at)) (ap reaches (sym et ∙ e)) refl ∙ sym g.same_first
 
-        -- no descendant combinator is reached here: the first is sought from the parent on
-        pub reach-on : {s : SelectorMatch} → t ≡ Ended s → (p : ℕ) → Rooted nodes p → First (node_at nodes at).parent ≡ First p → Reaching row p
-        unfolding reaches
-        reach-on e p rp ep = record { rooted = rp; same_first = g.same_first ∙ first_above nodes attributes text cs at g.rooted z (ap reaches (sym et ∙ e)) ∙ ep }
+        -- none is reached here
+        left-above : ((n q : ℕ) → ¬ (t ≡ Descendant n q)) → First row ≡ first_reaching nodes attributes text cs (ancestors_of nodes at)
+        unfolding first_reaching
+        left-above d = g.same_first ∙ sym (pick-false _ _ _ (reaches (Climb cs at)) (ap reaches (sym et) ∙ reaches-none t d) refl)
+
+        -- the first is sought from an ancestor on, before which there is none
+        pub reach-on : ((n q : ℕ) → ¬ (t ≡ Descendant n q)) → (p : ℕ) → Rooted nodes p → first_reaching nodes attributes text cs (ancestors_of nodes at) ≡ First p → Reaching row p
+        reach-on d p r ep = record { rooted = r; same_first = left-above d ∙ ep }
+
+        -- or there is none on all ancestors
+        pub reach-none : ((n q : ℕ) → ¬ (t ≡ Descendant n q)) → first_reaching nodes attributes text cs (ancestors_of nodes at) ≡ 0 → First row ≡ 0
+        reach-none d e = left-above d ∙ e
 
 -- ---- turns of `has_descendant`: what is left has one where all have
 module _ (components : List ℕ) where

@@ -12,8 +12,8 @@ use Rattle.syntax.specs.RuleLayout.{star_kind, class_kind, element_kind, hash_ki
 use Rattle.syntax.specs.Selector.{Component, star, class, element, hash, child, descendant, nth, attribute, attribute_equal}
 use Rattle.syntax.specs.Signed.{signed_of}
 use Rattle.page.specs.Ancestors.{place_of}
-use Rattle.page.specs.Path.{Element, Path}
-use Rattle.page.specs.PathOf.{attributes_from, element_at}
+use Rattle.page.specs.Path.{Attribute, Element, Path}
+use Rattle.page.specs.PathOf.{element_at}
 use Rattle.page.specs.Rows.{node_at, name_of}
 use Rattle.matching.specs.Matches.{any_attribute, is_class, is_id, is_named, first_is, has_class, has_id, has_attribute, attribute_is, name_is, here, on_parent, on_ancestors, step, matches}
 use Rattle.matching.specs.Nth.{nth_matches}
@@ -33,41 +33,41 @@ pub called-as : (nodes text name : List ℕ) (row start n : ℕ) → start ≡ (
 unfolding name_of
 called-as nodes text name row start n es el r e = rw (← es, ← el) e
 
--- ---- the returns of `attributes_asked`, with the first text of a component and the attributes of an element
+-- ---- the returns of `attributes_asked`, with the first text of a component and the attributes l of an element
 module _ (store components nodes attributes text : List ℕ) (i row k : ℕ) (name : List ℕ) (en : name ≡ first_text store components i)
-    (at : ℕ) (ea : at ≡ (node_at nodes row).first_attribute) (count : ℕ) (ec : count ≡ (node_at nodes row).attribute_count) where
+    (l : List Attribute) (el : l ≡ (element_at nodes attributes text row).attributes) where
   -- what is asked of the attributes
   abbrev AsksFor : Bool → Type 0
   AsksFor r = r ≡ attributes_pass k (first_text store components i) (second_text store components i) (element_at nodes attributes text row).attributes
 
   -- a class component asks for a class of that name
-  pub class-asked : k ≡ class_kind → (r : Bool) → r ≡ any_attribute (is_class name) (attributes_from attributes text count at) → AsksFor r
-  unfolding attributes_pass element_at
-  class-asked e r p = pick_true _ _ _ (is k class_kind) (is-yes _ _ e) (rw (← en, ← ea, ← ec) p)
+  pub class-asked : k ≡ class_kind → (r : Bool) → r ≡ any_attribute (is_class name) l → AsksFor r
+  unfolding attributes_pass
+  class-asked e r p = pick_true _ _ _ (is k class_kind) (is-yes _ _ e) (rw (← en, ← el) p)
 
   module _ (no-class : ¬ (k ≡ class_kind)) where
     -- a hash component asks for an id of that name
-    pub hash-asked : k ≡ hash_kind → (r : Bool) → r ≡ any_attribute (is_id name) (attributes_from attributes text count at) → AsksFor r
-    unfolding attributes_pass element_at
+    pub hash-asked : k ≡ hash_kind → (r : Bool) → r ≡ any_attribute (is_id name) l → AsksFor r
+    unfolding attributes_pass
     hash-asked e r p =
-        pick-false _ _ _ (is k class_kind) (is-no _ _ no-class) (pick_true _ _ _ (is k hash_kind) (is-yes _ _ e) (rw (← en, ← ea, ← ec) p))
+        pick-false _ _ _ (is k class_kind) (is-no _ _ no-class) (pick_true _ _ _ (is k hash_kind) (is-yes _ _ e) (rw (← en, ← el) p))
 
     module _ (no-hash : ¬ (k ≡ hash_kind)) where
       -- an attribute component asks for an attribute of that name
-      pub attribute-asked : k ≡ attribute_kind → (r : Bool) → r ≡ any_attribute (is_named name) (attributes_from attributes text count at) → AsksFor r
-      unfolding attributes_pass element_at
+      pub attribute-asked : k ≡ attribute_kind → (r : Bool) → r ≡ any_attribute (is_named name) l → AsksFor r
+      unfolding attributes_pass
       attribute-asked e r p =
           pick-false _ _ _ (is k class_kind) (is-no _ _ no-class)
-          (pick-false _ _ _ (is k hash_kind) (is-no _ _ no-hash) (pick_true _ _ _ (is k attribute_kind) (is-yes _ _ e) (rw (← en, ← ea, ← ec) p)))
+          (pick-false _ _ _ (is k hash_kind) (is-no _ _ no-hash) (pick_true _ _ _ (is k attribute_kind) (is-yes _ _ e) (rw (← en, ← el) p)))
 
       -- an attribute of a value
       pub value-asked : ¬ (k ≡ attribute_kind) → (value : List ℕ) → value ≡ second_text store components i → (r : Bool)
-          → r ≡ first_is name value (attributes_from attributes text count at) → AsksFor r
-      unfolding attributes_pass element_at
+          → r ≡ first_is name value l → AsksFor r
+      unfolding attributes_pass
       value-asked no-attribute value ev r p =
           pick-false _ _ _ (is k class_kind) (is-no _ _ no-class)
           (pick-false _ _ _ (is k hash_kind) (is-no _ _ no-hash)
-          (pick-false _ _ _ (is k attribute_kind) (is-no _ _ no-attribute) (rw (← en, ← ev, ← ea, ← ec) p)))
+          (pick-false _ _ _ (is k attribute_kind) (is-no _ _ no-attribute) (rw (← en, ← ev, ← el) p)))
 
 -- ---- the returns of `element_passes`
 module _ (store components nodes attributes text : List ℕ) (i row k : ℕ) (ek : k ≡ component_number components i component_kind_at) where

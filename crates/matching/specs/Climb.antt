@@ -3,7 +3,7 @@ use Rattle.std.specs.Prelude.{ℕ, ◌-◌, ◌≤◌, ◌<◌, Bool, true, fals
 use Rattle.combinators.specs.Choice.{pick, is}
 use Rattle.syntax.specs.RuleLayout.{element_kind, component_kind_at}
 use Rattle.syntax.specs.Selector.{Component, star, child, descendant}
-use Rattle.page.specs.Ancestors.{line_of}
+use Rattle.page.specs.Ancestors.{ancestors_of, line_of}
 use Rattle.page.specs.PathOf.{path_of}
 use Rattle.page.specs.Rows.{node_at}
 use Rattle.matching.specs.Matches.{step, matches}
@@ -12,11 +12,6 @@ use Rattle.matching.specs.Recursion.{or_else, result_on_ancestors, by_combinator
 use Rattle.matching.specs.declared.matcher.SelectorMatch.TheVariants.{Matches, FailsLocally, FailsCompletely}
 use Rattle.matching.specs.declared.matcher.Climbed.{Climbed}
 use Rattle.matching.specs.declared.matcher.Climbed.TheVariants.{Ended, Descendant}
-
--- a row below the document
-pub record Inner (nodes : List ℕ) (row : ℕ) : Type 0 where
-  pub rooted : Rooted nodes row
-  pub no-document : ¬ (row ≡ 0)
 
 -- the last of n components asks for an element's name
 pub record NameAt (components : List ℕ) (n : ℕ) : Type 0 where
@@ -65,5 +60,10 @@ module _ (store components nodes attributes text : List ℕ) where
         result_on_ancestors (match_recursively (components_at store components n)) (path_of nodes attributes text row)
         ≡ or_else (match_recursively (components_at store components n) (path_of nodes attributes text above)) (result_on_ancestors (match_recursively (components_at store components n)) (path_of nodes attributes text above))
     pub passed :
-        first_reaching nodes attributes text (components_at store components n) (line_of nodes (node_at nodes row).parent)
+        first_reaching nodes attributes text (components_at store components n) (ancestors_of nodes row)
         ≡ first_reaching nodes attributes text (components_at store components n) (line_of nodes above)
+
+  -- on no ancestor of a row do n components more than fail locally: they fail on all of them, and from none do they reach a descendant combinator
+  pub record NoneLeft (n row : ℕ) : Type 0 where
+    pub fails : result_on_ancestors (match_recursively (components_at store components n)) (path_of nodes attributes text row) ≡ FailsCompletely
+    pub unreached : first_reaching nodes attributes text (components_at store components n) (ancestors_of nodes row) ≡ 0

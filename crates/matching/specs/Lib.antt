@@ -8,3 +8,5 @@ pub mod Recursion
 pub mod Topmost
 pub mod Climb
 pub mod Documents
+pub mod Lent
+pub mod Next

@@ -1,6 +1,8 @@
 -- What matching reads off rows: the components of a selector, and the attributes of an element. The views are total: a number that is not there reads
 -- as 0.
 use Rattle.std.specs.Prelude.{ℕ, suc, ◌+◌, ◌*◌, ◌<◌, ◌^◌, Bool, List, [], ◌∷◌, reverse, ◌≡◌, refl, get_or}
+use Rattle.std.specs.Coded.{Coded-set, coded_ℕ, le_prop}
+use mathlib.Core.HLevel.{¬_prop}
 use Rattle.combinators.specs.Choice.{pick, is}
 use Rattle.combinators.specs.Part.{part}
 use Rattle.syntax.specs.RuleLayout.{component_width, component_kind_at, component_text_at, component_first_at, component_second_at, component_from, read_component, class_kind, element_kind, hash_kind, child_kind, descendant_kind, nth_kind, attribute_kind}
@@ -79,3 +81,11 @@ pub data Rooted (nodes : List ℕ) : ℕ → Type 0 where
   document : ¬ ((node_at nodes 0).kind ≡ page.element_kind) → Rooted nodes 0
   below : {row : ℕ} → (node_at nodes row).kind ≡ page.element_kind → (node_at nodes row).parent < row
       → element_children nodes (node_at nodes row).parent (suc (node_at nodes row).parent) ≡ 0 → Rooted nodes (node_at nodes row).parent → Rooted nodes row
+
+-- a row is rooted in one way at most
+pub Rooted-prop : (nodes : List ℕ) (row : ℕ) → IsProp (Rooted nodes row)
+Rooted-prop nodes row (document d) (document e) = λ i. document (¬_prop d e i)
+Rooted-prop nodes row (document d) (below k l n r) = absurd (d k)
+Rooted-prop nodes row (below k l n r) (document d) = absurd (d k)
+Rooted-prop nodes row (below k l n r) (below k' l' n' r') =
+    λ i. below (Coded-set coded_ℕ _ _ k k' i) (le_prop l l' i) (Coded-set coded_ℕ _ _ n n' i) (Rooted-prop nodes (node_at nodes row).parent r r' i)

@@ -19,45 +19,55 @@ fn component_number(components: &[u32], i: usize, column: usize) -> u32
     number_in::<COMPONENT_WIDTH>(components, i, column)
 }
 
-// What a component is.
-pub fn kind_at(components: &[u32], i: usize) -> u32
-    ensures { result ≡ component_number components.now i component_kind_at }
-{
-    component_number(components, i, COMPONENT_KIND)
+// A selector: the first `left` components of some rows, and the store of their texts.
+#[derive(Clone, Copy)]
+pub struct Selector<'a> {
+    pub components: &'a [u32],
+    pub store: &'a [u8],
+    pub left: usize,
 }
 
-// The number a of an nth-child.
-pub fn first_number(components: &[u32], i: usize) -> u32
-    ensures { result ≡ component_number components.now i component_first_at }
-{
-    component_number(components, i, COMPONENT_FIRST)
+impl<'a> Selector<'a> {
+    // What a component is.
+    pub fn kind_at(self, i: usize) -> u32
+        ensures { result ≡ component_number self.entry.components.now i component_kind_at }
+    {
+        component_number(self.components, i, COMPONENT_KIND)
+    }
+
+    // The number a of an nth-child.
+    pub fn first_number(self, i: usize) -> u32
+        ensures { result ≡ component_number self.entry.components.now i component_first_at }
+    {
+        component_number(self.components, i, COMPONENT_FIRST)
+    }
+
+    // The number b of an nth-child.
+    pub fn second_number(self, i: usize) -> u32
+        ensures { result ≡ component_number self.entry.components.now i component_second_at }
+    {
+        component_number(self.components, i, COMPONENT_SECOND)
+    }
+
+    // The name that a component asks for.
+    pub fn first_text(self, i: usize) -> &'a [u8]
+        ensures { result.now ≡ first_text self.entry.store.now self.entry.components.now i }
+    {
+        let start = component_number(self.components, i, COMPONENT_TEXT) as usize;
+        part_of(self.store, start, self.first_number(i) as usize)
+    }
+
+    // The value that it asks for.
+    pub fn second_text(self, i: usize) -> &'a [u8]
+        ensures { result.now ≡ second_text self.entry.store.now self.entry.components.now i }
+    {
+        let start = component_number(self.components, i, COMPONENT_TEXT) as usize;
+        let behind = self.first_number(i) as usize;
+        part_of(self.store, start + behind, self.second_number(i) as usize)
+    }
 }
 
-// The number b of an nth-child.
-pub fn second_number(components: &[u32], i: usize) -> u32
-    ensures { result ≡ component_number components.now i component_second_at }
-{
-    component_number(components, i, COMPONENT_SECOND)
-}
-
-// The name that a component asks for.
-pub fn first_text<'a>(components: &[u32], store: &'a [u8], i: usize) -> &'a [u8]
-    ensures { result.now ≡ first_text store.now components.now i }
-{
-    let start = component_number(components, i, COMPONENT_TEXT) as usize;
-    part_of(store, start, first_number(components, i) as usize)
-}
-
-// The value that it asks for.
-pub fn second_text<'a>(components: &[u32], store: &'a [u8], i: usize) -> &'a [u8]
-    ensures { result.now ≡ second_text store.now components.now i }
-{
-    let start = component_number(components, i, COMPONENT_TEXT) as usize;
-    let behind = first_number(components, i) as usize;
-    part_of(store, start + behind, second_number(components, i) as usize)
-}
-
-// What a component of a kind adds to the specificity of its selector.
+// What a component of a kind adds to the specificity of its selector. A kind is a number of a lent row, of any content: the last arm is that of any other.
 fn added_by(kind: u32) -> Specificity
     ensures { (store : List ℕ) (f a b : ℕ) → result ≡ added (component_from store kind f a b) }
 {
@@ -69,13 +79,14 @@ fn added_by(kind: u32) -> Specificity
     }
 }
 
-// How specific a selector of `n` components is (`Selector::specificity`). Texts do not matter for it.
+// How specific a selector of `n` components is (`Selector::specificity`). Texts do not matter for it. `n` has 32 bits, so that
+// the sums fit, where a `Selector` has a `usize`; and it is no length of a slice, as what is not lent reads as 0.
 pub fn specificity(components: &[u32], n: u32) -> Specificity
     ensures { (store : List ℕ) → result ≡ specificity (components_at store components.now n) }
 {
     let mut result = Specificity::NONE;
     for i in 0..n {
-        let kind = kind_at(components, i as usize);
+        let kind = component_number(components, i as usize, COMPONENT_KIND);
         result = added_by(kind).add(result);
     }
     result

@@ -3,7 +3,7 @@ ghost use Rattle.std.specs.Prelude.{◌≡◌, ◌≤◌, ◌<◌, ◌^◌, pos,
 ghost use Rattle.syntax.specs.Signed.{signed_of};
 ghost use Rattle.matching.specs.Nth.{Small, nth_matches};
 
-// A number that is not negative, with room for a sign.
+// A number with room for a sign: the library's `try_from` would answer an error too, which cannot come.
 fn widened(n: usize) -> i64
     requires { n < 2 ^ 63 }
     ensures { result ≡ pos n }
@@ -29,6 +29,6 @@ pub fn signed_of(v: u32) -> i64
     ensures value { result ≡ signed_of v }
     ensures result_bound { nat_abs result ≤ 2 ^ 31 }
 {
-    let half = widened((v / 2) as usize);
+    let half = i64::from(v / 2);
     if v % 2 == 0 { half } else { -1 - half }
 }

@@ -53,7 +53,7 @@ pub fn word_length(s: &[u8]) -> usize
     s.len()
 }
 
-// Whether `word` is one of the words that White_Space parts in `s` (`str::split_whitespace`).
+// Whether `word` is one of the words that White_Space parts in `s` (`str::split_whitespace`). A `while`: it steps by what was read, white space and a word.
 pub fn has_word(s: &[u8], word: &[u8]) -> bool
     ensures { result ≡ has_word word.now s.now }
 {

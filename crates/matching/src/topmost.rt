@@ -1,205 +1,149 @@
 // Matching on all rows of a path in a time that does not grow with the square of its length: the last descendant combinator of a selector is decided by one number, found once for the path.
-ghost use Rattle.std.specs.Prelude.{List, ◌≡◌, ℕ, ◌≤◌};
-ghost use Rattle.page.specs.Ancestors.{line_of};
-ghost use Rattle.page.specs.PathOf.{path_of};
+ghost use Rattle.std.specs.Prelude.{◌≡◌, ◌≤◌, MatchOption, not};
+ghost use Rattle.combinators.specs.Choice.{is};
+ghost use Rattle.page.specs.Ancestors.{ancestors_of, line_of};
+ghost use Rattle.page.specs.Lent.{path_in};
+ghost use Rattle.matching.specs.Lent.{components_in};
 ghost use Rattle.matching.specs.Matches.{matches};
-ghost use Rattle.matching.specs.Rows.{components_at, Rooted};
 ghost use Rattle.matching.specs.Climb.{climb_of, first_reaching};
 ghost use Rattle.matching.specs.Topmost.{parent_reached, has_descendant, topmost, selector_top, reached_number, selector_number, RightTop, RightNumber};
 
-use crate::components::kind_at;
+use crate::components::Selector;
+use crate::elements::Element;
 use crate::matcher::{Climbed, SelectorMatch, do_matches, match_locally, next_ancestor};
 use page::rows::parent_of;
 use syntax::rows::DESCENDANT;
 
-// Whether the first `left` components match a row, where `top` decides the last descendant combinator among them: what stands before it is not matched.
-fn matches_below(
-    components: &[u32],
-    store: &[u8],
-    left: usize,
-    top: usize,
-    nodes: &[u32],
-    attributes: &[u32],
-    text: &[u8],
-    row: usize,
-) -> bool
-    requires rooted { Rooted nodes.now row }
-    requires right_top { RightTop nodes.now attributes.now text.now (components_at store.now components.now left) row top }
-    ensures { result ≡ matches (components_at store.now components.now left) (path_of nodes.now attributes.now text.now row) }
+// Whether a selector matches a row, where `top` decides its last descendant combinator: what stands before that is not matched.
+fn matches_below(selector: Selector<'_>, top: usize, element: Element<'_>) -> bool
+    requires { RightTop element.page.nodes.now element.page.attributes.now element.page.text.now (components_in selector) element.row top }
+    ensures { result ≡ matches (components_in selector.entry) (path_in element.entry.page element.entry.row) }
 {
-    match match_locally(components, store, left, nodes, attributes, text, row) {
+    match match_locally(selector, element) {
         Climbed::Ended(result) => matches!(result, SelectorMatch::Matches),
         Climbed::Descendant(_, at) => top < at,
     }
 }
 
-// The topmost ancestor of a row that the first `n` components match, or the row itself where they match none; `top` decides the last descendant combinator among them.
-fn topmost_ancestor(
-    components: &[u32],
-    store: &[u8],
-    n: usize,
-    top: usize,
-    nodes: &[u32],
-    attributes: &[u32],
-    text: &[u8],
-    row: usize,
-) -> usize
-    requires rooted { Rooted nodes.now row }
-    requires right_top { RightTop nodes.now attributes.now text.now (components_at store.now components.now n) row top }
-    ensures { result ≡ topmost nodes.now attributes.now text.now (components_at store.now components.now n) row }
+// The topmost ancestor of a row that a selector matches, or the row itself where it matches none; `top` decides its last descendant combinator. What is
+// found is a number that is compared by order alone, and the row's own says no: with an `Option` the caller would put that number in its place.
+fn topmost_ancestor(selector: Selector<'_>, top: usize, element: Element<'_>) -> usize
+    requires { RightTop element.page.nodes.now element.page.attributes.now element.page.text.now (components_in selector) element.row top }
+    ensures { result ≡ topmost element.entry.page.nodes.now element.entry.page.attributes.now element.entry.page.text.now (components_in selector.entry) element.entry.row }
 {
-    let mut found = row;
-    let mut at = row;
-    while at != 0 {
-        at = parent_of(nodes, at);
-        if matches_below(components, store, n, top, nodes, attributes, text, at) {
-            found = at;
+    let page = element.page;
+    let mut found = element.row;
+    // up by parents, which is no step of a range; here and in `first_reaching`
+    let mut row = element.row;
+    while row != 0 {
+        row = parent_of(page.nodes, row);
+        if matches_below(selector, top, Element { page, row }) {
+            found = row;
         }
     }
     found
 }
 
-// The topmost ancestor of a row that matches what stands before the last descendant combinator of the first `left` components. Each component is asked of each row once: what stands before
+// The topmost ancestor of a row that matches what stands before the last descendant combinator of a selector. Each component is asked of each row once: what stands before
 // a descendant combinator is decided by the row that was found for it. Where none was, none is for those behind it.
-fn selector_top(
-    components: &[u32],
-    store: &[u8],
-    left: usize,
-    nodes: &[u32],
-    attributes: &[u32],
-    text: &[u8],
-    row: usize,
-) -> usize
-    requires { Rooted nodes.now row }
-    ensures value { result ≡ selector_top nodes.now attributes.now text.now row (components_at store.now components.now left) }
-    ensures upper_bound { result ≤ row }
+fn selector_top(selector: Selector<'_>, element: Element<'_>) -> usize
+    ensures value { result ≡ selector_top element.entry.page.nodes.now element.entry.page.attributes.now element.entry.page.text.now element.entry.row (components_in selector.entry) }
+    ensures upper_bound { result ≤ element.entry.row }
 {
-    let mut top = row;
-    for before in 0..left {
-        if kind_at(components, before) == DESCENDANT {
-            top = topmost_ancestor(components, store, before, top, nodes, attributes, text, row);
-            if top == row {
-                return row;
+    let mut top = element.row;
+    for left in 0..selector.left {
+        if selector.kind_at(left) == DESCENDANT {
+            top = topmost_ancestor(Selector { left, ..selector }, top, element);
+            if top == element.row {
+                return element.row;
             }
         }
     }
     top
 }
 
-// Whether a descendant combinator is among the first `left` components.
-fn has_descendant(components: &[u32], left: usize) -> bool
-    ensures { (store : List ℕ) → result ≡ has_descendant (components_at store components.now left) }
+// Whether a descendant combinator is among the components.
+fn has_descendant(selector: Selector<'_>) -> bool
+    ensures { result ≡ has_descendant (components_in selector.entry) }
 {
-    (0..left).any(|i| kind_at(components, i) == DESCENDANT)
+    (0..selector.left).any(|i| selector.kind_at(i) == DESCENDANT)
 }
 
-// The nearest of a row and its ancestors from which tests and child combinators lead to a descendant combinator of the first `left` components, or 0. The document is not asked: a
-// descendant combinator fails on it.
-fn first_reaching(
-    components: &[u32],
-    store: &[u8],
-    left: usize,
-    nodes: &[u32],
-    attributes: &[u32],
-    text: &[u8],
-    row: usize,
-) -> usize
-    requires { Rooted nodes.now row }
-    ensures { result ≡ first_reaching nodes.now attributes.now text.now (components_at store.now components.now left) (line_of nodes.now row) }
+// The nearest of a row and its ancestors from which tests and child combinators lead to a descendant combinator. The document is not asked: a descendant
+// combinator fails on it.
+fn first_reaching(selector: Selector<'_>, element: Element<'_>) -> Option<usize>
+    ensures { MatchOption result (first_reaching element.entry.page.nodes.now element.entry.page.attributes.now element.entry.page.text.now (components_in selector.entry) (line_of element.entry.page.nodes.now element.entry.row) ≡ 0) (λ first. (first ≡ first_reaching element.entry.page.nodes.now element.entry.page.attributes.now element.entry.page.text.now (components_in selector.entry) (line_of element.entry.page.nodes.now element.entry.row)) × ¬ (first ≡ 0)) }
 {
-    let mut at = row;
-    while at != 0 {
-        match match_locally(components, store, left, nodes, attributes, text, at) {
-            Climbed::Descendant(_, _) => return at,
-            Climbed::Ended(_) => at = next_ancestor(components, store, left, nodes, text, at),
+    let page = element.page;
+    let mut row = element.row;
+    while row != 0 {
+        let at = Element { page, row };
+        if let Climbed::Descendant(_, _) = match_locally(selector, at) {
+            return Some(row);
         }
+        row = next_ancestor(selector, at)?;
     }
-    0
+    None
 }
 
-// The parent of the row that a descendant combinator is reached on from a row, or 0.
-fn parent_reached(
-    components: &[u32],
-    store: &[u8],
-    left: usize,
-    nodes: &[u32],
-    attributes: &[u32],
-    text: &[u8],
-    row: usize,
-) -> usize
-    requires { Rooted nodes.now row }
-    ensures { result ≡ parent_reached nodes.now (climb_of nodes.now attributes.now text.now (components_at store.now components.now left) row) }
+// Whether a descendant combinator is reached from an ancestor of a row.
+fn reached_above(selector: Selector<'_>, element: Element<'_>) -> bool
+    ensures { result ≡ not (is (first_reaching element.entry.page.nodes.now element.entry.page.attributes.now element.entry.page.text.now (components_in selector.entry) (ancestors_of element.entry.page.nodes.now element.entry.row)) 0) }
 {
-    match match_locally(components, store, left, nodes, attributes, text, row) {
-        Climbed::Descendant(_, at) => parent_of(nodes, at),
+    let page = element.page;
+    let Some(row) = element.parent() else {
+        return false;
+    };
+    first_reaching(selector, Element { page, row }).is_some()
+}
+
+// The parent of the row that a descendant combinator is reached on from a row, or 0: a number that decides, and of the document, which may be reached on a page
+// that is not accepted, no element.
+fn parent_reached(selector: Selector<'_>, element: Element<'_>) -> usize
+    ensures { result ≡ parent_reached element.entry.page.nodes.now (climb_of element.entry.page.nodes.now element.entry.page.attributes.now element.entry.page.text.now (components_in selector.entry) element.entry.row) }
+{
+    match match_locally(selector, element) {
+        Climbed::Descendant(_, at) => parent_of(element.page.nodes, at),
         Climbed::Ended(_) => 0,
     }
 }
 
-// The number of the first `left` components on the path of a row, where a descendant combinator is among them. Most last compounds are on one row of a path or on none: the matcher then
+// The number of a selector on the path of a row, where a descendant combinator is among its components. Most last compounds are on one row of a path or on none: the matcher then
 // decides for that row, and the topmost row is not looked for, which asks all components of all rows.
-fn reached_number(
-    components: &[u32],
-    store: &[u8],
-    left: usize,
-    nodes: &[u32],
-    attributes: &[u32],
-    text: &[u8],
-    row: usize,
-) -> usize
-    requires { Rooted nodes.now row }
-    ensures { result ≡ reached_number nodes.now attributes.now text.now row (components_at store.now components.now left) }
+fn reached_number(selector: Selector<'_>, element: Element<'_>) -> usize
+    ensures { result ≡ reached_number element.entry.page.nodes.now element.entry.page.attributes.now element.entry.page.text.now element.entry.row (components_in selector.entry) }
 {
-    let first = first_reaching(components, store, left, nodes, attributes, text, row);
-    if first == 0 {
-        return row;
+    let Some(row) = first_reaching(selector, element) else {
+        return element.row;
+    };
+    let page = element.page;
+    let first = Element { page, row };
+    if reached_above(selector, first) {
+        return selector_top(selector, element);
     }
-    let above = parent_of(nodes, first);
-    let second = first_reaching(components, store, left, nodes, attributes, text, above);
-    if second != 0 {
-        return selector_top(components, store, left, nodes, attributes, text, row);
+    if do_matches(selector, first) {
+        return parent_reached(selector, first);
     }
-    if do_matches(components, store, left, nodes, attributes, text, first) {
-        return parent_reached(components, store, left, nodes, attributes, text, first);
-    }
-    row
+    element.row
 }
 
-// The number that decides the last descendant combinator of the first `left` components on a row and its ancestors. Without such a combinator no row is asked.
-pub fn selector_number(
-    components: &[u32],
-    store: &[u8],
-    left: usize,
-    nodes: &[u32],
-    attributes: &[u32],
-    text: &[u8],
-    row: usize,
-) -> usize
-    requires { Rooted nodes.now row }
-    ensures value { result ≡ selector_number nodes.now attributes.now text.now row (components_at store.now components.now left) }
-    ensures upper_bound { result ≤ row }
+// The number that decides the last descendant combinator of a selector on a row and its ancestors. Without such a combinator no row is asked.
+pub fn selector_number(selector: Selector<'_>, element: Element<'_>) -> usize
+    ensures value { result ≡ selector_number element.entry.page.nodes.now element.entry.page.attributes.now element.entry.page.text.now element.entry.row (components_in selector.entry) }
+    ensures upper_bound { result ≤ element.entry.row }
 {
-    if has_descendant(components, left) {
-        reached_number(components, store, left, nodes, attributes, text, row)
+    if has_descendant(selector) {
+        reached_number(selector, element)
     } else {
         0
     }
 }
 
-// Whether the first `left` components, whose number is `top`, match a row. Before its number a selector is not even asked for its tests.
-pub fn matches_by_number(
-    components: &[u32],
-    store: &[u8],
-    left: usize,
-    top: usize,
-    nodes: &[u32],
-    attributes: &[u32],
-    text: &[u8],
-    row: usize,
-) -> bool
-    requires rooted { Rooted nodes.now row }
-    requires right_number { RightNumber nodes.now attributes.now text.now (components_at store.now components.now left) row top }
-    ensures { result ≡ matches (components_at store.now components.now left) (path_of nodes.now attributes.now text.now row) }
+// Whether a selector, whose number is `top`, matches a row. Before its number a selector is not even asked for its tests. (Selector, `top` and element are no
+// struct: `top` is right by `RightNumber` here, and by `RightTop` in the functions above.)
+pub fn matches_by_number(selector: Selector<'_>, top: usize, element: Element<'_>) -> bool
+    requires { RightNumber element.page.nodes.now element.page.attributes.now element.page.text.now (components_in selector) element.row top }
+    ensures { result ≡ matches (components_in selector.entry) (path_in element.entry.page element.entry.row) }
 {
-    top <= row && matches_below(components, store, left, top, nodes, attributes, text, row)
+    top <= element.row && matches_below(selector, top, element)
 }

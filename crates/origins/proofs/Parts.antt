@@ -6,7 +6,7 @@ use native.Mathlib.Omega.{arith}
 use borrow.Rule.Slice.PartMut.{put_mid, Post-is}
 use lib.ListN.{length, take, drop, set, replicate, length-drop, drop_of_length-le}
 use lib.Seq.{sets}
-use Rattle.combinators.specs.Store.{wiped, Zeros}
+use Rattle.combinators.specs.Store.{filled_part, wiped, Zeros}
 use Rattle.combinators.proofs.Lists.{rest}
 
 -- storing behind a first number leaves that number, and stores in those behind it
@@ -37,7 +37,7 @@ module _ (l : List ℕ) (a : ℕ) (h : a ≤ length l) where
 
   -- it is zero where the store is zero from the place on
   pub part-zeros : Zeros l a → Zeros lent_part 0
-  unfolding wiped
+  unfolding filled_part
   part-zeros z =
       record { wiping = λ n. ap (wiped 0 n) (rest l a) ∙ sym (sets-drop a l (replicate n 0) h) ∙ ap (drop a) (z.wiping n) ∙ sym (rest l a) }
 

@@ -48,11 +48,6 @@ declaration-rest texts k t = many-rest (read_declaration texts) declaration_widt
 
 -- ---- places behind a declaration, a selector and a rule
 module _ (rows : List ℕ) (at : ℕ) where
-  -- a row's width further lies what is behind the declaration
-  pub behind-declaration : (texts : List ℕ) (place : ℕ) → drop place rows ≡ drop (at + declaration_width) rows → drop place rows ≡ (read_declaration texts (drop at rows)).rest
-  unfolding read_declaration
-  behind-declaration texts place p = p ∙ sym (drop-drop declaration_width at rows)
-
   -- head and components further lies what is behind the selector
   pub behind-selector : (n place : ℕ) → n ≡ get_or rows (at + selector_components) 0 → drop place rows ≡ drop (at + (selector_head + component_width * n)) rows
       → (texts : List ℕ) → drop place rows ≡ (read_selector texts (drop at rows)).rest

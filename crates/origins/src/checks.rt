@@ -3,6 +3,7 @@ ghost use Rattle.std.specs.Prelude.{◌≡◌};
 ghost use Rattle.origins.specs.Checks.{any_too_long, all_valid};
 
 use characters::utf8::is_valid;
+use combinators::lent::SheetTexts;
 use sheets::sheet::SHEET_LIMIT;
 
 // Whether a sheet has more bytes than a sheet may have.
@@ -13,8 +14,8 @@ pub fn any_too_long(agent: usize, user: usize, author: usize) -> bool
 }
 
 // Whether all sheets are UTF-8.
-pub fn all_valid(agent: &[u8], user: &[u8], author: &[u8]) -> bool
-    ensures { result ≡ all_valid agent.now user.now author.now }
+pub fn all_valid(sheets: SheetTexts<'_>) -> bool
+    ensures { result ≡ all_valid sheets.entry.agent.now sheets.entry.user.now sheets.entry.author.now }
 {
-    is_valid(agent) && is_valid(user) && is_valid(author)
+    is_valid(sheets.agent) && is_valid(sheets.user) && is_valid(sheets.author)
 }

@@ -1,14 +1,15 @@
 // The three sheets read into one set of stores, one behind the other.
-ghost use Rattle.std.specs.Prelude.{◌≡◌};
+ghost use Rattle.std.specs.Prelude.{◌≡◌, length};
 ghost use Rattle.std.proofs.lemmas.List.Edits.{sets};
-ghost use Rattle.combinators.specs.Store.{wiped};
+ghost use Rattle.combinators.specs.Lent.{SameStores, SameWork, OfStores};
 ghost use Rattle.syntax.specs.RuleLayout.{rule_rows, rule_texts};
-ghost use Rattle.selectors.specs.Reading.{written};
+ghost use Rattle.selectors.specs.Reading.{many_reading, written};
+ghost use Rattle.sheets.specs.Rules.{SheetRoom};
 ghost use Rattle.sheets.specs.Sheet.{sheet_of};
 ghost use Rattle.origins.specs.Reading.{rules_answer, ReadRoom, RulesBounds, sheets_of, sheets_rows, sheets_texts, sheets_answer, SheetsRoom};
 
-use combinators::stores::{wipe_bytes, wipe_numbers};
-use selectors::readings::Panic;
+use combinators::lent::{SheetTexts, Stores};
+use selectors::readings::{Panic, Read, take_back};
 use sheets::statements::parse_stylesheet;
 
 // The sheets by their numbers in a refusal.
@@ -60,25 +61,53 @@ fn in_sheet(text: usize, panic: Panic) -> SheetPanic
     }
 }
 
-// Reads a sheet behind what the stores hold: its numbers from `place` on, its texts from `fill` on, which is where its rows count from.
-fn read_behind(
+// Reads a sheet into parts of stores. The struct is made here, since the borrow checker does not cover one that is made of parts of another's slices.
+fn read_part(
     s: &[u8],
     rules: &mut [u32],
-    place: usize,
     tokens: &mut [u32],
     brackets: &mut [u8],
     texts: &mut [u8],
-    fill: usize,
-) -> Result<RulesRead, Panic>
-    requires { ReadRoom s.now rules.old place tokens.old brackets.old texts.old fill }
-    ensures value { result ≡ rules_answer (sheet_of s.now) }
-    ensures rules_after { rules.new ≡ sets rules.old place (written (rule_rows 0) (sheet_of s.now)) }
+) -> Result<Read, Panic>
+    requires { SheetRoom s.now rules.old tokens.old brackets.old texts.old }
+    ensures value { result ≡ many_reading length (rule_rows 0) rule_texts (sheet_of s.now) }
+    ensures rules_after { rules.new ≡ sets rules.old 0 (written (rule_rows 0) (sheet_of s.now)) }
     ensures tokens_unchanged { tokens.new ≡ tokens.old }
     ensures brackets_unchanged { brackets.new ≡ brackets.old }
-    ensures texts_after { texts.new ≡ sets texts.old fill (written rule_texts (sheet_of s.now)) }
+    ensures texts_after { texts.new ≡ sets texts.old 0 (written rule_texts (sheet_of s.now)) }
+{
+    let mut stores = Stores {
+        rules,
+        tokens,
+        brackets,
+        texts,
+    };
+    parse_stylesheet(s, &mut stores)
+}
+
+// Reads a sheet behind what the stores hold: its numbers from `place` on, its texts from `fill` on, which is where its rows count from. Both
+// go on from sheet to sheet, so they stand beside the stores.
+fn read_behind(
+    s: &[u8],
+    stores: &mut Stores<'_>,
+    place: usize,
+    fill: usize,
+) -> Result<RulesRead, Panic>
+    requires { OfStores (ReadRoom s.now) stores.old place fill }
+    ensures same { SameStores stores.old stores.new }
+    ensures work_unchanged { SameWork stores.old stores.new }
+    ensures value { result ≡ rules_answer (sheet_of s.now) }
+    ensures rules_after { stores.new.rules.now ≡ sets stores.old.rules.now place (written (rule_rows 0) (sheet_of s.now)) }
+    ensures texts_after { stores.new.texts.now ≡ sets stores.old.texts.now fill (written rule_texts (sheet_of s.now)) }
     ensures rules_bounds { RulesBounds s.now result }
 {
-    let read = parse_stylesheet(s, &mut rules[place..], tokens, brackets, &mut texts[fill..])?;
+    let read = read_part(
+        s,
+        &mut stores.rules[place..],
+        stores.tokens,
+        stores.brackets,
+        &mut stores.texts[fill..],
+    )?;
     Ok(RulesRead {
         count: read.count,
         numbers: read.numbers,
@@ -86,52 +115,38 @@ fn read_behind(
     })
 }
 
-// Zeros again where the numbers and the texts of sheets lie.
-fn forget(rules: &mut [u32], numbers: usize, texts: &mut [u8], bytes: usize)
-    ensures rules_after { rules.new ≡ wiped 0 numbers rules.old }
-    ensures texts_after { texts.new ≡ wiped 0 bytes texts.old }
-{
-    wipe_numbers(rules, 0, numbers);
-    wipe_bytes(texts, 0, bytes);
-}
-
 // Reads the three sheets into stores that are zero; where the crate panics they are zero again.
 pub fn read_sheets(
-    agent: &[u8],
-    user: &[u8],
-    author: &[u8],
-    rules: &mut [u32],
-    tokens: &mut [u32],
-    brackets: &mut [u8],
-    texts: &mut [u8],
+    sheets: SheetTexts<'_>,
+    stores: &mut Stores<'_>,
 ) -> Result<SheetsRules, SheetPanic>
-    requires { SheetsRoom agent.now user.now author.now rules.old tokens.old brackets.old texts.old }
-    ensures value { result ≡ sheets_answer (sheets_of agent.now user.now author.now) }
-    ensures rules_after { rules.new ≡ sets rules.old 0 (sheets_rows (sheets_of agent.now user.now author.now)) }
-    ensures tokens_unchanged { tokens.new ≡ tokens.old }
-    ensures brackets_unchanged { brackets.new ≡ brackets.old }
-    ensures texts_after { texts.new ≡ sets texts.old 0 (sheets_texts (sheets_of agent.now user.now author.now)) }
+    requires { SheetsRoom sheets.agent.now sheets.user.now sheets.author.now stores.old.rules.now stores.old.tokens.now stores.old.brackets.now stores.old.texts.now }
+    ensures same { SameStores stores.old stores.new }
+    ensures work_unchanged { SameWork stores.old stores.new }
+    ensures value { result ≡ sheets_answer (sheets_of sheets.entry.agent.now sheets.entry.user.now sheets.entry.author.now) }
+    ensures rules_after { stores.new.rules.now ≡ sets stores.old.rules.now 0 (sheets_rows (sheets_of sheets.entry.agent.now sheets.entry.user.now sheets.entry.author.now)) }
+    ensures texts_after { stores.new.texts.now ≡ sets stores.old.texts.now 0 (sheets_texts (sheets_of sheets.entry.agent.now sheets.entry.user.now sheets.entry.author.now)) }
 {
-    let agents = match read_behind(agent, rules, 0, tokens, brackets, texts, 0) {
+    // no `?`: a panic is told with its sheet, and what the sheets before left is wiped first
+    let agents = match read_behind(sheets.agent, stores, 0, 0) {
         Ok(read) => read,
         Err(panic) => return Err(in_sheet(AGENT_TEXT, panic)),
     };
     let numbers = agents.numbers;
     let bytes = agents.bytes;
-    // no `?`: what the sheets before left is wiped first
-    let users = match read_behind(user, rules, numbers, tokens, brackets, texts, bytes) {
+    let users = match read_behind(sheets.user, stores, numbers, bytes) {
         Ok(read) => read,
         Err(panic) => {
-            forget(rules, numbers, texts, bytes);
+            take_back(stores, 0, numbers, 0, bytes);
             return Err(in_sheet(USER_TEXT, panic));
         }
     };
     let place = numbers + users.numbers;
     let from = bytes + users.bytes;
-    let authors = match read_behind(author, rules, place, tokens, brackets, texts, from) {
+    let authors = match read_behind(sheets.author, stores, place, from) {
         Ok(read) => read,
         Err(panic) => {
-            forget(rules, place, texts, from);
+            take_back(stores, 0, place, 0, from);
             return Err(in_sheet(AUTHOR_TEXT, panic));
         }
     };

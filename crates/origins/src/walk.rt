@@ -11,7 +11,7 @@ use syntax::rows::{
 };
 use syntax::walk::forward;
 
-// The place behind the selector at `at`.
+// The place behind the selector at `at`. Rows of each kind have a width of their own.
 pub fn skip_selector(rows: &[u32], at: usize) -> usize
     ensures { (texts : List ℕ) → drop result rows.now ≡ (read_selector texts (drop at rows.now)).rest }
 {
@@ -19,7 +19,7 @@ pub fn skip_selector(rows: &[u32], at: usize) -> usize
     forward(rows, at, SELECTOR_HEAD + COMPONENT_WIDTH * components)
 }
 
-// The place behind `count` selectors from `at` on.
+// The place behind `count` selectors from `at` on, as the head of their rule counts them.
 pub fn skip_selectors(rows: &[u32], at: usize, count: u32) -> usize
     ensures { (texts : List ℕ) → drop result rows.now ≡ (read_many (read_selector texts) count (drop at rows.now)).rest }
 {

@@ -4,4 +4,5 @@ pub mod Ancestors
 pub mod Accepted
 pub mod CheckAnswers
 pub mod PathOf
+pub mod Lent
 pub mod Cases

@@ -20,7 +20,7 @@ pub fn depth_of(nodes: &[u32], row: usize) -> usize
     }
 }
 
-// The depth of row `target`, if it is row `from`, which lies at `depth`, or an ancestor of it.
+// The depth of row `target`, if it is row `from`, which lies at `depth`, or an ancestor of it. A `while`: it goes up by parents, which is no step of a range.
 pub fn climb_to(nodes: &[u32], from: usize, depth: usize, target: usize) -> Option<usize>
     requires { depth ≡ depth_of nodes.now from }
     ensures { result ≡ climbed nodes.now from target }

@@ -2,6 +2,7 @@
 ghost use Rattle.std.specs.Prelude.{◌≡◌};
 ghost use Rattle.page.specs.Accepted.{within_limits, error_refusal, refusal_of, page_refusal};
 
+use crate::lent::Page;
 use crate::rows::{ATTRIBUTE_WIDTH, NODE_WIDTH, attribute_rows, node_count};
 use crate::rules::first_bad_row;
 use crate::texts::first_bad_text;
@@ -16,7 +17,7 @@ pub const ATTRIBUTE_LIMIT: usize = 16384;
 pub const TEXT_LIMIT: usize = 65536;
 
 // Why a page is not accepted: over a limit, or a list that is no whole count of rows (refusal 5); a first row that is against the rules (6);
-// or a first row one of whose texts lies outside the byte text or is not UTF-8 (7).
+// or a first row one of whose texts lies outside the byte text or is not UTF-8 (7). It is the error of a `Result`: no variant stands for an accepted page.
 #[derive(Clone, Copy, Debug, PartialEq, Eq)]
 pub enum PageError {
     TooLarge,
@@ -36,7 +37,7 @@ impl From<PageError> for Refusal {
     }
 }
 
-// What an answer stands for.
+// What an answer stands for. That of compiled bytes has the same two arms and a definition of its own, by another error.
 pub fn refusal_of(answer: Result<(), PageError>) -> Refusal
     ensures { result ≡ refusal_of answer }
 {
@@ -47,30 +48,31 @@ pub fn refusal_of(answer: Result<(), PageError>) -> Refusal
 }
 
 // Whether a page is within the limits, and its lists are whole counts of rows.
-fn within_limits(nodes: &[u32], attributes: &[u32], text: &[u8]) -> bool
-    ensures { result ≡ within_limits nodes.now attributes.now text.now }
+#[tactic(auto, unfolding(crate::specs::Accepted::within_limits, combinators::specs::Choice::and, combinators::specs::Choice::is))]
+fn within_limits(page: Page<'_>) -> bool
+    ensures { result ≡ within_limits page.entry.nodes.now page.entry.attributes.now page.entry.text.now }
 {
-    node_count(nodes) <= NODE_LIMIT
-        && attribute_rows(attributes) <= ATTRIBUTE_LIMIT
-        && text.len() <= TEXT_LIMIT
-        && nodes.len() % NODE_WIDTH == 0
-        && attributes.len() % ATTRIBUTE_WIDTH == 0
+    node_count(page.nodes) <= NODE_LIMIT
+        && attribute_rows(page.attributes) <= ATTRIBUTE_LIMIT
+        && page.text.len() <= TEXT_LIMIT
+        && page.nodes.len() % NODE_WIDTH == 0
+        && page.attributes.len() % ATTRIBUTE_WIDTH == 0
 }
 
 // Whether a page is accepted, and why it is not.
-pub fn check_page(nodes: &[u32], attributes: &[u32], text: &[u8]) -> Result<(), PageError>
-    ensures { refusal_of result ≡ page_refusal nodes.now attributes.now text.now }
+pub fn check_page(page: Page<'_>) -> Result<(), PageError>
+    ensures { refusal_of result ≡ page_refusal page.entry.nodes.now page.entry.attributes.now page.entry.text.now }
 {
-    if !within_limits(nodes, attributes, text) {
+    if !within_limits(page) {
         return Err(PageError::TooLarge);
     }
-    if node_count(nodes) == 0 {
+    if node_count(page.nodes) == 0 {
         return Err(PageError::BadRow(0));
     }
-    if let Some(row) = first_bad_row(nodes, attributes) {
+    if let Some(row) = first_bad_row(page) {
         return Err(PageError::BadRow(row));
     }
-    if let Some(row) = first_bad_text(nodes, attributes, text) {
+    if let Some(row) = first_bad_text(page) {
         return Err(PageError::BadText(row));
     }
     Ok(())

@@ -59,7 +59,8 @@ pub fn number_in<const WIDTH: usize>(rows: &[u32], row: usize, column: usize) ->
     rows.get(place).copied().unwrap_or(0)
 }
 
-// The number in a column of a node's row.
+// The number in a column of a node's row. This and the next are `number_in` for either width, with the bound of what 32 bits hold, so that no reader of a
+// column names a width.
 fn node_number(nodes: &[u32], row: usize, column: usize) -> usize
     ensures value { result ≡ node_number nodes.now row column }
     ensures upper_bound { result < number_bound }
@@ -161,7 +162,7 @@ pub fn name_of<'a>(nodes: &[u32], text: &'a [u8], row: usize) -> &'a [u8]
     part_of(text, name_start(nodes, row), name_length(nodes, row))
 }
 
-// An attribute's name.
+// An attribute's name. This and the next share `part_of` alone: each has columns of its own, which one function for both would be told.
 pub fn attribute_name<'a>(attributes: &[u32], text: &'a [u8], row: usize) -> &'a [u8]
     ensures { result.now ≡ attribute_name attributes.now text.now row }
 {

@@ -5,10 +5,9 @@ use mathlib.Core.List.{List, [], ◌∷◌, ◌++◌, map, append_assoc, append-
 use Prim.Native.Nat.{ℕ, ◌+◌, ◌-◌, ◌≤◌}
 use native.Mathlib.Omega.{arith}
 use borrow.Rule.Slice.PartMut.{put_mid, Post-is}
-use lib.ListN.{length, take, drop, replicate, drop_of_length-le, length-append, length-replicate}
-use lib.Seq.{sets, sets-eq, take-add, take_at, take-take, take-append-le, take-append-add, length-take-le}
+use lib.ListN.{length, take, drop, replicate, drop_of_length-le, length-append}
+use lib.Seq.{take-add, take_at, take-append-add, length-take-le}
 use Rattle.combinators.specs.Choice.{pick}
-use Rattle.combinators.specs.Store.{wiped}
 use Rattle.combinators.proofs.Lists.{rest}
 use Rattle.syntax.specs.Stream.{texts_many}
 use Rattle.syntax.specs.Style.{agent_origin, user_origin, author_origin}
@@ -16,14 +15,14 @@ use Rattle.syntax.specs.declared.styles.Value.{Value}
 use Rattle.cascade.specs.declared.rows.Handed as code
 use Rattle.cascade.specs.declared.slots.Cascade.{Cascade}
 use Rattle.cascade.specs.Record.{Declared, AttributeStyle, Sources, from_rule, declared_by, inherit_by, Handed, handed_by, cascade_by}
-use Rattle.cascade.specs.Row.{style_row_width, RowRoom, Inherited, Finished, Emptied, inherited_row, handed_says, handed_at, finished_row, row_of}
+use Rattle.cascade.specs.Row.{style_row_width, Inherited, Finished, Emptied, inherited_row, handed_says, handed_at, finished_row, row_of}
 use Rattle.cascade.specs.Slot.{update_by}
 use Rattle.cascade.proofs.Cascading.{inherit-by-formed, merges-formed}
 use Rattle.cascade.proofs.Inheriting.{inherit-layout, handed-layout, finish-layout}
 use Rattle.cascade.proofs.RowBack.{merges-layout}
 use Rattle.origins.proofs.Parts.{lent_part, part_length}
 use Rattle.page.specs.Path.{Attribute, Element, Path}
-use Rattle.page.specs.PathOf.{attributes_from, element_at, path_of}
+use Rattle.page.specs.PathOf.{element_at, path_of}
 use Rattle.page.specs.Rows.{node_at}
 use Rattle.matching.specs.Rows.{Rooted}
 use Rattle.matching.proofs.PathLaws.{top-path, other_path}
@@ -31,16 +30,19 @@ use Rattle.styles.specs.declared.settings.Settings.{Settings}
 use Rattle.styles.specs.Computed.{cascaded}
 use Rattle.styles.specs.Room.{values_along, attributes_along}
 use Rattle.styles.specs.Merged.{merged_row, early_declared, late_declared}
+use Rattle.combinators.specs.declared.lent.Stores.{Stores}
+use Rattle.combinators.specs.Lent.{SameLengths}
 use Rattle.styles.specs.Said.{Rules, StyledRule, rules_say, counted_attributes, sources_from}
 use Rattle.styles.specs.StyleCall.{placed_attributes, attributes_contents, inline_contents, path_contents, placed_from}
 use Rattle.styles.proofs.Called.{empty-row, cascaded-formed}
 use Rattle.styles.proofs.Room.{path-short}
 use Rattle.styles.proofs.Merging.{merged-append, merged-none, early-none, late-none, declared-parts}
 use Rattle.attributes.specs.Merging.{InlineRoom}
-use Rattle.path_styles.specs.Path.{kept_sheet, kept_sheets, SameKept, SheetsTops, Steady, EarlyRoom, ElementRoom, PathRoom, OneRow}
+use Rattle.path_styles.specs.Path.{kept_sheet, kept_sheets, SameKept, SheetsTops, Steady, EarlyRoom, ElementRoom, PathRoom}
 use Rattle.origins.specs.declared.reading.SheetRules.{SheetRules}
-use Rattle.path_styles.specs.Tops.{RightTops, sheet_selectors, TextsIn}
+use Rattle.path_styles.specs.Tops.{TextsIn}
 use Rattle.path_styles.specs.declared.tops.ReadySheets.{ReadySheets}
+use Rattle.cascade.proofs.Windows.{all-wiped}
 use Rattle.path_styles.proofs.TopsLaws.{right-parent}
 
 -- ---- an element begins with what it inherits, and the rules of agent and user
@@ -111,70 +113,77 @@ module _ (c : Cascade) (settings : Settings) (e : Element) where
   unfolding placed_attributes
   late-off h row f = rw (counted-off h, late-none {A = Value} c) (sym (merged-none c row))
 
--- ---- the attributes of a row of a page
-module _ (nodes attributes text : List ℕ) (row n at : ℕ) (en : n ≡ (node_at nodes row).attribute_count) (ea : at ≡ (node_at nodes row).first_attribute) where
-  -- the attribute rows that the node row names are the attributes of its element
-  pub attributes-are : attributes_from attributes text n at ≡ (element_at nodes attributes text row).attributes
-  unfolding element_at
-  attributes-are = rw (en, ea)
-
 -- ---- the room that they ask for, in the parts that are lent
-module _ (s : ReadySheets) (e : Element) (fill : ℕ) (xs : List Attribute) (ex : xs ≡ e.attributes) where
+module _ (s : ReadySheets) (e : Element) (fill : ℕ) where
   -- there is room for the colours that come before the author's rules
   pub early-room : (tokens brackets texts : List ℕ) → EarlyRoom s e fill tokens brackets texts → (h : s.behind ≤ length tokens) (k : s.end ≤ length texts)
-      → InlineRoom xs 0 fill (lent_part tokens s.behind h) (lent_part tokens s.behind h) brackets (lent_part texts s.end k)
+      → InlineRoom e.attributes 0 fill (lent_part tokens s.behind h) (lent_part tokens s.behind h) brackets (lent_part texts s.end k)
   early-room tokens brackets texts r h k =
       let t = part_length tokens s.behind h in
       let u = part_length texts s.end k in
-      rw ex (record {
+      record {
         for-rules = omega (arith, t, r.for-tokens);
         for-tokens = omega (arith, t, r.for-tokens);
         for-brackets = r.for-brackets;
         for-texts = omega (arith, u, r.for-texts);
         bits = omega (arith, r.bits);
-      })
+      }
 
   -- there is room for the attributes that come behind the author's rules
   pub late-room : (rows tokens brackets texts : List ℕ) → ElementRoom s e fill rows tokens brackets texts → (j : s.rows ≤ length rows) (h : s.behind ≤ length tokens) (k : s.end ≤ length texts)
-      → InlineRoom xs 0 fill (lent_part rows s.rows j) (lent_part tokens s.behind h) brackets (lent_part texts s.end k)
+      → InlineRoom e.attributes 0 fill (lent_part rows s.rows j) (lent_part tokens s.behind h) brackets (lent_part texts s.end k)
   late-room rows tokens brackets texts r j h k =
       let v = part_length rows s.rows j in
       let t = part_length tokens s.behind h in
       let u = part_length texts s.end k in
-      rw ex (record {
+      record {
         for-rules = omega (arith, v, r.for-rules);
         for-tokens = omega (arith, t, r.for-tokens);
         for-brackets = r.for-brackets;
         for-texts = omega (arith, u, r.for-texts);
         bits = omega (arith, r.bits);
-      })
+      }
+
+-- what they say behind the author's rules, contents counted from the fill on
+pub late-here : (c : Cascade) (e : Element) (xs : List Attribute) → xs ≡ e.attributes → (row ys : List ℕ) (f : ℕ) → ys ≡ merged_row c row (late_declared c (placed_attributes (0 + f) xs))
+    → ys ≡ merged_row c row (late_declared c (placed_attributes f e.attributes))
+late-here c e xs ex row ys f h =
+    let z : 0 + f ≡ f = omega arith in
+    h ∙ ap (λ (n : ℕ). merged_row c row (late_declared c (placed_attributes n xs))) z ∙ ap (λ (l : List Attribute). merged_row c row (late_declared c (placed_attributes f l))) ex
+
+-- and their contents
+pub contents-here : (e : Element) (xs : List Attribute) → xs ≡ e.attributes → (fill r : ℕ) (texts ys : List ℕ) → take r ys ≡ take fill texts ++ attributes_contents xs
+    → take r ys ≡ take fill texts ++ attributes_contents e.attributes
+contents-here e xs ex fill r texts ys h = h ∙ ap (λ (l : List Attribute). take fill texts ++ attributes_contents l) ex
 
 -- ---- what they say, where document styles are on
-module _ (c : Cascade) (settings : Settings) (e : Element) (on : settings.document_styles ≡ true) (xs : List Attribute) (ex : xs ≡ e.attributes) where
+module _ (c : Cascade) (settings : Settings) (e : Element) (on : settings.document_styles ≡ true) where
   -- all attributes of the element count
-  counted : xs ≡ counted_attributes settings e
-  counted = ex ∙ sym (counted-on c settings e on)
+  counted : e.attributes ≡ counted_attributes settings e
+  counted = sym (counted-on c settings e on)
 
   -- what all of them merge before the author's rules is what those that count merge
-  pub early-on : (row ys : List ℕ) → ((f : ℕ) → ys ≡ merged_row c row (early_declared c (placed_attributes f xs))) → (f : ℕ)
+  pub early-on : (row ys : List ℕ) → ((f : ℕ) → ys ≡ merged_row c row (early_declared c (placed_attributes f e.attributes))) → (f : ℕ)
       → ys ≡ merged_row c row (early_declared c (placed_attributes f (counted_attributes settings e)))
   early-on row ys h f = h f ∙ ap (λ (l : List Attribute). merged_row c row (early_declared c (placed_attributes f l))) counted
 
   -- what all of them merge behind the author's rules is what those that count merge
-  pub late-on : (row ys : List ℕ) (f : ℕ) → ys ≡ merged_row c row (late_declared c (placed_attributes (0 + f) xs)) → ys ≡ merged_row c row (late_declared c (placed_attributes f (counted_attributes settings e)))
-  late-on row ys f h = let z : 0 + f ≡ f = omega arith in h ∙ ap (λ (n : ℕ). merged_row c row (late_declared c (placed_attributes n xs))) z ∙ ap (λ (l : List Attribute). merged_row c row (late_declared c (placed_attributes f l))) counted
+  pub late-on : (row ys : List ℕ) (f : ℕ) → ys ≡ merged_row c row (late_declared c (placed_attributes f e.attributes)) → ys ≡ merged_row c row (late_declared c (placed_attributes f (counted_attributes settings e)))
+  late-on row ys f h = h ∙ ap (λ (l : List Attribute). merged_row c row (late_declared c (placed_attributes f l))) counted
 
   -- the contents of all of them are those of the element
-  pub contents-counted : attributes_contents xs ≡ inline_contents settings e
+  pub contents-counted : attributes_contents e.attributes ≡ inline_contents settings e
   unfolding inline_contents
   contents-counted = ap attributes_contents counted
 
--- ---- what a call on attributes leaves: the row, the fill, the texts up to it, and what is kept
-module _ (c : Cascade) (s : ReadySheets) (fill r : ℕ) (texts ys xs more : List ℕ) where
-  -- the fill goes up by the contents, which stand behind the texts up to the old fill
-  pub texts-left : xs ≡ more → r ≡ fill + length xs → (h : s.end ≤ length texts) → take r ys ≡ take fill (lent_part texts s.end h) ++ xs
-      → (r ≡ fill + length more) × (take (s.end + r) (put_mid s.end (length texts - s.end) texts ys) ≡ take (s.end + fill) texts ++ more)
-  texts-left e k h t = (k ∙ ap (λ (l : List ℕ). fill + length l) e, part_filled texts s.end h r fill ys more (t ∙ ap (λ (l : List ℕ). take fill (lent_part texts s.end h) ++ l) e))
+  -- the fill goes up by the contents
+  pub fill-counted : (fill r : ℕ) → r ≡ fill + length (attributes_contents e.attributes) → r ≡ fill + length (inline_contents settings e)
+  fill-counted fill r k = k ∙ ap (λ (l : List ℕ). fill + length l) contents-counted
+
+  -- which stand behind the texts up to the old fill, in the whole as in the part that is lent
+  pub texts-counted : (fill r : ℕ) (texts : List ℕ) (end : ℕ) (h : end ≤ length texts) (ys : List ℕ) → take r ys ≡ take fill (lent_part texts end h) ++ attributes_contents e.attributes
+      → take (end + r) (put_mid end (length texts - end) texts ys) ≡ take (end + fill) texts ++ inline_contents settings e
+  texts-counted fill r texts end h ys t = part_filled texts end h r fill ys (inline_contents settings e) (t ∙ ap (λ (l : List ℕ). take fill (lent_part texts end h) ++ l) contents-counted)
 
 -- where there are no attributes
 pub texts-none : (end fill : ℕ) (texts more : List ℕ) → more ≡ [] → (fill ≡ fill + length more) × (take (end + fill) texts ≡ take (end + fill) texts ++ more)
@@ -182,19 +191,6 @@ texts-none end fill texts more e = (rw e (omega arith), rw e (sym (append-nil (t
 
 -- ---- what is kept stays
 module _ (s : ReadySheets) where
-  -- where the stores are the same up to a fill
-  pub same-below : (fill : ℕ) (l m : List ℕ) → take (s.end + fill) m ≡ take (s.end + fill) l → take s.end m ≡ take s.end l
-  same-below fill l m e =
-      sym (take-take s.end (s.end + fill) m (omega arith)) ∙ ap (take s.end) e ∙ take-take s.end (s.end + fill) l (omega arith)
-
-  -- and where more was filled
-  pub same-filled : (fill r : ℕ) (l m more : List ℕ) → s.end + fill ≤ length l → fill ≤ r → take (s.end + r) m ≡ take (s.end + fill) l ++ more → take s.end m ≡ take s.end l
-  same-filled fill r l m more h k e =
-      sym (take-take s.end (s.end + r) m (omega arith))
-      ∙ ap (take s.end) e
-      ∙ take-append-le s.end (take (s.end + fill) l) more (omega (arith, length-take-le (s.end + fill) l h))
-      ∙ take-take s.end (s.end + fill) l (omega arith)
-
   -- after one change and another
   pub same-twice : {rows tokens texts rows₁ tokens₁ texts₁ rows₂ tokens₂ texts₂ : List ℕ} → SameKept s rows tokens texts rows₁ tokens₁ texts₁ → SameKept s rows₁ tokens₁ texts₁ rows₂ tokens₂ texts₂
       → SameKept s rows tokens texts rows₂ tokens₂ texts₂
@@ -238,11 +234,6 @@ module _ (s : ReadySheets) where
     pub tops-now : SheetsTops s nodes attributes text row rows tokens texts
     tops-now = h.tops rows tokens texts (record { same_rows = refl; same-tokens = refl; same-texts = refl })
 
-    -- and behind the attributes that come early
-    pub author-tops-still : (fill : ℕ) (tokens₁ texts₁ : List ℕ) → take s.behind tokens₁ ≡ take s.behind tokens → take (s.end + fill) texts₁ ≡ take (s.end + fill) texts
-        → RightTops nodes attributes text row (sheet_selectors rows texts₁ s.end s.author.rules) (drop s.author.tops tokens₁)
-    author-tops-still fill tokens₁ texts₁ t x = (h.tops rows tokens₁ texts₁ (record { same_rows = refl; same-tokens = t; same-texts = same-below fill texts texts₁ x })).author-tops
-
 -- ---- the row of an element
 module _ (c : Cascade) (rules : Rules (StyledRule Value)) (inline : List (AttributeStyle Value)) (p : Path) where
   abbrev said : Sources Value
@@ -268,41 +259,29 @@ module _ (c : Cascade) (rules : Rules (StyledRule Value)) (inline : List (Attrib
       (ez ∙ ap (λ (r : List ℕ). merged_row c r L) (d' ∙ ap (λ (r : List ℕ). merged_row c r W) (eb ∙ ap (λ (r : List ℕ). merged_row c r E) (ea ∙ merged-append c i A U))))
 
 -- ---- what an element leaves: the texts up to the new fill, and what is kept
--- the texts up to the new fill are the old ones and the contents added, and what is kept of the sheets is the same
-pub element-kept : (s : ReadySheets) (fill r : ℕ) (rows tokens texts tokens₁ texts₁ rows₂ tokens₂ texts₂ more : List ℕ) → s.end + fill ≤ length texts₁ → r ≡ fill + length more
-    → take s.behind tokens₁ ≡ take s.behind tokens → take (s.end + fill) texts₁ ≡ take (s.end + fill) texts
-    → take s.rows rows₂ ≡ take s.rows rows → take s.behind tokens₂ ≡ take s.behind tokens₁ → take (s.end + r) texts₂ ≡ take (s.end + fill) texts₁ ++ more
-    → (take (s.end + r) texts₂ ≡ take (s.end + fill) texts ++ more) × SameKept s rows tokens texts rows₂ tokens₂ texts₂
-element-kept s fill r rows tokens texts tokens₁ texts₁ rows₂ tokens₂ texts₂ more h k t₁ x₁ r₂ t₂ x₂ = (
-  x₂ ∙ ap (λ (l : List ℕ). l ++ more) x₁,
-  record {
-    same_rows = r₂;
-    same-tokens = t₂ ∙ t₁;
-    same-texts = same-filled s fill r texts₁ texts₂ more h (omega (arith, k)) x₂ ∙ same-below s fill texts texts₁ x₁;
-  },
-)
+-- the contents stand behind the texts that were there before the attributes that come early
+pub texts-again : (n r : ℕ) (texts texts₁ more ys : List ℕ) → take r ys ≡ take n texts₁ ++ more → take n texts₁ ≡ take n texts → take r ys ≡ take n texts ++ more
+texts-again n r texts texts₁ more ys h e = h ∙ ap (λ (l : List ℕ). l ++ more) e
 
 -- the author's rules are the same behind the attributes that come early
-pub author-still : (s : ReadySheets) (fill : ℕ) (rows tokens texts tokens₁ texts₁ : List ℕ) {nodes attributes text : List ℕ} {row : ℕ} → Steady s nodes attributes text row rows tokens texts
-    → take s.behind tokens₁ ≡ take s.behind tokens → take (s.end + fill) texts₁ ≡ take (s.end + fill) texts
-    → kept_sheet rows tokens₁ texts₁ s.end s.author ≡ (kept_sheets rows tokens texts s).author
+pub author-still : (s : ReadySheets) (rows tokens texts rows₁ tokens₁ texts₁ : List ℕ) {nodes attributes text : List ℕ} {row : ℕ} → Steady s nodes attributes text row rows tokens texts
+    → SameKept s rows tokens texts rows₁ tokens₁ texts₁ → kept_sheet rows₁ tokens₁ texts₁ s.end s.author ≡ (kept_sheets rows tokens texts s).author
 unfolding kept_sheets
-author-still s fill rows tokens texts tokens₁ texts₁ h t x =
-    ap (λ (k : Rules (StyledRule Value)). k.author) (h.kept rows tokens₁ texts₁ (record { same_rows = refl; same-tokens = t; same-texts = same-below s fill texts texts₁ x }))
+author-still s rows tokens texts rows₁ tokens₁ texts₁ h k = ap (λ (k : Rules (StyledRule Value)). k.author) (h.kept rows₁ tokens₁ texts₁ k)
 
 -- room that is asked for again behind a call
 pub early-of : (s : ReadySheets) (e : Element) (fill : ℕ) (rows tokens brackets texts : List ℕ) → ElementRoom s e fill rows tokens brackets texts → EarlyRoom s e fill tokens brackets texts
 early-of s e fill rows tokens brackets texts r = record { for-tokens = r.for-tokens; for-brackets = r.for-brackets; for-texts = r.for-texts; bits = r.bits }
 
 -- in stores as long as before there is the same room
-pub room-again : (s : ReadySheets) (e : Element) (fill : ℕ) (rows tokens brackets texts tokens₁ brackets₁ texts₁ : List ℕ) → ElementRoom s e fill rows tokens brackets texts
-    → length tokens₁ ≡ length tokens → length brackets₁ ≡ length brackets → length texts₁ ≡ length texts → ElementRoom s e fill rows tokens₁ brackets₁ texts₁
-room-again s e fill rows tokens brackets texts tokens₁ brackets₁ texts₁ r t b x =
+pub room-again : (s : ReadySheets) (e : Element) (fill : ℕ) (a b : Stores) → ElementRoom s e fill a.rules.now a.tokens.now a.brackets.now a.texts.now → SameLengths a b
+    → ElementRoom s e fill b.rules.now b.tokens.now b.brackets.now b.texts.now
+room-again s e fill a b r l =
     record {
-      for-rules = r.for-rules;
-      for-tokens = omega (arith, t, r.for-tokens);
-      for-brackets = omega (arith, b, r.for-brackets);
-      for-texts = omega (arith, x, r.for-texts);
+      for-rules = omega (arith, l.rules, r.for-rules);
+      for-tokens = omega (arith, l.tokens, r.for-tokens);
+      for-brackets = omega (arith, l.brackets, r.for-brackets);
+      for-texts = omega (arith, l.texts, r.for-texts);
       bits = r.bits;
     }
 
@@ -317,16 +296,12 @@ module _ (nodes attributes text : List ℕ) (row : ℕ) (h : Rooted nodes row) w
   pub path-by : ¬ (row ≡ 0) → (p : ℕ) → p ≡ (node_at nodes row).parent → path_of nodes attributes text row ≡ element_at nodes attributes text row ∷ path_of nodes attributes text p
   path-by z p e = rw e (other_path nodes attributes text row h z)
 
--- a store written over throughout is what was written
-sets-all : (l vs : List ℕ) → length vs ≡ length l → sets l 0 vs ≡ vs
-sets-all l vs e = sets-eq vs l 0 (omega (arith, e)) ∙ ap (λ (r : List ℕ). vs ++ r) (drop_of_length-le l {i = 0 + length vs} (omega (arith, e))) ∙ append-nil vs
-
 module _ (c : Cascade) (s : ReadySheets) (settings : Settings) (kept : Rules (StyledRule Value)) where
   -- at its top is the empty style
-  pub top-row : (p : Path) (xs ys : List ℕ) → OneRow xs → Emptied xs ys → p ≡ [] → ys ≡ row_of (cascaded c (placed_from kept s.fill settings p))
-  unfolding placed_from cascaded wiped
+  pub top-row : (p : Path) (xs ys : List ℕ) → length xs ≡ style_row_width → Emptied xs ys → p ≡ [] → ys ≡ row_of (cascaded c (placed_from kept s.fill settings p))
+  unfolding placed_from cascaded
   top-row p xs ys o e n =
-      rw n (e.numbers ∙ sets-all xs (replicate style_row_width 0) (length-replicate {A = ℕ} style_row_width 0 ∙ sym o.long) ∙ empty-row)
+      rw n (e.numbers ∙ sym (all-wiped xs style_row_width o) ∙ ap (λ (n : ℕ). replicate n 0) o ∙ empty-row)
 
   -- an element's row is made of its parent's
   pub below_row : (p : Path) (e : Element) (up : Path) (fill : ℕ) (kept₁ : Rules (StyledRule Value)) (ys zs : List ℕ) → p ≡ e ∷ up → kept₁ ≡ kept
@@ -407,7 +382,3 @@ module _ (s : ReadySheets) (p : Path) (e : Element) (up : Path) (n : p ≡ e ∷
 -- what is kept is the same at the start
 pub same-already : (s : ReadySheets) (rows tokens texts : List ℕ) → SameKept s rows tokens texts rows tokens texts
 same-already s rows tokens texts = record { same_rows = refl; same-tokens = refl; same-texts = refl }
-
--- a buffer as long as one row has room for a row
-pub one-row-room : (out : List ℕ) → OneRow out → RowRoom out
-one-row-room out o = record { room = omega (arith, o.long) }

@@ -1,10 +1,10 @@
--- A row into which declarations are merged one after the other, and the returns and turns of the functions that merge what rules say of an element.
+-- The returns and turns of the functions that merge what rules say of an element.
 use mathlib.Core.Path.{◌≡◌, refl, sym, ap, ◌∙◌}
 use mathlib.Core.Bool.{Bool, true, false}
 use mathlib.Core.List.{List, [], ◌∷◌, ◌++◌, map, map-append}
 use Prim.Native.Nat.{ℕ, zero, suc, ◌+◌, ◌*◌, ◌-◌, ◌≤◌, ◌<◌}
 use native.Mathlib.Omega.{arith}
-use lib.ListN.{length, get_or, drop}
+use lib.ListN.{get_or, drop}
 use lib.Seq.{get_or-drop, drop-drop}
 use Rattle.combinators.specs.Choice.{pick}
 use Rattle.combinators.proofs.Rules.{pick_true, pick-false, is-yes, is-no}
@@ -18,7 +18,7 @@ use Rattle.origins.proofs.WalkLaws.{many-rest, declaration-rest, Passing, passin
 use Rattle.cascade.specs.declared.slots.Cascade.{Cascade}
 use Rattle.cascade.specs.declared.specificity.Specificity.{Specificity}
 use Rattle.cascade.specs.Record.{main_record, before_record, after_record, Styled, RuleStyle, Declared, from_rule}
-use Rattle.cascade.specs.Row.{RowRoom, Merged}
+use Rattle.cascade.specs.Row.{Merged}
 use Rattle.page.specs.Path.{Path}
 use Rattle.matching.specs.Matches.{matches}
 use Rattle.matching.specs.Rows.{components_at}
@@ -26,44 +26,10 @@ use Rattle.matching.specs.Specificity.{specificity}
 use Rattle.styles.specs.Merged.{merged_row}
 use Rattle.styles.specs.Said.{rule_style, selector_says, selectors_say, rules_say}
 use Rattle.styles.specs.StyleCall.{in_numbers}
-use Rattle.styles.proofs.Merging.{merged-none, merged-more, merged-append, merged-long}
+use Rattle.styles.proofs.Merging.{merged-none, merged-more, Merging, merging-begin, merging-more, merging-done}
 use Rattle.rule_styles.specs.Placing.{kept_head, kept_count, read_styled, read_kept, rules_kept}
 use Rattle.path_styles.specs.Tops.{RightTops}
 use Rattle.path_styles.proofs.TopsLaws.{lent, lent-components, rule-selectors}
-
--- ---- a loop that merges declarations into a row
--- what has the length of a row with room has room
-pub room-kept : (row z : List ℕ) → length z ≡ length row → RowRoom row → RowRoom z
-room-kept row z e r = record { room = omega (arith, e, r.room) }
-
--- a row into which declarations are merged keeps its room
-pub room-merged : (c : Cascade) (row z : List ℕ) (ds : List (Declared Value)) → z ≡ merged_row c row ds → RowRoom row → RowRoom z
-room-merged c row z ds e r = room-kept row z (ap length e ∙ merged-long c ds row) r
-
-module _ (c : Cascade) (row₀ : List ℕ) (all : List (Declared Value)) where
-  -- what is left to merge is what was to be merged, and the row has its length and room for a style
-  pub record Merging (row : List ℕ) (others : List (Declared Value)) : Type 0 where
-    pub left : merged_row c row others ≡ merged_row c row₀ all
-    pub long : length row ≡ length row₀
-    pub room : RowRoom row
-
-  -- nothing is merged yet
-  pub merging-begin : RowRoom row₀ → Merging row₀ all
-  merging-begin r = record { left = refl; long = refl; room = r }
-
-  module _ (row : List ℕ) (others : List (Declared Value)) (m : Merging row others) where
-    -- some of the others are merged: what stands behind them is left to merge
-    pub merging-more : (ds behind : List (Declared Value)) → others ≡ ds ++ behind → (z : List ℕ) → z ≡ merged_row c row ds → Merging z behind
-    merging-more ds behind e z ez =
-        record {
-          left = ap (λ (x : List ℕ). merged_row c x behind) ez ∙ sym (merged-append c row ds behind) ∙ sym (ap (merged_row c row) e) ∙ m.left;
-          long = ap length ez ∙ merged-long c ds row ∙ m.long;
-          room = room-merged c row z ds ez m.room;
-        }
-
-    -- where none is left, the row is the first one with all merged
-    pub merging-done : others ≡ [] → row ≡ merged_row c row₀ all
-    merging-done e = sym (merged-none c row) ∙ sym (ap (merged_row c row) e) ∙ m.left
 
 -- ---- pseudo elements
 -- none is the main record
@@ -96,8 +62,8 @@ module _ (c : Cascade) (pseudo origin : ℕ) (spec : Specificity) (styles : List
     pub merging : Merging c row₀ (styles_declared count at) row (styles_declared n place)
 
   -- nothing is merged yet
-  pub styles-begin : RowRoom row₀ → (n : ℕ) → n ≡ count → StylesMerging n at row₀
-  styles-begin r n e = rw e (record { merging = merging-begin c row₀ _ r })
+  pub styles-begin : (n : ℕ) → n ≡ count → StylesMerging n at row₀
+  styles-begin n e = rw e (record { merging = merging-begin c row₀ _ })
 
   -- the first of them, and the others
   one-declared : (n place next : ℕ) → 0 < n → drop next styles ≡ drop (place + style_width) styles
@@ -197,8 +163,8 @@ module _ (c : Cascade) (origin : ℕ) (p : Path) (ds : List (Styled Value)) (tex
     pub passing : Passing read_selector rows count at n place
 
   -- nothing is merged yet
-  pub selectors-begin : RowRoom row₀ → (n : ℕ) → n ≡ count → SelectorsMerging n at row₀
-  selectors-begin r n e = rw e (record { merging = merging-begin c row₀ _ r; passing = λ _. refl })
+  pub selectors-begin : (n : ℕ) → n ≡ count → SelectorsMerging n at row₀
+  selectors-begin n e = rw e (record { merging = merging-begin c row₀ _; passing = λ _. refl })
 
   -- the first of them, and the others
   one-selector : (n place next : ℕ) → 0 < n → drop next rows ≡ (read_selector texts (drop place rows)).rest
@@ -290,8 +256,8 @@ module _ (c : Cascade) (origin : ℕ) (p : Path) (texts rows : List ℕ) (count 
     pub merging : Merging c row₀ (rules_declared count at first) row (rules_declared n place kept)
 
   -- nothing is merged yet
-  pub rules-begin : RowRoom row₀ → (n : ℕ) → n ≡ count → RulesMerging n at first row₀
-  rules-begin r n e = rw e (record { merging = merging-begin c row₀ _ r })
+  pub rules-begin : (n : ℕ) → n ≡ count → RulesMerging n at first row₀
+  rules-begin n e = rw e (record { merging = merging-begin c row₀ _ })
 
   -- the first of them, and the others
   one-rule : (n place kept next later : ℕ) → 0 < n → drop next rows ≡ (read_rule texts (drop place rows)).rest → drop later styles ≡ (read_kept (drop kept styles)).rest

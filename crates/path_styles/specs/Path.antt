@@ -2,7 +2,6 @@
 use Rattle.std.specs.Prelude.{ℕ, ◌+◌, ◌*◌, ◌^◌, ◌≤◌, ◌<◌, ◌≡◌, List, length, take, drop}
 use Rattle.combinators.specs.LeastLengths.{bracket_least, number_least}
 use Rattle.syntax.specs.declared.styles.Value.{Value}
-use Rattle.cascade.specs.Row.{style_row_width}
 use Rattle.page.specs.Path.{Element, Path}
 use Rattle.styles.specs.Room.{values_of, values_along, attributes_along}
 use Rattle.styles.specs.Said.{Rules, StyledRule}
@@ -65,7 +64,3 @@ pub record PathRoom (s : ReadySheets) (p : Path) (rows tokens brackets texts : L
   pub for-brackets : bracket_least (values_along p) ≤ length brackets
   pub for-texts : s.end + (s.fill + values_along p + 2 * attributes_along p) ≤ length texts
   pub bits : s.fill + values_along p + 2 * attributes_along p < 2 ^ 32
-
--- a style row, and nothing behind it
-pub record OneRow (out : List ℕ) : Type 0 where
-  pub long : length out ≡ style_row_width

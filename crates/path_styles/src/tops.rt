@@ -5,17 +5,17 @@ ghost use Rattle.std.proofs.lemmas.List.Edits.{sets};
 ghost use Rattle.syntax.specs.RuleLayout.{read_selector, read_rule};
 ghost use Rattle.syntax.specs.Stream.{read_many};
 ghost use Rattle.page.specs.Rows.{number_bound};
-ghost use Rattle.matching.specs.Rows.{Rooted};
 ghost use Rattle.matching.specs.Topmost.{selector_number};
 ghost use Rattle.rule_styles.specs.Placing.{rules_selectors};
 ghost use Rattle.path_styles.specs.Tops.{selectors_tops, sheet_selectors, sheets_selectors, TextsIn, TopsRoom, SheetsTopsRoom, ready_places, ready_sheets};
 
 use combinators::stores::number_at;
+use matching::components::Selector;
+use matching::elements::Element;
 use matching::topmost::selector_number;
 use origins::reading::SheetRules;
 use origins::walk::{skip_rule, skip_selector};
 use rule_styles::styled::StyledSheets;
-use styles::lent::Page;
 use syntax::rows::{RULE_HEAD, RULE_SELECTORS, SELECTOR_COMPONENTS, SELECTOR_HEAD};
 use syntax::walk::forward;
 
@@ -50,69 +50,64 @@ pub fn top_at(tops: &[u32], at: usize) -> usize
 }
 
 // The number of the selector at `at`.
-fn find_top(rows: &[u32], at: usize, texts: &[u8], page: Page<'_>, row: usize) -> usize
-    requires { Rooted page.nodes.now row }
-    ensures value { result ≡ selector_number page.entry.nodes.now page.entry.attributes.now page.entry.text.now row (read_selector texts.now (drop at rows.now)).value.components }
-    ensures upper_bound { result ≤ row }
+fn find_top(rows: &[u32], at: usize, texts: &[u8], element: Element<'_>) -> usize
+    ensures value { result ≡ selector_number element.entry.page.nodes.now element.entry.page.attributes.now element.entry.page.text.now element.entry.row (read_selector texts.now (drop at rows.now)).value.components }
+    ensures upper_bound { result ≤ element.entry.row }
 {
     let length = number_at(rows, at, SELECTOR_COMPONENTS);
     let behind_head = forward(rows, at, SELECTOR_HEAD);
     let components = &rows[behind_head..];
-    selector_number(
+    let selector = Selector {
         components,
-        texts,
-        length as usize,
-        page.nodes,
-        page.attributes,
-        page.text,
-        row,
-    )
+        store: texts,
+        left: length as usize,
+    };
+    selector_number(selector, element)
 }
 
-// Stores the numbers of `selectors` selectors, the first of them at `at`, from `place` on.
+// Stores the numbers of `selectors` selectors, the first of them at `at`, from `place` on. A number is at most the row and is kept in 32 bits, so
+// the row is below `number_bound`; an `Element` does not carry that, since matching, which makes most of them, stores no number. Texts, element, tokens and
+// place stay apart: the texts are cut for each sheet, the element is the same for all, the tokens are written, and only the place steps.
 fn find_selectors_tops(
     rows: &[u32],
     at: usize,
     selectors: u32,
     texts: &[u8],
-    page: Page<'_>,
-    row: usize,
+    element: Element<'_>,
     tokens: &mut [u32],
     place: usize,
 )
-    requires rooted { Rooted page.nodes.now row }
-    requires row_lt_number_bound { row < number_bound }
+    requires row_lt_number_bound { element.row < number_bound }
     requires tops_room { TopsRoom tokens.old place selectors }
     ensures { tokens.new ≡ sets tokens.old place
-        (selectors_tops page.entry.nodes.now page.entry.attributes.now page.entry.text.now row
+        (selectors_tops element.entry.page.nodes.now element.entry.page.attributes.now element.entry.page.text.now element.entry.row
         (read_many (read_selector texts.now) selectors (drop at rows.now)).value) }
 {
     let mut from = at;
     let mut to = place;
     for _ in 0..selectors {
-        let top = find_top(rows, from, texts, page, row);
+        let top = find_top(rows, from, texts, element);
         tokens[to] = top as u32;
         from = skip_selector(rows, from);
         to += TOP_WIDTH;
     }
 }
 
-// Stores the numbers of the selectors of `count` rules, the first of them at `at`, from `place` on; the place behind them.
+// Stores the numbers of the selectors of `count` rules, the first of them at `at`, from `place` on; the place behind them. Rules are of different widths, so
+// that the length of their rows does not say how many they are.
 fn find_rules_tops(
     rows: &[u32],
     at: usize,
     count: usize,
     texts: &[u8],
-    page: Page<'_>,
-    row: usize,
+    element: Element<'_>,
     tokens: &mut [u32],
     place: usize,
 ) -> usize
-    requires rooted { Rooted page.nodes.now row }
-    requires row_lt_number_bound { row < number_bound }
+    requires row_lt_number_bound { element.row < number_bound }
     requires tops_room { TopsRoom tokens.old place (length (rules_selectors (read_many (read_rule texts.now) count (drop at rows.now)).value)) }
     ensures tokens_after { tokens.new ≡ sets tokens.old place
-        (selectors_tops page.entry.nodes.now page.entry.attributes.now page.entry.text.now row
+        (selectors_tops element.entry.page.nodes.now element.entry.page.attributes.now element.entry.page.text.now element.entry.row
         (rules_selectors (read_many (read_rule texts.now) count (drop at rows.now)).value)) }
     ensures value { result ≡ place + length (rules_selectors (read_many (read_rule texts.now) count (drop at rows.now)).value) }
 {
@@ -121,7 +116,7 @@ fn find_rules_tops(
     for _ in 0..count {
         let selectors = number_at(rows, from, RULE_SELECTORS);
         let first = forward(rows, from, RULE_HEAD);
-        find_selectors_tops(rows, first, selectors, texts, page, row, tokens, to);
+        find_selectors_tops(rows, first, selectors, texts, element, tokens, to);
         from = skip_rule(rows, from);
         to += TOP_WIDTH * selectors as usize;
     }
@@ -134,17 +129,15 @@ fn find_sheet_tops(
     end: usize,
     rules: &[u32],
     texts: &[u8],
-    page: Page<'_>,
-    row: usize,
+    element: Element<'_>,
     tokens: &mut [u32],
     place: usize,
 ) -> usize
-    requires rooted { Rooted page.nodes.now row }
-    requires row_lt_number_bound { row < number_bound }
+    requires row_lt_number_bound { element.row < number_bound }
     requires texts_in { TextsIn texts.now end sheet }
     requires tops_room { TopsRoom tokens.old place (length (sheet_selectors rules.now texts.now end sheet)) }
     ensures tokens_after { tokens.new ≡ sets tokens.old place
-        (selectors_tops page.entry.nodes.now page.entry.attributes.now page.entry.text.now row (sheet_selectors rules.now texts.now end sheet)) }
+        (selectors_tops element.entry.page.nodes.now element.entry.page.attributes.now element.entry.page.text.now element.entry.row (sheet_selectors rules.now texts.now end sheet)) }
     ensures value { result ≡ place + length (sheet_selectors rules.now texts.now end sheet) }
 {
     let from = sheet.from;
@@ -153,8 +146,7 @@ fn find_sheet_tops(
         sheet.place,
         sheet.count,
         &texts[from..end],
-        page,
-        row,
+        element,
         tokens,
         place,
     )
@@ -192,24 +184,21 @@ pub fn find_tops(
     sheets: StyledSheets,
     rules: &[u32],
     texts: &[u8],
-    page: Page<'_>,
-    row: usize,
+    element: Element<'_>,
     tokens: &mut [u32],
 ) -> ReadySheets
-    requires rooted { Rooted page.nodes.now row }
-    requires row_lt_number_bound { row < number_bound }
+    requires row_lt_number_bound { element.row < number_bound }
     requires sheets_tops_room { SheetsTopsRoom rules.now tokens.old texts.now sheets }
     ensures value { result ≡ ready_sheets rules.now texts.now sheets }
     ensures tokens_after { tokens.new ≡ sets tokens.old sheets.behind
-        (selectors_tops page.entry.nodes.now page.entry.attributes.now page.entry.text.now row (sheets_selectors rules.now texts.now sheets)) }
+        (selectors_tops element.entry.page.nodes.now element.entry.page.attributes.now element.entry.page.text.now element.entry.row (sheets_selectors rules.now texts.now sheets)) }
 {
     let user = find_sheet_tops(
         sheets.agent.rules,
         sheets.end,
         rules,
         texts,
-        page,
-        row,
+        element,
         tokens,
         sheets.behind,
     );
@@ -218,8 +207,7 @@ pub fn find_tops(
         sheets.end,
         rules,
         texts,
-        page,
-        row,
+        element,
         tokens,
         user,
     );
@@ -228,8 +216,7 @@ pub fn find_tops(
         sheets.end,
         rules,
         texts,
-        page,
-        row,
+        element,
         tokens,
         author,
     );

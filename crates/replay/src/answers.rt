@@ -1,6 +1,7 @@
 // What a question is asked with: buffers on the stack, of which the vector lends parts. And what is expected of them.
 ghost use Rattle.std.specs.Prelude.{◌^◌, ◌<◌};
 
+use crate::buffers::Buffers;
 use crate::calls::{
     BRACKETS_LENT, BYTES_LENT, Call, FILLING, OUT_LENT, RESULTS, RULES_LENT, Results, TEXTS_LENT,
     TOKENS_LENT,
@@ -75,21 +76,23 @@ fn answers_with_buffers<
     let mut texts = [byte; TEXTS];
     let mut bytes = [byte; BYTES];
     let mut out = [value; OUT];
-    let rules = question.lent(RULES_LENT, &mut rules);
-    let tokens = question.lent(TOKENS_LENT, &mut tokens);
-    let brackets = question.lent(BRACKETS_LENT, &mut brackets);
-    let texts = question.lent(TEXTS_LENT, &mut texts);
-    let bytes = question.lent(BYTES_LENT, &mut bytes);
-    let out = question.lent(OUT_LENT, &mut out);
-    let came = ask(question, rules, tokens, brackets, texts, bytes, out);
+    let mut buffers = Buffers {
+        rules: question.lent(RULES_LENT, &mut rules),
+        tokens: question.lent(TOKENS_LENT, &mut tokens),
+        brackets: question.lent(BRACKETS_LENT, &mut brackets),
+        texts: question.lent(TEXTS_LENT, &mut texts),
+        bytes: question.lent(BYTES_LENT, &mut bytes),
+        out: question.lent(OUT_LENT, &mut out),
+    };
+    let came = ask(question, &mut buffers);
     // Each reads on in the stream, whatever came before it.
     are_expected(stream, came)
-        & is_expected(stream, rules)
-        & is_expected(stream, tokens)
-        & is_expected(stream, brackets)
-        & is_expected(stream, texts)
-        & is_expected(stream, bytes)
-        & is_expected(stream, out)
+        & is_expected(stream, buffers.rules)
+        & is_expected(stream, buffers.tokens)
+        & is_expected(stream, buffers.brackets)
+        & is_expected(stream, buffers.texts)
+        & is_expected(stream, buffers.bytes)
+        & is_expected(stream, buffers.out)
 }
 
 // Whether the results are those that come next.
@@ -102,29 +105,21 @@ fn are_expected(stream: &mut Stream<'_>, came: Results) -> bool {
     same
 }
 
-// Asks by the call; `bytes` are the compiled ones, or the state of a run.
-fn ask(
-    question: &Question<'_>,
-    rules: &mut [u32],
-    tokens: &mut [u32],
-    brackets: &mut [u8],
-    texts: &mut [u8],
-    bytes: &mut [u8],
-    out: &mut [u32],
-) -> Results {
+// Asks by the call. A `match` names all calls, so that none is forgotten; a table of functions would say no more.
+fn ask(question: &Question<'_>, buffers: &mut Buffers<'_>) -> Results {
     match question.call {
-        Call::ReadSheet => ask_sheet(question, rules, tokens, brackets, texts),
-        Call::Compile => ask_compile(question, rules, tokens, brackets, texts, bytes),
+        Call::ReadSheet => ask_sheet(question, buffers),
+        Call::Compile => ask_compile(question, buffers),
         Call::CheckPage => ask_page(question),
-        Call::Style | Call::StyleBook => ask_style(question, rules, tokens, brackets, texts, out),
-        Call::Run => ask_run(question, rules, tokens, brackets, texts, bytes, out),
+        Call::Style | Call::StyleBook => ask_style(question, buffers),
+        Call::Run => ask_run(question, buffers),
         Call::CheckBytes => ask_bytes(question),
-        Call::StyleAttribute => ask_style_attribute(question, rules, tokens, brackets, texts),
-        Call::Colour => ask_colour(question, tokens, brackets, texts),
+        Call::StyleAttribute => ask_style_attribute(question, buffers),
+        Call::Colour => ask_colour(question, buffers),
         Call::Matches => ask_matches(question),
-        Call::Rows => ask_rows(question, rules),
-        Call::Selector => ask_selector(question, rules, tokens, brackets, texts),
-        Call::HeightLength => ask_length(question, rules, tokens, brackets, texts),
+        Call::Rows => ask_rows(question, buffers.rules),
+        Call::Selector => ask_selector(question, buffers),
+        Call::HeightLength => ask_length(question, buffers),
         Call::Unknown => [0; RESULTS],
     }
 }

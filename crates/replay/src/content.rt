@@ -5,7 +5,7 @@ use crate::stream::Stream;
 
 const BYTE_VALUES: u32 = 256;
 
-/// What a buffer has: bytes or numbers.
+/// What a buffer has: bytes or numbers, of which each is made and read in its own way.
 pub trait Element: Copy + PartialEq + Drop {
     /// The element that a number stands for.
     fn from_number(number: u32) -> Self;

@@ -4,6 +4,7 @@
 #![tactic(auto)]
 
 mod answers; // answers.rt: what is asked with lent buffers, and whether it answers as expected
+mod buffers; // buffers.rt: what a call is lent to write in
 mod calls; // calls.rt: the calls, and where their arguments stand
 mod content; // content.rt: what stands in a buffer
 mod pages; // pages.rt: calls with a page or with compiled bytes

@@ -1,7 +1,7 @@
 // Calls with a page or with compiled bytes. Each answers the numbers of its result, in the order of its struct.
+use crate::buffers::Buffers;
 use crate::calls::{COMPONENTS, COUNT, FIRST, ROW, Results};
 use crate::question::{Question, part};
-use combinators::stores::emit_number;
 use comparison::bytes::comparison_check_bytes;
 use comparison::matches::{MatchResult, comparison_matches};
 use engine::pages::hicsolmab_check_page;
@@ -47,19 +47,25 @@ pub fn ask_matches(question: &Question<'_>) -> Results {
     match_numbers(match_row(question, question.components(), question.names(), row))
 }
 
-// Puts five numbers of a row's answer behind those of the rows before it: the refusal, whether it matches, and the specificity.
-fn put_row(came: MatchResult, rules: &mut [u32], start: usize) -> usize {
-    let mut fill = start;
-    for number in [
+// The numbers of a row's answer: the refusal, whether it matches, and the specificity.
+const ROW_NUMBERS: usize = 5;
+
+// Puts them behind those of the rows before it, as far as `rules` go.
+fn put_row(came: MatchResult, rules: &mut [u32], row: usize) {
+    let numbers: [u32; ROW_NUMBERS] = [
         came.refusal,
         came.matches,
         came.ids,
         came.classes,
         came.types,
-    ] {
-        fill = emit_number(number, rules, fill);
+    ];
+    for (slot, number) in rules
+        .iter_mut()
+        .skip(row.saturating_mul(ROW_NUMBERS))
+        .zip(numbers)
+    {
+        *slot = number;
     }
-    fill
 }
 
 /// Asks for each row of the page. The result is how many there are.
@@ -67,23 +73,28 @@ pub fn ask_rows(question: &Question<'_>, rules: &mut [u32]) -> Results {
     let components = question.components();
     let names = question.names();
     let rows = question.length(FIRST) / NODE_WIDTH;
-    let mut fill = 0;
     for row in 0..rows {
         let came = match_row(question, components, names, row);
-        fill = put_row(came, rules, fill);
+        put_row(came, rules, row);
     }
     [rows, 0, 0, 0, 0, 0]
 }
 
+// Whether components from a place of the rules on match the row, where the sheet's texts are read.
+fn match_rule(question: &Question<'_>, buffers: &Buffers<'_>) -> MatchResult {
+    let count = buffers.rules.len();
+    let components = part(buffers.rules, question.length(COMPONENTS), count);
+    match_row(question, components, buffers.texts, question.length(ROW))
+}
+
 /// Reads a sheet, and asks for a row with components of its rules.
-pub fn ask_selector(
-    question: &Question<'_>,
-    rules: &mut [u32],
-    tokens: &mut [u32],
-    brackets: &mut [u8],
-    texts: &mut [u8],
-) -> Results {
-    hicsolmab_read_sheet(question.names(), rules, tokens, brackets, texts);
-    let components = part(rules, question.length(COMPONENTS), rules.len());
-    match_numbers(match_row(question, components, texts, question.length(ROW)))
+pub fn ask_selector(question: &Question<'_>, buffers: &mut Buffers<'_>) -> Results {
+    hicsolmab_read_sheet(
+        question.names(),
+        buffers.rules,
+        buffers.tokens,
+        buffers.brackets,
+        buffers.texts,
+    );
+    match_numbers(match_rule(question, buffers))
 }

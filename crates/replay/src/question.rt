@@ -34,7 +34,7 @@ impl<'a> Question<'a> {
         }
     }
 
-    /// The argument that has `k` before it, or 0 where there are fewer.
+    /// The argument that has `k` before it, or 0 where there are fewer, as a vector leaves out zeros at the end.
     pub fn number(&self, k: usize) -> u32 {
         self.arguments.get(k).copied().unwrap_or(0)
     }
@@ -49,7 +49,7 @@ impl<'a> Question<'a> {
         &mut buffer[..n]
     }
 
-    // ---- what is lent to read
+    // ---- what is lent to read: each names where it lies, which no caller should
 
     /// The first text, of a call with sheets, an attribute, a height or compiled bytes.
     pub fn text(&self) -> &'a [u8] {

@@ -26,6 +26,7 @@ impl<'a> Stream<'a> {
 
     pub fn number(&mut self) -> u32 {
         let mut value = 0;
+        // a number ends with a group that says so, or with the bytes
         while let Some((byte, rest)) = self.rest.split_first() {
             self.rest = rest;
             value = value % KEPT * GROUP + u32::from(*byte % TOP);

@@ -1,30 +1,46 @@
 // Calls for styles: of an element, by a page, three sheets behind it, a row and whether document styles are on; and of all elements, by a page, a compiled
 // sheet behind it, and whether document styles are on.
+use crate::buffers::Buffers;
 use crate::calls::{AGENT, Call, DOCUMENT_STYLES, ROW, RUN_DOCUMENT_STYLES, Results, THIRD};
 use crate::question::Question;
 use engine::run::hicsolmab_run;
 use engine::style::{hicsolmab_style, hicsolmab_style_book};
 
-/// The style of an element, by the cascade of the call.
-pub fn ask_style(
-    question: &Question<'_>,
-    rules: &mut [u32],
-    tokens: &mut [u32],
-    brackets: &mut [u8],
-    texts: &mut [u8],
-    out: &mut [u32],
-) -> Results {
+/// The style of an element, by the cascade of the call: two functions of the C interface, of which the `match` names one.
+pub fn ask_style(question: &Question<'_>, buffers: &mut Buffers<'_>) -> Results {
     let [agent, user, author] = question.sheets(question.length(THIRD), AGENT);
     let (nodes, attributes, page) = (question.nodes(), question.attributes(), question.page());
     let (row, switch) = (question.length(ROW), question.number(DOCUMENT_STYLES));
     let came = match question.call {
         Call::StyleBook => hicsolmab_style_book(
-            agent, user, author, nodes, attributes, page, row, switch, out, texts, rules, tokens,
-            brackets,
+            agent,
+            user,
+            author,
+            nodes,
+            attributes,
+            page,
+            row,
+            switch,
+            buffers.out,
+            buffers.texts,
+            buffers.rules,
+            buffers.tokens,
+            buffers.brackets,
         ),
         _ => hicsolmab_style(
-            agent, user, author, nodes, attributes, page, row, switch, out, texts, rules, tokens,
-            brackets,
+            agent,
+            user,
+            author,
+            nodes,
+            attributes,
+            page,
+            row,
+            switch,
+            buffers.out,
+            buffers.texts,
+            buffers.rules,
+            buffers.tokens,
+            buffers.brackets,
         ),
     };
     let (refusal, text) = (came.refusal as usize, came.text);
@@ -32,27 +48,19 @@ pub fn ask_style(
 }
 
 /// The styles of all elements.
-pub fn ask_run(
-    question: &Question<'_>,
-    rules: &mut [u32],
-    tokens: &mut [u32],
-    brackets: &mut [u8],
-    texts: &mut [u8],
-    state: &mut [u8],
-    rows: &mut [u32],
-) -> Results {
+pub fn ask_run(question: &Question<'_>, buffers: &mut Buffers<'_>) -> Results {
     let came = hicsolmab_run(
         question.compiled(),
         question.nodes(),
         question.attributes(),
         question.page(),
         question.number(RUN_DOCUMENT_STYLES),
-        rows,
-        texts,
-        state,
-        rules,
-        tokens,
-        brackets,
+        buffers.out,
+        buffers.texts,
+        buffers.bytes,
+        buffers.rules,
+        buffers.tokens,
+        buffers.brackets,
     );
     [came.refusal as usize, came.place, came.texts, 0, 0, 0]
 }

@@ -51,7 +51,7 @@ impl Sifted {
     }
 }
 
-// What is known of the styles for a slot among `count` styles whose rows start at `at`.
+// What is known of the styles for a slot among `count` styles whose rows start at `at`. Nothing is asked of the rows, which may end before: no part is cut.
 pub fn sift_styles(rows: &[u32], at: usize, count: u32, slot: u32) -> Sifted
     ensures { sifted_in result ≡ foldl (sift slot) nothing_sifted (read_many read_styled count (drop at rows.now)).value }
 {
@@ -111,6 +111,7 @@ fn write_sifted(rows: &mut [u32], at: usize, sifted: Sifted) -> usize
 }
 
 // Of `count` styles whose rows start at `at`, writes the rows of those that decide, from `place` on; how many they are.
+// It is one slice, with places in it, since what is written stands before what is read.
 pub fn keep_deciding(rows: &mut [u32], at: usize, count: u32, place: usize) -> usize
     requires { DecidingRoom rows.old at count place }
     ensures rows_after { rows.new ≡ sets rows.old place (texts_many styled_row (deciding (read_many read_styled count (drop at rows.old)).value)) }

@@ -14,8 +14,9 @@ ghost use Rattle.rule_styles.specs.PlacingRoom.{Upward, ContentsRoom, StyleRowsR
 use crate::deciding::keep_deciding;
 use crate::rows::{KEPT_HEAD, write_style};
 use cascade::rows::SLOT_COUNT;
-use combinators::stores::wipe_numbers;
+use combinators::stores::fill_part;
 use combinators::texts::part_of;
+use origins::reading::SheetRules;
 use origins::styles::styles_of_rule;
 use origins::walk::skip_rule;
 use syntax::rows::{CONTENT_SLOT, STYLE_WIDTH};
@@ -24,22 +25,27 @@ use syntax::styles::{StyleNumbers, Value, style_at};
 // Two styles are kept for each slot at most.
 const KEPT_WIDTH: usize = 2 * SLOT_COUNT * STYLE_WIDTH;
 
-// Behind what is kept of a rule, in the store of tokens, and behind its contents.
+// How far what is kept of rules fills the store of tokens, and their contents the store of contents.
 #[derive(Clone, Copy)]
 pub struct Placed {
     pub place: usize,
     pub fill: usize,
 }
 
-// Behind rules in their rows, behind what is kept of them, and behind their contents.
+impl Placed {
+    // Nothing is kept yet.
+    pub const BEGIN: Placed = Placed { place: 0, fill: 0 };
+}
+
+// Behind rules in their rows, and how far what is kept of them fills the stores.
 #[derive(Clone, Copy)]
 pub struct StyledEnd {
     pub rows: usize,
-    pub place: usize,
-    pub fill: usize,
+    pub placed: Placed,
 }
 
 // Copies the `n` bytes from `start` on of the text from `from` to `end`, or as many as there are, to `fill` behind `end`; how many there are.
+// `texts`, `from`, `end` and `fill` stay apart, here and below: of a struct of them only the fill would change.
 fn copy_part(
     texts: &mut [u8],
     from: usize,
@@ -95,6 +101,7 @@ fn place_style(
 }
 
 // Places the `count` styles whose rows start at `at`, with their contents end to end from `fill` behind `end` on; the fill behind them.
+// `count` is what `styles_of_rule` answers; the length of a part cut by it would be divided to have it again.
 fn place_styles(
     tokens: &mut [u32],
     at: usize,
@@ -130,74 +137,64 @@ fn keep_rule(tokens: &mut [u32], place: usize, at: usize, count: u32) -> usize
 {
     let deciding = keep_deciding(tokens, at, count, place + KEPT_HEAD);
     tokens[place] = deciding as u32;
-    wipe_numbers(tokens, at, STYLE_WIDTH * count as usize);
+    fill_part(tokens, at, STYLE_WIDTH * count as usize, 0);
     place + KEPT_HEAD + STYLE_WIDTH * deciding
 }
 
-// Keeps the styles of the rule at `at` that decide from `place` on, with its contents from `fill` behind `end` on; the places behind them.
+// Keeps the styles of the rule at `at` that decide from `placed` on, its contents behind `end`; how far the stores are filled then.
 fn style_rule(
     rules: &[u32],
     at: usize,
     tokens: &mut [u32],
-    place: usize,
     texts: &mut [u8],
     from: usize,
     end: usize,
-    fill: usize,
+    placed: Placed,
 ) -> Placed
-    requires rule_kept_room { RuleKeptRoom (drop at rules.now) tokens.old place }
-    requires contents_room { ContentsRoom texts.old from end fill (contents_at (sheet_text texts.old from end) (drop at rules.now)) }
-    ensures tokens_after { tokens.new ≡ sets tokens.old place
-        (kept (deciding (styles_placed (sheet_text texts.old from end) fill (drop at rules.now)))) }
-    ensures texts_after { texts.new ≡ sets texts.old (end + fill) (contents_at (sheet_text texts.old from end) (drop at rules.now)) }
+    requires rule_kept_room { RuleKeptRoom (drop at rules.now) tokens.old placed.place }
+    requires contents_room { ContentsRoom texts.old from end placed.fill (contents_at (sheet_text texts.old from end) (drop at rules.now)) }
+    ensures tokens_after { tokens.new ≡ sets tokens.old placed.place
+        (kept (deciding (styles_placed (sheet_text texts.old from end) placed.fill (drop at rules.now)))) }
+    ensures texts_after { texts.new ≡ sets texts.old (end + placed.fill) (contents_at (sheet_text texts.old from end) (drop at rules.now)) }
     ensures value { result ≡ record {
-      place = place + length (kept (deciding (styles_placed (sheet_text texts.old from end) fill (drop at rules.now))));
-      fill = fill + length (contents_at (sheet_text texts.old from end) (drop at rules.now));
+      place = placed.place + length (kept (deciding (styles_placed (sheet_text texts.old from end) placed.fill (drop at rules.now))));
+      fill = placed.fill + length (contents_at (sheet_text texts.old from end) (drop at rules.now));
     } }
 {
-    let made = place + KEPT_HEAD + KEPT_WIDTH;
+    let made = placed.place + KEPT_HEAD + KEPT_WIDTH;
     let count = styles_of_rule(rules, at, &mut tokens[made..]);
-    let behind = place_styles(tokens, made, count, texts, from, end, fill);
-    let next = keep_rule(tokens, place, made, count);
+    let behind = place_styles(tokens, made, count, texts, from, end, placed.fill);
+    let next = keep_rule(tokens, placed.place, made, count);
     Placed {
         place: next,
         fill: behind,
     }
 }
 
-// Keeps the styles that decide of `count` rules from `at` on, rule by rule from `place` on, with their contents from `fill` behind `end` on; the places behind them.
+// Keeps the styles that decide of the rules of a sheet, rule by rule from `placed` on, their contents behind `end`; where the rules end, and how far the stores are
+// filled then. The rules are only read, as the type says, so they come beside what is written.
 pub fn style_rules(
     rules: &[u32],
-    at: usize,
-    count: usize,
+    sheet: SheetRules,
     tokens: &mut [u32],
-    place: usize,
     texts: &mut [u8],
-    from: usize,
     end: usize,
-    fill: usize,
+    placed: Placed,
 ) -> StyledEnd
-    requires rules_kept_room { RulesKeptRoom (sheet_text texts.old from end) count (drop at rules.now) tokens.old place }
-    requires contents_room { ContentsRoom texts.old from end fill (rules_contents_at (sheet_text texts.old from end) count (drop at rules.now)) }
-    ensures tokens_after { tokens.new ≡ sets tokens.old place
-        (kept_rules (styled_rules (sheet_text texts.old from end) fill count (drop at rules.now))) }
-    ensures texts_after { texts.new ≡ sets texts.old (end + fill) (rules_contents_at (sheet_text texts.old from end) count (drop at rules.now)) }
-    ensures rules_value { drop result.rows rules.now ≡ (read_many (read_rule (sheet_text texts.old from end)) count (drop at rules.now)).rest }
-    ensures place_value { result.place ≡ place + length (kept_rules (styled_rules (sheet_text texts.old from end) fill count (drop at rules.now))) }
-    ensures fill_value { result.fill ≡ fill + length (rules_contents_at (sheet_text texts.old from end) count (drop at rules.now)) }
+    requires rules_kept_room { RulesKeptRoom (sheet_text texts.old sheet.from end) sheet.count (drop sheet.place rules.now) tokens.old placed.place }
+    requires contents_room { ContentsRoom texts.old sheet.from end placed.fill (rules_contents_at (sheet_text texts.old sheet.from end) sheet.count (drop sheet.place rules.now)) }
+    ensures tokens_after { tokens.new ≡ sets tokens.old placed.place
+        (kept_rules (styled_rules (sheet_text texts.old sheet.from end) placed.fill sheet.count (drop sheet.place rules.now))) }
+    ensures texts_after { texts.new ≡ sets texts.old (end + placed.fill) (rules_contents_at (sheet_text texts.old sheet.from end) sheet.count (drop sheet.place rules.now)) }
+    ensures rules_value { drop result.rows rules.now ≡ (read_many (read_rule (sheet_text texts.old sheet.from end)) sheet.count (drop sheet.place rules.now)).rest }
+    ensures place_value { result.placed.place ≡ placed.place + length (kept_rules (styled_rules (sheet_text texts.old sheet.from end) placed.fill sheet.count (drop sheet.place rules.now))) }
+    ensures fill_value { result.placed.fill ≡ placed.fill + length (rules_contents_at (sheet_text texts.old sheet.from end) sheet.count (drop sheet.place rules.now)) }
 {
-    let mut rows = at;
-    let mut p = place;
-    let mut f = fill;
-    for _ in 0..count {
-        let placed = style_rule(rules, rows, tokens, p, texts, from, end, f);
-        p = placed.place;
-        f = placed.fill;
+    let mut rows = sheet.place;
+    let mut next = placed;
+    for _ in 0..sheet.count {
+        next = style_rule(rules, rows, tokens, texts, sheet.from, end, next);
         rows = skip_rule(rules, rows);
     }
-    StyledEnd {
-        rows,
-        place: p,
-        fill: f,
-    }
+    StyledEnd { rows, placed: next }
 }

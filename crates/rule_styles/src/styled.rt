@@ -4,7 +4,7 @@ ghost use Rattle.std.proofs.lemmas.List.Edits.{sets};
 ghost use Rattle.styles.specs.StyleCall.{sheets_contents};
 ghost use Rattle.rule_styles.specs.Held.{sheets_from, SheetsHeld, sheets_kept, styled_places};
 
-use crate::placing::style_rules;
+use crate::placing::{Placed, style_rules};
 use origins::reading::{SheetRules, SheetsRules};
 
 // A sheet: its rules, and where its styles start in the store of tokens.
@@ -27,7 +27,7 @@ pub struct StyledSheets {
 }
 
 // Makes the styles of three sheets that were read: those that decide are kept in `tokens`, their contents behind the texts of the sheets. Each sheet's places follow
-// from those of the one before, so the three are written out.
+// from those of the one before, so the three are written out. The stores come one by one: of a struct the borrow checker reads no field while others are lent.
 pub fn style_sheets(
     rules: &[u32],
     sheets: SheetsRules,
@@ -40,61 +40,25 @@ pub fn style_sheets(
     ensures texts_after { texts.new ≡ sets texts.old sheets.end (sheets_contents (sheets_from rules.now texts.old sheets)) }
 {
     let end = sheets.end;
-    let agent = style_rules(
-        rules,
-        sheets.agent.place,
-        sheets.agent.count,
-        tokens,
-        0,
-        texts,
-        sheets.agent.from,
-        end,
-        0,
-    );
-    let user = style_rules(
-        rules,
-        sheets.user.place,
-        sheets.user.count,
-        tokens,
-        agent.place,
-        texts,
-        sheets.user.from,
-        end,
-        agent.fill,
-    );
-    let author = style_rules(
-        rules,
-        sheets.author.place,
-        sheets.author.count,
-        tokens,
-        user.place,
-        texts,
-        sheets.author.from,
-        end,
-        user.fill,
-    );
-    let agent_rules = sheets.agent;
-    let agent_sheet = StyledSheet {
-        rules: agent_rules,
-        styles: 0,
-    };
-    let user_rules = sheets.user;
-    let user_sheet = StyledSheet {
-        rules: user_rules,
-        styles: agent.place,
-    };
-    let author_rules = sheets.author;
-    let author_sheet = StyledSheet {
-        rules: author_rules,
-        styles: user.place,
-    };
+    let agent = style_rules(rules, sheets.agent, tokens, texts, end, Placed::BEGIN);
+    let user = style_rules(rules, sheets.user, tokens, texts, end, agent.placed);
+    let author = style_rules(rules, sheets.author, tokens, texts, end, user.placed);
     StyledSheets {
-        agent: agent_sheet,
-        user: user_sheet,
-        author: author_sheet,
+        agent: StyledSheet {
+            rules: sheets.agent,
+            styles: 0,
+        },
+        user: StyledSheet {
+            rules: sheets.user,
+            styles: agent.placed.place,
+        },
+        author: StyledSheet {
+            rules: sheets.author,
+            styles: user.placed.place,
+        },
         end,
         rows: author.rows,
-        behind: author.place,
-        fill: author.fill,
+        behind: author.placed.place,
+        fill: author.placed.fill,
     }
 }

@@ -15,7 +15,7 @@ use Rattle.page.specs.PathOf.{attributes_from}
 use Rattle.page.specs.Rows.{node_width, node_count, node_number, node_at, NodeRow, name_of, element_kind, other_kind, attribute_width, attribute_rows, attribute_number, attribute_name, attribute_value}
 use Rattle.page.proofs.AcceptedPages.{Accepted}
 use Rattle.page.proofs.RowFacts.{document-zeros, kind-of-row, attributes-lent}
-use Rattle.styles.specs.Lent.{Page}
+use Rattle.page.specs.Lent.{Page}
 use Rattle.runner.specs.Run.{handed_from, handed_at}
 use Rattle.runner.proofs.StateParts.{part-number}
 

@@ -58,9 +58,9 @@ module _ (code : List ℕ) (some : 0 < length code) (settings : Settings) (x : H
   above_same : above_in state ≡ above_in state'
   unfolding part_of
   above_same =
-      raised-part state at (part_width code) (omega arith)
+      raised-part state at (part_width code)
       ∙ ap₂ (λ (p : List ℕ) (n : ℕ). sets p 0 (pair_bytes (n + 1))) same count_same
-      ∙ sym (raised-part state' at (part_width code) (omega arith))
+      ∙ sym (raised-part state' at (part_width code))
 
   -- by which the own part is not changed
   own-kept : (l : List ℕ) → part_of code (suc d) (raised l at) ≡ part_of code (suc d) l
@@ -102,7 +102,7 @@ module _ (code : List ℕ) (some : 0 < length code) (settings : Settings) (x : H
     -- it is what the pass left, with the count 0
     own-part : part_of code (suc d) (left_in l) ≡ sets (passed_in l).part 0 (pair_bytes 0)
     unfolding part_of
-    own-part = opened-part (raised l at) (part_place code (suc d)) (part_width code) (passed_in l).part (omega arith) passed-long raised-room
+    own-part = opened-part (raised l at) (part_place code (suc d)) (part_width code) (passed_in l).part passed-long raised-room
 
     -- and the parent's part is as it was raised
     above-part : part_of code d (left_in l) ≡ above_in l
@@ -163,7 +163,7 @@ module _ (code : List ℕ) (few : length code ≤ compiled_limit) (some : 0 < le
         let e : document_in l ≡ document_step code l texts = sym (pick-false _ _ _ _ (is-no _ _ open_row) refl) in
         let z = length-sets l (part_place code 1) (fresh_of l) in
         ap (λ (s : Stepped). part_of code 0 s.state) e
-        ∙ opened-part (sets l (part_place code 1) (fresh_of l)) (part_place code 0) (part_width code) (stored_in (fresh_of l) l) (omega arith) (stored-long (fresh_of l)) (omega arith)
+        ∙ opened-part (sets l (part_place code 1) (fresh_of l)) (part_place code 0) (part_width code) (stored_in (fresh_of l) l) (stored-long (fresh_of l)) (omega arith)
 
   -- in its own part the same bytes are stored
   pub document-part-free : (state state' : List ℕ) → part_place code 1 + part_width code ≤ length state → part_place code 1 + part_width code ≤ length state' → (m : ℕ)

@@ -123,7 +123,7 @@ module _ (code nodes attributes text : List ℕ) where
       → length blocks ≡ part_width code → ((e : Element) → ToldIn code blocks (e ∷ path_at i)) → Open t state l → Open t (opened state (part_place code (length l)) blocks) (i ∷ l)
   unfolding part_of
   opened-open some i t b l state blocks bl r k n told h = (
-    λ z. rw (opened-part state (part_place code (length l)) (part_width code) blocks (omega arith) n r) (counted-right t i 0 blocks (omega arith) (omega arith) (sym k) told),
+    λ z. rw (opened-part state (part_place code (length l)) (part_width code) blocks n r) (counted-right t i 0 blocks (omega arith) (omega arith) (sym k) told),
     open_kept l b t t state (opened state (part_place code (length l)) blocks) bl (λ r q. refl) (opened-above code some state (length l) r blocks n) h,
   )
 
@@ -239,7 +239,7 @@ module _ (code : List ℕ) (few : length code ≤ compiled_limit) (some : 0 < le
           let f = children-few nodes attributes text ok p (suc i) (omega arith) in
           let c = count-right in
           let k = child-counted nodes (suc i) element in
-          rw (raised-part state at (part_width code) (omega arith))
+          rw (raised-part state at (part_width code))
           (counted-right code nodes attributes text (suc (suc i)) p (pair_at state at + 1) (part_of code (depth_of nodes p) state) (omega arith) (omega arith) (omega arith) parent-part.told)
 
       -- with all above it

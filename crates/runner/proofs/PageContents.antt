@@ -17,7 +17,7 @@ use Rattle.styles.specs.StyleCall.{inline_contents}
 use Rattle.styles.proofs.Room.{inline-short, attributes-counted, values-short}
 use Rattle.styles.specs.declared.settings.Settings.{Settings}
 use Rattle.runner.specs.LeastLengths.{run_text_bytes}
-use Rattle.styles.specs.Lent.{Page}
+use Rattle.page.specs.Lent.{Page}
 use Rattle.runner.specs.PageRows.{row_contents, contents_before, page_contents}
 
 module _ (settings : Settings) (g : Page) where

@@ -19,7 +19,7 @@ use Rattle.page.specs.PathOf.{element_at, path_of}
 use Rattle.page.specs.Rows.{node_count, node_at, element_kind}
 use Rattle.page.proofs.AcceptedPages.{Accepted}
 use Rattle.styles.specs.declared.settings.Settings.{Settings}
-use Rattle.styles.specs.Lent.{Page}
+use Rattle.page.specs.Lent.{Page}
 use Rattle.styles.proofs.Called.{empty-row}
 use Rattle.runner.specs.Walked.{WalkedSelector, walked, matching_at}
 use Rattle.runner.specs.PageRows.{style_below, contents_before, line_style, page_row, rows_before, style_row_at, no_style}

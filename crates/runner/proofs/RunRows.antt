@@ -20,7 +20,7 @@ use Rattle.page.proofs.RowFacts.{document-kind}
 use Rattle.compiled.specs.Answer.{bytes_refusal}
 use Rattle.compiled.specs.Sheet.{compiled_limit}
 use Rattle.styles.specs.declared.settings.Settings.{Settings}
-use Rattle.styles.specs.Lent.{Page}
+use Rattle.page.specs.Lent.{Page}
 use Rattle.runner.specs.LeastLengths.{RunLent, rows_least}
 use Rattle.runner.specs.State.{depths, part_width}
 use Rattle.runner.specs.PageRows.{selectors_declare, row_contents, contents_before, page_contents, page_row, page_rows, style_row_at}

@@ -3,14 +3,11 @@ use Prim.Native.Nat.{ℕ, suc, ◌+◌, ◌≤◌, ◌<◌}
 use mathlib.Core.Path.{◌≡◌, refl, ap, sym, ◌∙◌}
 use mathlib.Core.List.{List, [], ◌∷◌, ◌++◌, append_assoc}
 use native.Mathlib.Omega.{arith}
-use borrow.Author.Tests.{lt-ltb}
 use lib.ListN.{length, get_or, take, drop, set, length-drop, take-append-drop}
 use lib.Seq.{sets, sets-eq, length-sets, drop-append-le, take-append-le, take_at, drop_at, length-take-le, get_or-drop, get_or-take}
-use Rattle.combinators.specs.Choice.{pick}
 use Rattle.combinators.specs.Part.{part}
-use Rattle.segments.specs.Parts.{part_set, part_sets}
 use Rattle.segments.specs.Sweep.{pair_at, pair_bytes}
-use Rattle.segments.proofs.PartSetLaws.{own-sets, behind-sets}
+use Rattle.segments.proofs.PartSetLaws.{part-sets, behind-sets}
 use Rattle.segments.proofs.DownLaws.{blocks_begin}
 use Rattle.runner.specs.State.{raised, opened}
 
@@ -56,44 +53,32 @@ module _ (l v : List ℕ) (i : ℕ) (room : i + length v ≤ length l) where
         take_at v (drop (i + length v) l) n e,
       )
 
--- bytes that all lie in a part are stored as they are
-pub sets-own : (bs state : List ℕ) (own width j : ℕ) → j + length bs ≤ width → part_sets state own width j bs ≡ sets state (own + j) bs
-unfolding part_sets part_set pick
-sets-own [] state own width j h = refl
-sets-own (b ∷ bs) state own width j h =
-    let e : own + (j + 1) ≡ suc (own + j) = omega arith in
-    rw (lt-ltb j width (omega arith)) (sets-own bs (set state (own + j) b) own width (j + 1) (omega arith) ∙ ap (λ (i : ℕ). sets (set state (own + j) b) i bs) e)
-
 -- ---- the count of a part, which takes its first two bytes
-module _ (state : List ℕ) (at n c : ℕ) (h : blocks_begin ≤ n) where
-  -- a count stored in the whole is stored in the part
-  part_count : part (sets state at (pair_bytes c)) at n ≡ sets (part state at n) 0 (pair_bytes c)
-  unfolding pair_bytes
-  part_count =
-      let z : at + 0 ≡ at = omega arith in
-      ap (λ (i : ℕ). part (sets state i (pair_bytes c)) at n) (sym z)
-      ∙ ap (λ (x : List ℕ). part x at n) (sym (sets-own (pair_bytes c) state at n 0 h))
-      ∙ own-sets (pair_bytes c) state at n 0
+-- a count stored in the whole is stored in the part
+part_count : (state : List ℕ) (at n c : ℕ) → part (sets state at (pair_bytes c)) at n ≡ sets (part state at n) 0 (pair_bytes c)
+part_count state at n c =
+    let z : at ≡ at + 0 = omega arith in
+    ap (λ (i : ℕ). part (sets state i (pair_bytes c)) at n) z ∙ part-sets (pair_bytes c) state at n 0
 
 -- counting one element child more changes the first two bytes of the part, and nothing else
-pub raised-part : (state : List ℕ) (at n : ℕ) → blocks_begin ≤ n → part (raised state at) at n ≡ sets (part state at n) 0 (pair_bytes (pair_at state at + 1))
+pub raised-part : (state : List ℕ) (at n : ℕ) → part (raised state at) at n ≡ sets (part state at n) 0 (pair_bytes (pair_at state at + 1))
 unfolding raised
-raised-part state at n h = part_count state at n (pair_at state at + 1) h
+raised-part state at n = part_count state at n (pair_at state at + 1)
 
 -- which changes nothing behind the part
 pub raised-behind : (state : List ℕ) (at n : ℕ) → blocks_begin ≤ n → drop (at + n) (raised state at) ≡ drop (at + n) state
-unfolding raised pair_bytes
+unfolding raised
 raised-behind state at n h =
-    let z : at + 0 ≡ at = omega arith in
     let bytes : List ℕ = pair_bytes (pair_at state at + 1) in
-    ap (λ (i : ℕ). drop (at + n) (sets state i bytes)) (sym z) ∙ ap (drop (at + n)) (sym (sets-own bytes state at n 0 h)) ∙ behind-sets bytes state at n 0
+    let two : length bytes ≡ 2 = unfold pair_bytes in refl in
+    behind-sets bytes state at (at + n) (omega (arith, two, h))
 
 -- a part that is opened: its blocks, and the count 0
-pub opened-part : (state : List ℕ) (at n : ℕ) (blocks : List ℕ) → blocks_begin ≤ n → length blocks ≡ n → at + n ≤ length state
+pub opened-part : (state : List ℕ) (at n : ℕ) (blocks : List ℕ) → length blocks ≡ n → at + n ≤ length state
     → part (opened state at blocks) at n ≡ sets blocks 0 (pair_bytes 0)
 unfolding opened
-opened-part state at n blocks h l r =
-    part_count (sets state at blocks) at n 0 h ∙ ap (λ (x : List ℕ). sets x 0 (pair_bytes 0)) (part-written state blocks at (omega arith) n l)
+opened-part state at n blocks l r =
+    part_count (sets state at blocks) at n 0 ∙ ap (λ (x : List ℕ). sets x 0 (pair_bytes 0)) (part-written state blocks at (omega arith) n l)
 
 -- a raised count changes no length
 pub length-raised : (state : List ℕ) (at : ℕ) → length (raised state at) ≡ length state

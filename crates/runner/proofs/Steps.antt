@@ -14,7 +14,7 @@ use Rattle.styles.specs.StyleCall.{inline_contents}
 use Rattle.styles.specs.declared.settings.Settings.{Settings}
 use Rattle.segments.specs.Sweep.{pair_at}
 use Rattle.runner.specs.State.{part_place}
-use Rattle.styles.specs.Lent.{Page}
+use Rattle.page.specs.Lent.{Page}
 use Rattle.runner.proofs.Handed.{handed-kind, handed-right}
 use Rattle.runner.specs.PageRows.{no_style, row_contents}
 use Rattle.runner.specs.Run.{Stepped, document_step, element_step, open_step, step_on, handed_at}

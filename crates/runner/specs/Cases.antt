@@ -67,7 +67,7 @@ use Rattle.cascade.specs.Record.{main_record, before_record}
 use Rattle.cascade.specs.Row.{slot_width, style_row_width}
 use Rattle.page.specs.Rows.{element_kind, other_kind}
 use Rattle.compiled.specs.Sheet.{CompiledSelector}
-use Rattle.styles.specs.Lent.{Page}
+use Rattle.page.specs.Lent.{Page}
 use Rattle.runner.specs.Run.{Running}
 use Rattle.runner.specs.State.{part_width}
 

@@ -4,7 +4,7 @@ use Rattle.combinators.specs.LeastLengths.{text_least}
 use Rattle.cascade.specs.Row.{style_row_width}
 use Rattle.page.specs.Rows.{node_width, node_count, attribute_width, attribute_rows}
 use Rattle.runner.specs.State.{depths, part_width}
-use Rattle.styles.specs.Lent.{Page}
+use Rattle.page.specs.Lent.{Page}
 
 -- "For inline styles a run takes N as name bytes plus twice the attributes", as lent, what is left over at their ends included
 abbrev pub run_text_bytes : Page → ℕ

@@ -15,7 +15,7 @@ use Rattle.page.specs.PathOf.{element_at, path_of}
 use Rattle.page.specs.Rows.{element_kind, node_at, node_count}
 use Rattle.matching.specs.Specificity.{specificity}
 use Rattle.styles.specs.declared.settings.Settings.{Settings}
-use Rattle.styles.specs.Lent.{Page}
+use Rattle.page.specs.Lent.{Page}
 use Rattle.styles.specs.Said.{rule_style, counted_attributes}
 use Rattle.styles.specs.StyleCall.{inline_contents, placed_attributes}
 use Rattle.runner.specs.Walked.{WalkedSelector, walked, matching_at}

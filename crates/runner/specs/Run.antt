@@ -13,7 +13,7 @@ use Rattle.page.specs.Path.{Attribute, Element}
 use Rattle.page.specs.PathOf.{attributes_from}
 use Rattle.page.specs.Rows.{node_width, attribute_width, other_kind, node_at, node_count, attribute_rows, name_of}
 use Rattle.styles.specs.declared.settings.Settings.{Settings}
-use Rattle.styles.specs.Lent.{Page}
+use Rattle.page.specs.Lent.{Page}
 use Rattle.styles.specs.Merged.{merged_row, late_declared}
 use Rattle.styles.specs.Said.{counted_attributes}
 use Rattle.styles.specs.StyleCall.{inline_contents, placed_attributes}

@@ -17,7 +17,7 @@ use Rattle.page.specs.Rows.{NodeRow, node_count, node_at, attribute_width, attri
 use Rattle.page.proofs.AcceptedPages.{Accepted, accepted}
 use Rattle.page.proofs.RowFacts.{document-zeros, kind-of-row, attributes-lent}
 use Rattle.page.proofs.Sums.{bytes-within, attributes-before-within}
-use Rattle.styles.specs.Lent.{Page}
+use Rattle.page.specs.Lent.{Page}
 use Rattle.styles.specs.Room.{values_of}
 use Rattle.styles.proofs.Room.{attributes-counted, values-short}
 use Rattle.attributes.specs.Merging.{InlineRoom}

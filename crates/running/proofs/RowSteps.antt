@@ -4,15 +4,13 @@ use mathlib.Core.List.{List, [], ◌++◌, append_assoc}
 use Prim.Native.Nat.{ℕ, zero, suc, ◌+◌, ◌-◌, ◌*◌, ◌≤◌, ◌<◌}
 use native.Mathlib.Omega.{arith}
 use borrow.Author.Tests.{lt-ltb, le-ltb, ltb-true}
-use borrow.Rule.Slice.PartMut.{put_mid}
 use lib.Dec.{ltb}
 use lib.ListN.{length, take, drop, length-append, length-take, length-drop}
-use lib.Seq.{sets, sets-eq, length-sets, length-take-le, take_at, drop_at}
+use lib.Seq.{sets, sets-eq, length-sets, length-take-le, take_at, drop_at, drop-drop}
 use Rattle.combinators.specs.Part.{part}
 use Rattle.combinators.proofs.Parts.{part-whole}
 use Rattle.combinators.proofs.Rules.{pick_true, pick-false, pick-holds}
 use Rattle.cascade.specs.Row.{style_row_width, TwoRooms}
-use Rattle.cascade.proofs.Inheriting.{lent_row, row-returned}
 use Rattle.page.specs.Accepted.{node_limit}
 use Rattle.page.specs.Ancestors.{depth_of}
 use Rattle.page.specs.Path.{Attribute, Element}
@@ -20,8 +18,11 @@ use Rattle.page.specs.PathOf.{attributes_from}
 use Rattle.page.specs.Rows.{node_width, node_count, node_at, attribute_width, attribute_rows}
 use Rattle.page.proofs.Ancestry.{depth-most}
 use Rattle.page.proofs.RowFacts.{parent-before, shallow}
+use Rattle.combinators.specs.declared.lent.Stores.{Stores}
 use Rattle.styles.specs.declared.settings.Settings.{Settings}
-use Rattle.styles.specs.Lent.{Page}
+use Rattle.combinators.specs.Lent.{SameStores, SameLengths}
+use Rattle.page.specs.Lent.{Page}
+use Rattle.styles.proofs.KeptStores.{stores-stay, lengths-stay, stores-kept, lengths-kept}
 use Rattle.styles.specs.Room.{values_of}
 use Rattle.styles.specs.StyleCall.{inline_contents}
 use Rattle.styles.proofs.Room.{inline-short}
@@ -119,103 +120,105 @@ module _ {code : List ℕ} {g : Page} {rows₀ state₀ rules₀ tokens₀ brack
   pub node-inside : i * node_width + node_width ≤ length g.nodes
   node-inside = omega (arith, r.there)
 
-  module _ {rows₁ : List ℕ} (e₁ : rows₁ ≡ with_parent g.nodes i rows₀) where
-    -- the parent's row copied, the rows are as long as before
-    long₁ : length rows₁ ≡ length rows₀
-    unfolding with_parent
-    long₁ = ap length e₁ ∙ pick-holds (λ (l : List ℕ). length l ≡ length rows₀) _ _ _ (λ _. length-sets rows₀ place (style_row_at rows₀ (node_at g.nodes i).parent)) (λ _. refl)
+  module _ {first count depth : ℕ} (ef : first ≡ (node_at g.nodes i).first_attribute) (ec : count ≡ (node_at g.nodes i).attribute_count) (ed : depth ≡ depth_of g.nodes i) where
+    abbrev own : List ℕ
+    own = take (first * attribute_width + count * attribute_width - first * attribute_width) (drop (first * attribute_width) g.attributes)
 
-    -- the place of the row lies within them still
-    pub place_still : place + style_row_width ≤ length rows₁
-    place_still = omega (arith, place_inside, long₁)
+    abbrev node : List ℕ
+    node = take (i * node_width + node_width - i * node_width) (drop (i * node_width) g.nodes)
 
-    abbrev lent : List ℕ
-    lent = take (place + style_row_width - place) (drop place rows₁)
+    -- the attribute rows that are lent are the part which the node names
+    own-part : own ≡ part g.attributes ((node_at g.nodes i).first_attribute * attribute_width) ((node_at g.nodes i).attribute_count * attribute_width)
+    own-part =
+        part-whole g.attributes (first * attribute_width) (count * attribute_width)
+        ∙ ap (λ (n : ℕ). part g.attributes (n * attribute_width) (count * attribute_width)) ef
+        ∙ ap (λ (n : ℕ). part g.attributes ((node_at g.nodes i).first_attribute * attribute_width) (n * attribute_width)) ec
 
-    -- the part that is lent is one style row long
-    lent-long : length lent ≡ style_row_width
-    lent-long = ap length (lent_row rows₁ place place_still) ∙ length-take-le style_row_width (drop place rows₁) (omega (arith, place_still, length-drop place rows₁))
+    -- the attributes that are read of them are those of the row
+    own-given : attributes_from own g.text (attribute_rows own) 0 ≡ handed.given r
+    own-given =
+        ap (λ (l : List ℕ). attributes_from l g.text (attribute_rows l) 0) own-part
+        ∙ handed.own-are g.attributes g.text (node_at g.nodes i).first_attribute (node_at g.nodes i).attribute_count (handed.attributes-inside r)
 
-    -- the parent's style row is one style row long, where the parent comes before
-    parent-long : (node_at g.nodes i).parent < i → length (style_row_at rows₀ (node_at g.nodes i).parent) ≡ style_row_width
-    unfolding style_row_at
-    parent-long h =
-        let p : ℕ = (node_at g.nodes i).parent in
-        length-take-le style_row_width (drop (p * style_row_width) rows₀) (omega (arith, h, place_inside, length-drop (p * style_row_width) rows₀))
+    -- what the step is handed
+    handed-is : handed_from node own g.text ≡ handed_at g i
+    unfolding handed_at
+    handed-is =
+        ap (λ (l : List ℕ). handed_from l own g.text) (part-whole g.nodes (i * node_width) node_width)
+        ∙ ap (λ (l : List ℕ). handed_from (part g.nodes (i * node_width) node_width) l g.text) own-part
 
-    -- the part that is lent is the parent's row, where the parent comes before
-    parent-lent : (node_at g.nodes i).parent < i → lent ≡ style_row_at rows₀ (node_at g.nodes i).parent
-    unfolding with_parent
-    parent-lent h =
-        let p : ℕ = (node_at g.nodes i).parent in
-        let xs : List ℕ = style_row_at rows₀ p in
-        let n : length xs ≡ style_row_width = parent-long h in
-        let e : rows₁ ≡ sets rows₀ place xs = e₁ ∙ sym (pick_true _ _ _ _ (lt-ltb p i h) refl) in
-        lent_row rows₁ place place_still
-        ∙ ap (λ (l : List ℕ). take style_row_width (drop place l)) e
-        ∙ ap (take style_row_width) (at_place rows₀ place xs (omega (arith, n, place_inside)))
-        ∙ take_at xs (drop (place + length xs) rows₀) style_row_width n
+    -- what is lent to the step is what it asks for
+    pub step-lent : StepLent code own g.text depth state₀ rules₀ tokens₀ brackets₀ texts₀ fill
+    step-lent =
+        record {
+          sheet = r.ready.sheet;
+          few = r.ready.lengths.few;
+          shallow = rw ed (shallow g.nodes g.attributes g.text (handed.ok r) i r.there);
+          for-state = r.ready.lengths.for-state;
+          for-attributes = rw own-given (handed.attributes-room r);
+        }
 
-    -- the row that comes back stands where it would without the copy
-    row_back : (ys : List ℕ) → length ys ≡ style_row_width → put_mid place (place + style_row_width - place) rows₁ ys ≡ sets rows₀ place ys
-    unfolding with_parent
-    row_back ys n =
-        let p : ℕ = (node_at g.nodes i).parent in
-        let xs : List ℕ = style_row_at rows₀ p in
-        let k : place + length ys ≡ place + style_row_width = omega (arith, n) in
-        let room : place + length ys ≤ length rows₀ = omega (arith, n, place_inside) in
-        let done : take place rows₀ ++ (ys ++ drop (place + style_row_width) rows₀) ≡ sets rows₀ place ys = ap (λ (m : ℕ). take place rows₀ ++ (ys ++ drop m rows₀)) (sym k) ∙ sym (stored rows₀ place ys room) in
-        let P : List ℕ → Type 0 = λ l. take place l ++ (ys ++ drop (place + style_row_width) l) ≡ sets rows₀ place ys in
-        row-returned rows₁ place place_still ys
-        ∙ ap (λ (l : List ℕ). take place l ++ (ys ++ drop (place + style_row_width) l)) e₁
-        ∙ pick-holds P (ltb p i) (sets rows₀ place xs) rows₀
-        (λ t. let h : p < i = ltb-true _ _ t in
-        let m : length xs ≡ style_row_width = parent-long h in
-        let q : place + length xs ≤ length rows₀ = omega (arith, m, place_inside) in
-        let f : drop (place + style_row_width) (sets rows₀ place xs) ≡ drop (place + style_row_width) rows₀ = rw m at (behind rows₀ place xs q) in
-        ap (λ (l : List ℕ). l ++ (ys ++ drop (place + style_row_width) (sets rows₀ place xs))) (front rows₀ place xs q)
-        ∙ ap (λ (l : List ℕ). take place rows₀ ++ (ys ++ l)) f
-        ∙ done)
-        (λ _. done)
+    -- the rows are split where the row begins, and of those from there on the first is lent
+    module _ {rows₁ above from_place lent : List ℕ} (e₁ : rows₁ ≡ with_parent g.nodes i rows₀) (ea : above ≡ take place rows₁) (eb : from_place ≡ drop place rows₁) (el : lent ≡ take style_row_width from_place) where
+      -- the parent's row copied, the rows are as long as before
+      long₁ : length rows₁ ≡ length rows₀
+      unfolding with_parent
+      long₁ = ap length e₁ ∙ pick-holds (λ (l : List ℕ). length l ≡ length rows₀) _ _ _ (λ _. length-sets rows₀ place (style_row_at rows₀ (node_at g.nodes i).parent)) (λ _. refl)
 
-    module _ {first count depth : ℕ} (ef : first ≡ (node_at g.nodes i).first_attribute) (ec : count ≡ (node_at g.nodes i).attribute_count) (ed : depth ≡ depth_of g.nodes i) where
-      abbrev own : List ℕ
-      own = take (first * attribute_width + count * attribute_width - first * attribute_width) (drop (first * attribute_width) g.attributes)
+      -- the place of the row lies within them still
+      place_still : place + style_row_width ≤ length rows₁
+      place_still = omega (arith, place_inside, long₁)
 
-      abbrev node : List ℕ
-      node = take (i * node_width + node_width - i * node_width) (drop (i * node_width) g.nodes)
+      -- the parent's style row is one style row long, where the parent comes before
+      parent-long : (node_at g.nodes i).parent < i → length (style_row_at rows₀ (node_at g.nodes i).parent) ≡ style_row_width
+      unfolding style_row_at
+      parent-long h =
+          let p : ℕ = (node_at g.nodes i).parent in
+          length-take-le style_row_width (drop (p * style_row_width) rows₀) (omega (arith, h, place_inside, length-drop (p * style_row_width) rows₀))
 
-      -- the attribute rows that are lent are the part which the node names
-      own-part : own ≡ part g.attributes ((node_at g.nodes i).first_attribute * attribute_width) ((node_at g.nodes i).attribute_count * attribute_width)
-      own-part =
-          part-whole g.attributes (first * attribute_width) (count * attribute_width)
-          ∙ ap (λ (n : ℕ). part g.attributes (n * attribute_width) (count * attribute_width)) ef
-          ∙ ap (λ (n : ℕ). part g.attributes ((node_at g.nodes i).first_attribute * attribute_width) (n * attribute_width)) ec
+      -- the row that is lent is the parent's row, where the parent comes before
+      parent-lent : (node_at g.nodes i).parent < i → lent ≡ style_row_at rows₀ (node_at g.nodes i).parent
+      unfolding with_parent
+      parent-lent h =
+          let p : ℕ = (node_at g.nodes i).parent in
+          let xs : List ℕ = style_row_at rows₀ p in
+          let n : length xs ≡ style_row_width = parent-long h in
+          let e : rows₁ ≡ sets rows₀ place xs = e₁ ∙ sym (pick_true _ _ _ _ (lt-ltb p i h) refl) in
+          el ∙ ap (take style_row_width) eb
+          ∙ ap (λ (l : List ℕ). take style_row_width (drop place l)) e
+          ∙ ap (take style_row_width) (at_place rows₀ place xs (omega (arith, n, place_inside)))
+          ∙ take_at xs (drop (place + length xs) rows₀) style_row_width n
 
-      -- the attributes that are read of them are those of the row
-      own-given : attributes_from own g.text (attribute_rows own) 0 ≡ handed.given r
-      own-given =
-          ap (λ (l : List ℕ). attributes_from l g.text (attribute_rows l) 0) own-part
-          ∙ handed.own-are g.attributes g.text (node_at g.nodes i).first_attribute (node_at g.nodes i).attribute_count (handed.attributes-inside r)
+      -- the rows as long as before, the row that comes back is one style row long
+      one-row : (ys : List ℕ) → length (above ++ (ys ++ drop style_row_width from_place)) ≡ length rows₀ → length ys ≡ style_row_width
+      one-row ys whole =
+          let a : length above ≡ place = ap length ea ∙ length-take-le place rows₁ (omega (arith, place_still)) in
+          let b : length from_place ≡ length rows₁ - place = ap length eb ∙ length-drop place rows₁ in
+          omega (arith, whole, a, b, long₁, place_inside, length-append above (ys ++ drop style_row_width from_place), length-append ys (drop style_row_width from_place), length-drop style_row_width from_place)
 
-      -- what the step is handed
-      handed-is : handed_from node own g.text ≡ handed_at g i
-      unfolding handed_at
-      handed-is =
-          ap (λ (l : List ℕ). handed_from l own g.text) (part-whole g.nodes (i * node_width) node_width)
-          ∙ ap (λ (l : List ℕ). handed_from (part g.nodes (i * node_width) node_width) l g.text) own-part
-
-      -- what is lent to the step is what it asks for
-      pub step-lent : StepLent code own g.text depth lent state₀ rules₀ tokens₀ brackets₀ texts₀ fill
-      step-lent =
-          record {
-            sheet = r.ready.sheet;
-            few = r.ready.lengths.few;
-            shallow = rw ed (shallow g.nodes g.attributes g.text (handed.ok r) i r.there);
-            one-row = lent-long;
-            for-state = r.ready.lengths.for-state;
-            for-attributes = rw own-given (handed.attributes-room r);
-          }
+      -- the row that comes back stands where it would without the copy
+      row_back : (ys : List ℕ) → length (above ++ (ys ++ drop style_row_width from_place)) ≡ length rows₀ → above ++ (ys ++ drop style_row_width from_place) ≡ sets rows₀ place ys
+      unfolding with_parent
+      row_back ys whole =
+          let n : length ys ≡ style_row_width = one-row ys whole in
+          let p : ℕ = (node_at g.nodes i).parent in
+          let xs : List ℕ = style_row_at rows₀ p in
+          let k : place + length ys ≡ place + style_row_width = omega (arith, n) in
+          let room : place + length ys ≤ length rows₀ = omega (arith, n, place_inside) in
+          let done : take place rows₀ ++ (ys ++ drop (place + style_row_width) rows₀) ≡ sets rows₀ place ys = ap (λ (m : ℕ). take place rows₀ ++ (ys ++ drop m rows₀)) (sym k) ∙ sym (stored rows₀ place ys room) in
+          let split : above ++ (ys ++ drop style_row_width from_place) ≡ take place rows₁ ++ (ys ++ drop (place + style_row_width) rows₁) = rw (ea, eb, drop-drop style_row_width place rows₁) in
+          let P : List ℕ → Type 0 = λ l. take place l ++ (ys ++ drop (place + style_row_width) l) ≡ sets rows₀ place ys in
+          split
+          ∙ ap (λ (l : List ℕ). take place l ++ (ys ++ drop (place + style_row_width) l)) e₁
+          ∙ pick-holds P (ltb p i) (sets rows₀ place xs) rows₀
+          (λ t. let h : p < i = ltb-true _ _ t in
+          let m : length xs ≡ style_row_width = parent-long h in
+          let q : place + length xs ≤ length rows₀ = omega (arith, m, place_inside) in
+          let f : drop (place + style_row_width) (sets rows₀ place xs) ≡ drop (place + style_row_width) rows₀ = rw m at (behind rows₀ place xs q) in
+          ap (λ (l : List ℕ). l ++ (ys ++ drop (place + style_row_width) (sets rows₀ place xs))) (front rows₀ place xs q)
+          ∙ ap (λ (l : List ℕ). take place rows₀ ++ (ys ++ l)) f
+          ∙ done)
+          (λ _. done)
 
       abbrev meant : Settings → Stepped
       meant settings = step_on code settings (handed_from node own g.text) depth lent state₀ (take fill texts₀)
@@ -238,12 +241,13 @@ module _ {code : List ℕ} {g : Page} {rows₀ state₀ rules₀ tokens₀ brack
               ap (λ (l : List ℕ). step_on code settings (handed_at g i) (depth_of g.nodes i) l state₀ (take fill texts₀))
               (parent-lent (parent-before g.nodes g.attributes g.text (handed.ok r) i r.there (omega (arith, e))))
 
-      module _ (settings : Settings) (ys s t : List ℕ) (n : ℕ) (long : length ys ≡ length lent) (es : record { row = ys; state = s; texts = take n t } ≡ meant settings) (within : n ≤ length t) where
-        -- what is left of the row
-        pub row-run : record { rows = put_mid place (place + style_row_width - place) rows₁ ys; state = s; texts = take n t } ≡ run_step code settings g i (record { rows = rows₀; state = state₀; texts = take fill texts₀ })
+      module _ (settings : Settings) (ys s t : List ℕ) (n : ℕ) (es : record { row = ys; state = s; texts = take n t } ≡ meant settings) (within : n ≤ length t) where
+        -- what is left of the row, the rows as long as before
+        pub row-run : length (above ++ (ys ++ drop style_row_width from_place)) ≡ length rows₀
+            → record { rows = above ++ (ys ++ drop style_row_width from_place); state = s; texts = take n t } ≡ run_step code settings g i (record { rows = rows₀; state = state₀; texts = take fill texts₀ })
         unfolding run_step
-        row-run =
-            ap (λ (l : List ℕ). record { rows = l; state = s; texts = take n t }) (row_back ys (long ∙ lent-long))
+        row-run long =
+            ap (λ (l : List ℕ). record { rows = l; state = s; texts = take n t }) (row_back ys long)
             ∙ ap (λ (x : Stepped). record { rows = sets rows₀ place x.row; state = x.state; texts = x.texts }) (es ∙ meant_is settings)
 
         -- the texts up to the next row
@@ -258,10 +262,6 @@ module _ {code : List ℕ} {g : Page} {rows₀ state₀ rules₀ tokens₀ brack
             let va : values_of (attributes_from own g.text (attribute_rows own) 0) ≡ values_of (handed.given r) = ap values_of own-given in
             let la : length (attributes_from own g.text (attribute_rows own) 0) ≡ length (handed.given r) = ap (λ (l : List Attribute). length l) own-given in
             rw z (omega (arith, a, b, c, f, va, la, r.filled, handed.texts-grow r))
-
-        -- with the row put back, the rows are as long as before
-        pub row-long : length (put_mid place (place + style_row_width - place) rows₁ ys) ≡ length rows₀
-        row-long = ap length (row_back ys (long ∙ lent-long)) ∙ length-sets rows₀ place ys
 
 -- ---- the loop over the rows of a page
 module _ (code : List ℕ) (settings : Settings) (g : Page) where
@@ -316,63 +316,55 @@ still-ready r er es eu et eb ex =
     }
 
 -- ---- what holds between two rows: the work left from here is the whole work
-pub record Looping (code : List ℕ) (settings : Settings) (g : Page) (rows₀ state₀ rules₀ tokens₀ brackets₀ texts₀ rows state rules₁ tokens brackets texts : List ℕ) (fill i : ℕ) : Type 0 where
-  pub left : run_from code settings g (node_count g.nodes - i) i (record { rows = rows; state = state; texts = take fill texts }) ≡ run_of code settings g rows₀ state₀
-  pub within : fill ≤ length texts
+pub record Looping (code : List ℕ) (settings : Settings) (g : Page) (rows₀ state₀ : List ℕ) (s₀ : Stores) (rows state : List ℕ) (s : Stores) (fill i : ℕ) : Type 0 where
+  pub left : run_from code settings g (node_count g.nodes - i) i (record { rows = rows; state = state; texts = take fill s.texts.now }) ≡ run_of code settings g rows₀ state₀
+  pub within : fill ≤ length s.texts.now
   pub filled : fill ≤ texts_most g i
   pub rows_long : length rows ≡ length rows₀
   pub state-long : length state ≡ length state₀
-  pub rules-long : length rules₁ ≡ length rules₀
-  pub tokens-long : length tokens ≡ length tokens₀
-  pub brackets-long : length brackets ≡ length brackets₀
-  pub texts-long : length texts ≡ length texts₀
+  pub lengths : SameLengths s₀ s
+  pub same : SameStores s₀ s
 
 -- before the first row nothing is filled, and the whole run is left
-pub begins : (code : List ℕ) (settings : Settings) (g : Page) (rows state rules₀ tokens brackets texts : List ℕ)
-    → Looping code settings g rows state rules₀ tokens brackets texts rows state rules₀ tokens brackets texts 0 0
-begins code settings g rows state rules₀ tokens brackets texts =
+pub begins : (code : List ℕ) (settings : Settings) (g : Page) (rows state : List ℕ) (s : Stores) → Looping code settings g rows state s rows state s 0 0
+begins code settings g rows state s =
     record {
-      left = run-begins code settings g rows state texts;
+      left = run-begins code settings g rows state s.texts.now;
       within = omega arith;
       filled = omega arith;
       rows_long = refl;
       state-long = refl;
-      rules-long = refl;
-      tokens-long = refl;
-      brackets-long = refl;
-      texts-long = refl;
+      lengths = lengths-stay s;
+      same = stores-stay s;
     }
 
-module _ {code : List ℕ} {settings : Settings} {g : Page} {rows₀ state₀ rules₀ tokens₀ brackets₀ texts₀ rows₁ state₁ rules₁ tokens₁ brackets₁ texts₁ : List ℕ} {fill i : ℕ}
-    (v : Looping code settings g rows₀ state₀ rules₀ tokens₀ brackets₀ texts₀ rows₁ state₁ rules₁ tokens₁ brackets₁ texts₁ fill i) where
+module _ {code : List ℕ} {settings : Settings} {g : Page} {rows₀ state₀ : List ℕ} {s₀ : Stores} {rows₁ state₁ : List ℕ} {s₁ : Stores} {fill i : ℕ} (v : Looping code settings g rows₀ state₀ s₀ rows₁ state₁ s₁ fill i) where
   -- a row that is there is next
-  pub row-ready : RunReady code g rows₀ state₀ rules₀ tokens₀ brackets₀ texts₀ → (count : ℕ) → count ≡ node_count g.nodes → i < count → RowReady code g rows₁ state₁ rules₁ tokens₁ brackets₁ texts₁ i fill
+  pub row-ready : RunReady code g rows₀ state₀ s₀.rules.now s₀.tokens.now s₀.brackets.now s₀.texts.now → (count : ℕ) → count ≡ node_count g.nodes → i < count → RowReady code g rows₁ state₁ s₁.rules.now s₁.tokens.now s₁.brackets.now s₁.texts.now i fill
   row-ready r count e h =
       record {
-        ready = still-ready r v.rows_long v.state-long v.rules-long v.tokens-long v.brackets-long v.texts-long;
+        ready = still-ready r v.rows_long v.state-long v.lengths.rules v.lengths.tokens v.lengths.brackets v.lengths.texts;
         there = omega (arith, e, h);
         filled = v.filled;
       }
 
   -- behind a step the loop's invariant holds for the next row
-  pub again : (count : ℕ) → count ≡ node_count g.nodes → i < count → (n : ℕ) (rows state rules₂ tokens brackets texts : List ℕ)
-      → record { rows = rows; state = state; texts = take n texts } ≡ run_step code settings g i (record { rows = rows₁; state = state₁; texts = take fill texts₁ })
-      → n ≤ length texts → n ≤ texts_most g (i + 1)
-      → length rows ≡ length rows₁ → length state ≡ length state₁ → length rules₂ ≡ length rules₁ → length tokens ≡ length tokens₁ → length brackets ≡ length brackets₁ → length texts ≡ length texts₁
-      → Looping code settings g rows₀ state₀ rules₀ tokens₀ brackets₀ texts₀ rows state rules₂ tokens brackets texts n (i + 1)
-  again count ec h n rows state rules₂ tokens brackets texts e w f er es eu et eb ex =
+  pub again : (count : ℕ) → count ≡ node_count g.nodes → i < count → (n : ℕ) (rows state : List ℕ) (s : Stores)
+      → record { rows = rows; state = state; texts = take n s.texts.now } ≡ run_step code settings g i (record { rows = rows₁; state = state₁; texts = take fill s₁.texts.now })
+      → n ≤ length s.texts.now → n ≤ texts_most g (i + 1)
+      → length rows ≡ length rows₁ → length state ≡ length state₁ → SameLengths s₁ s → SameStores s₁ s
+      → Looping code settings g rows₀ state₀ s₀ rows state s n (i + 1)
+  again count ec h n rows state s e w f er es l z =
       record {
-        left = run_more code settings g i (record { rows = rows₁; state = state₁; texts = take fill texts₁ }) (record { rows = rows; state = state; texts = take n texts }) (run_of code settings g rows₀ state₀) (omega (arith, ec, h)) e v.left;
+        left = run_more code settings g i (record { rows = rows₁; state = state₁; texts = take fill s₁.texts.now }) (record { rows = rows; state = state; texts = take n s.texts.now }) (run_of code settings g rows₀ state₀) (omega (arith, ec, h)) e v.left;
         within = w;
         filled = f;
         rows_long = er ∙ v.rows_long;
         state-long = es ∙ v.state-long;
-        rules-long = eu ∙ v.rules-long;
-        tokens-long = et ∙ v.tokens-long;
-        brackets-long = eb ∙ v.brackets-long;
-        texts-long = ex ∙ v.texts-long;
+        lengths = lengths-kept _ _ _ v.lengths l;
+        same = stores-kept _ _ _ v.same z;
       }
 
   -- behind the last row what the loop has is the whole run
-  pub ends : (count : ℕ) → count ≡ node_count g.nodes → count ≤ i → record { rows = rows₁; state = state₁; texts = take fill texts₁ } ≡ run_of code settings g rows₀ state₀
-  ends count ec h = run-done code settings g i (record { rows = rows₁; state = state₁; texts = take fill texts₁ }) (run_of code settings g rows₀ state₀) (omega (arith, ec, h)) v.left
+  pub ends : (count : ℕ) → count ≡ node_count g.nodes → count ≤ i → record { rows = rows₁; state = state₁; texts = take fill s₁.texts.now } ≡ run_of code settings g rows₀ state₀
+  ends count ec h = run-done code settings g i (record { rows = rows₁; state = state₁; texts = take fill s₁.texts.now }) (run_of code settings g rows₀ state₀) (omega (arith, ec, h)) v.left

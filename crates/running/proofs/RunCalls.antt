@@ -2,41 +2,64 @@
 use mathlib.Core.Path.{◌≡◌, refl, ap, ap₂, sym, ◌∙◌}
 use mathlib.Core.Bool.{Bool, true, false}
 use mathlib.Core.List.{List, ◌++◌}
-use Prim.Native.Nat.{ℕ, suc, ◌+◌, ◌-◌, ◌*◌, ◌/◌, ◌^◌, ◌≤◌, ◌<◌}
+use Prim.Native.Nat.{ℕ, ◌+◌, ◌-◌, ◌*◌, ◌/◌, ◌^◌, ◌≤◌, ◌<◌}
 use native.Mathlib.Omega.{arith}
 use borrow.Author.Tests.{leb-true, lt-ltb, le-ltb}
 use lib.Dec.{leb}
 use lib.ListN.{length, take, replicate}
 use lib.Seq.{length-take-le}
-use Rattle.combinators.specs.Choice.{and}
+use Rattle.combinators.specs.Choice.{and, is}
 use Rattle.combinators.specs.LeastLengths.{stores_suffice}
-use Rattle.combinators.specs.Refusal.{no_refusal, refused, refused_at, too_long, short_store, bad_row, bad_text, bad_bytes}
+use Rattle.combinators.specs.Refusal.{no_refusal, refused_at, bad_bytes}
 use Rattle.combinators.specs.declared.refusals.Refusal.{Refusal}
 use Rattle.combinators.specs.Store.{cleared}
 use Rattle.combinators.proofs.Cleared.{cleared-is}
 use Rattle.combinators.proofs.LeastLaws.{least}
-use Rattle.combinators.proofs.Rules.{pick_true, pick-false, pick-holds, and-true, is-yes, is-no}
+use Rattle.combinators.proofs.Rules.{pick_true, pick-false, and-true, is-yes, is-no}
 use Rattle.sheets.specs.SheetAnswer.{padded}
 use Rattle.cascade.specs.Row.{style_row_width}
-use Rattle.page.specs.Accepted.{first_bad_row, first_bad_text, refused_row, rows_refusal, page_refusal}
+use Rattle.page.specs.Accepted as page
+use Rattle.page.specs.Accepted.{error_refusal, page_refusal}
+use Rattle.page.specs.declared.check.PageError.{PageError}
+use Rattle.page.specs.declared.check.PageError.TheVariants as error
 use Rattle.page.specs.Rows.{node_count, attribute_width}
 use Rattle.page.proofs.AcceptedPages.{accepted}
-use Rattle.std.proofs.Common.{Option, Some, None, Result, Ok, Err}
-use Rattle.compiled.specs.Answer.{refusal_of, bytes_refusal}
+use Rattle.std.proofs.Common.{Result, Ok, Err}
+use Rattle.std.specs.Result.{IsErrAnd}
+use Rattle.compiled.specs.Answer as compiled
+use Rattle.compiled.specs.Answer.{bytes_refusal}
 use Rattle.compiled.specs.declared.places.Fault.{Fault}
-use Rattle.compiled.specs.Decoded.{Decoded, read, fault, on_decoded}
-use Rattle.compiled.specs.Sheet.{compiled_limit, CompiledSelector, decode}
+use Rattle.compiled.specs.Sheet.{compiled_limit}
 use Rattle.styles.specs.declared.settings.Settings.{Settings}
-use Rattle.styles.specs.Lent.{Page}
+use Rattle.page.specs.Lent.{Page}
 use Rattle.runner.specs.LeastLengths.{rows_least}
 use Rattle.runner.specs.PageRows.{page_contents, rows_before, page_rows}
 use Rattle.runner.specs.Run.{Running, run_of}
 use Rattle.runner.specs.State.{depths}
 use Rattle.runner.proofs.PageRowLaws.{rows_long}
 use Rattle.runner.proofs.RunRows.{run-rows}
-use Rattle.running.specs.declared.run.RunAnswer.{RunAnswer}
+use Rattle.running.specs.declared.run.RunError.{RunError}
+use Rattle.running.specs.declared.run.RunError.TheVariants.{TooLong, ShortStore, BadPage, BadBytes}
 use Rattle.running.specs.Ready.{Lengths, RunReady}
-use Rattle.running.specs.RunAnswer.{RunLeft, unchanged, ran, run_suffices, run_by, run_call}
+use Rattle.running.specs.RunAnswer.{RunAnswer, RunLeft, run_refusal, numbers_of, unchanged, ran, run_suffices, run_by, run_call}
+
+-- ---- answers in numbers
+-- those of a page that was styled
+pub styled-numbers : (texts : ℕ) → numbers_of (Ok texts) ≡ record { refusal = no_refusal; texts = texts }
+unfolding numbers_of
+styled-numbers texts = refl
+
+-- those of a refusal
+refused-numbers : (e : RunError) → numbers_of (Err e) ≡ record { refusal = run_refusal e; texts = 0 }
+unfolding numbers_of
+refused-numbers e = refl
+
+-- no error of a page has the number 0
+error-loud : (e : PageError) → ¬ ((error_refusal e).number ≡ 0)
+unfolding error_refusal
+error-loud error.TooLarge n = omega (arith, n)
+error-loud (error.BadRow row) n = omega (arith, n)
+error-loud (error.BadText row) n = omega (arith, n)
 
 -- ---- the answer and the six buffers, one by one
 -- what is left is the same where the answer and each of the six buffers are
@@ -93,104 +116,76 @@ module _ (settings : Settings) {code : List ℕ} {g : Page} {rows₀ state₀ ru
       (cleared-throughout tokens₁ tokens₀ tokens₂ lk ek)
       (cleared-throughout brackets₁ brackets₀ brackets₂ lb eb)
 
--- ---- a refusal whose number is 0 is none
-unfoldable Quiet : Refusal → Type 0
-Quiet r = r.number ≡ 0 → r ≡ no_refusal
-
--- a refusal whose number is not 0 is quiet: nothing is asked of it
-loud : (n place : ℕ) → Quiet (record { number = suc n; text = 0; place = place })
-unfolding Quiet
-loud n place e = absurd (omega (arith, e))
-
--- a refusal of a row has none either, and where there is no row, what comes behind decides
-row-quiet : (n : ℕ) (o : Option ℕ) (r : Refusal) → 0 < n → Quiet r → Quiet (refused_row n o r)
-unfolding refused_row Quiet
-row-quiet n (Some row) r h q = λ (e : n ≡ 0). absurd (omega arith)
-row-quiet n None r h q = q
-
--- a page that is refused with number 0 is not refused
-page-quiet : (nodes attributes text : List ℕ) → Quiet (page_refusal nodes attributes text)
-unfolding page_refusal rows_refusal Quiet
-page-quiet nodes attributes text =
-    pick-holds Quiet _ _ _
-    (λ _. pick-holds Quiet _ _ _ (λ _. loud _ _)
-    (λ _. row-quiet bad_row (first_bad_row nodes attributes) _ (omega arith) (row-quiet bad_text (first_bad_text nodes attributes text) _ (omega arith) (λ e. refl))))
-    (λ _. loud _ _)
-
--- bytes that are refused with number 0 are not refused
-bytes-quiet : (code : List ℕ) → Quiet (bytes_refusal code)
-unfolding bytes_refusal
-bytes-quiet code = go (decode code)
-  where
-    go : (d : Decoded (List CompiledSelector)) → Quiet (on_decoded d (λ _ _. no_refusal) (λ p. refused_at bad_bytes p))
-    go (read n ss) = unfold on_decoded Quiet in (λ _. refl)
-    go (fault p) = unfold on_decoded in loud _ p
-
--- ---- what `check_sheet` answers
-module _ (code : List ℕ) (r : Result Unit Fault) (e : refusal_of r ≡ bytes_refusal code) where
-  -- a fault is refused at its place
-  pub told-fault : (f : Fault) → r ≡ Err f → refused_at bad_bytes f.place ≡ bytes_refusal code
-  unfolding refusal_of
-  told-fault f p = ap refusal_of (sym p) ∙ e
-
-  -- a sheet is not refused
-  pub told-sheet : (u : Unit) → r ≡ Ok u → no_refusal ≡ bytes_refusal code
-  unfolding refusal_of
-  told-sheet u p = ap refusal_of (sym p) ∙ e
-
+-- ---- the refusals
 module _ (rows₀ texts₀ state₀ rules₀ tokens₀ brackets₀ code : List ℕ) (settings : Settings) (g : Page) where
   abbrev refuses : RunAnswer → RunLeft
   refuses a = record { answer = a; rows = rows₀; texts = texts₀; state = state₀; rules = rules₀; tokens = tokens₀; brackets = brackets₀ }
 
-  -- a refusal leaves all buffers as they were, by an answer with that refusal and no texts
-  refused_as : {a : RunAnswer} {q q' : Refusal} → q ≡ q' → a ≡ record { refusal = q; texts = 0 } → refuses a ≡ unchanged rows₀ texts₀ state₀ rules₀ tokens₀ brackets₀ q'
+  -- an error leaves all buffers as they were
+  refused_as : {q : Refusal} (e : RunError) → run_refusal e ≡ q → refuses (numbers_of (Err e)) ≡ unchanged rows₀ texts₀ state₀ rules₀ tokens₀ brackets₀ q
   unfolding unchanged
-  refused_as eq ea = left_by (ea ∙ ap (λ (z : Refusal). record { refusal = z; texts = 0 }) eq) refl refl refl refl refl refl
+  refused_as e eq = left_by (refused-numbers e ∙ ap (λ (z : Refusal). record { refusal = z; texts = 0 }) eq) refl refl refl refl refl refl
 
   -- ---- a page and bytes that are refused or not
-  module _ (l : Lengths code g rows₀ state₀ rules₀ tokens₀ brackets₀ texts₀) {p : Refusal} (ep : p ≡ page_refusal g.nodes g.attributes g.text) where
-    abbrev Checked : RunLeft → Type 0
-    Checked z = z ≡ run_by rows₀ texts₀ state₀ rules₀ tokens₀ brackets₀ code settings g (page_refusal g.nodes g.attributes g.text) (bytes_refusal code)
+  abbrev Checked : RunLeft → Type 0
+  Checked z = z ≡ run_by rows₀ texts₀ state₀ rules₀ tokens₀ brackets₀ code settings g (page_refusal g.nodes g.attributes g.text) (bytes_refusal code)
 
-    -- the return where the page is refused
-    pub page-refused : ¬ (p.number ≡ 0) → {a : RunAnswer} → a ≡ record { refusal = p; texts = 0 } → Checked (refuses a)
-    unfolding run_by
-    page-refused h ea = pick-false _ _ _ _ (is-no _ _ (λ e. h (ap (λ (q : Refusal). q.number) ep ∙ e))) (refused_as ep ea)
+  abbrev PageAnswer : Result Unit PageError → Type 0
+  PageAnswer p = page.refusal_of p ≡ page_refusal g.nodes g.attributes g.text
 
-    module _ (h : p.number ≡ 0) {b : Refusal} (eb : b ≡ bytes_refusal code) where
-      -- the definition refuses the page with number 0 too
-      page-number : (page_refusal g.nodes g.attributes g.text).number ≡ 0
-      page-number = ap (λ (q : Refusal). q.number) (sym ep) ∙ h
+  abbrev BytesAnswer : Result Unit Fault → Type 0
+  BytesAnswer b = compiled.refusal_of b ≡ bytes_refusal code
 
-      -- the return where the page is not refused, and the bytes are
-      pub bytes-refused : ¬ (b.number ≡ 0) → {a : RunAnswer} → a ≡ record { refusal = b; texts = 0 } → Checked (refuses a)
-      unfolding run_by
-      bytes-refused k ea =
-          pick_true _ _ _ _ (is-yes _ _ page-number) (pick-false _ _ _ _ (is-no _ _ (λ e. k (ap (λ (q : Refusal). q.number) eb ∙ e))) (refused_as eb ea))
+  -- the return where the page is refused: its error becomes the run's
+  pub page-refused : {p : Result Unit PageError} {e : PageError} → PageAnswer p → p ≡ Err e → (o : Result ℕ RunError) → IsErrAnd o (λ q. q ≡ BadPage e) → Checked (refuses (numbers_of o))
+  unfolding run_by run_refusal page.refusal_of
+  page-refused {p} {e} ep was (Err q) h =
+      let is : error_refusal e ≡ page_refusal g.nodes g.attributes g.text = ap page.refusal_of (sym was) ∙ ep in
+      pick-false _ _ _ _ (is-no _ _ (λ n. error-loud e (ap (λ (r : Refusal). r.number) is ∙ n))) (refused_as q (ap run_refusal h ∙ is))
+  page-refused ep was (Ok n) h = absurd h
 
-      module _ (k : b.number ≡ 0) where
-        -- the definition refuses the bytes with number 0 too
-        bytes-number : (bytes_refusal code).number ≡ 0
-        bytes-number = ap (λ (q : Refusal). q.number) (sym eb) ∙ k
+  -- a page that is accepted is refused by no definition
+  page-passed : {p : Result Unit PageError} → PageAnswer p → p ≡ Ok tt → no_refusal ≡ page_refusal g.nodes g.attributes g.text
+  unfolding page.refusal_of
+  page-passed ep passed = ap page.refusal_of (sym passed) ∙ ep
 
-        -- with neither refused, what a run asks for is there
-        pub all-ready : RunReady code g rows₀ state₀ rules₀ tokens₀ brackets₀ texts₀
-        unfolding Quiet
-        all-ready = record { sheet = bytes-quiet code bytes-number; page = page-quiet g.nodes g.attributes g.text page-number; lengths = l }
+  page-number : {p : Result Unit PageError} → PageAnswer p → p ≡ Ok tt → is (page_refusal g.nodes g.attributes g.text).number no_refusal.number ≡ true
+  page-number ep passed = is-yes _ _ (ap (λ (q : Refusal). q.number) (sym (page-passed ep passed)))
 
-        -- the return where neither is refused: the run of the page is what is left
-        pub page-run : {z : RunLeft} → z ≡ ran rows₀ texts₀ state₀ rules₀ tokens₀ brackets₀ code settings g → Checked z
-        unfolding run_by
-        page-run e = pick_true _ _ _ _ (is-yes _ _ page-number) (pick_true _ _ _ _ (is-yes _ _ bytes-number) e)
+  -- nor are bytes that are a sheet
+  bytes-passed : {b : Result Unit Fault} → BytesAnswer b → b ≡ Ok tt → no_refusal ≡ bytes_refusal code
+  unfolding compiled.refusal_of
+  bytes-passed eb sheet = ap compiled.refusal_of (sym sheet) ∙ eb
+
+  -- the return where the page is not refused, and the bytes are
+  pub bytes-refused : {p : Result Unit PageError} {b : Result Unit Fault} {f : Fault} → PageAnswer p → p ≡ Ok tt → BytesAnswer b → b ≡ Err f
+      → (o : Result ℕ RunError) → IsErrAnd o (λ q. q ≡ BadBytes f) → Checked (refuses (numbers_of o))
+  unfolding run_by run_refusal compiled.refusal_of
+  bytes-refused {p} {b} {f} ep passed eb was (Err q) h =
+      let is : refused_at bad_bytes f.place ≡ bytes_refusal code = ap compiled.refusal_of (sym was) ∙ eb in
+      pick_true _ _ _ _ (page-number ep passed)
+      (pick-false _ _ _ _ (is-no _ _ (λ n. let k : bad_bytes ≡ 0 = ap (λ (r : Refusal). r.number) is ∙ n in omega (arith, k))) (refused_as q (ap run_refusal h ∙ is)))
+  bytes-refused ep passed eb was (Ok n) h = absurd h
+
+  -- with neither refused, what a run asks for is there
+  pub all-ready : Lengths code g rows₀ state₀ rules₀ tokens₀ brackets₀ texts₀ → {p : Result Unit PageError} {b : Result Unit Fault} → PageAnswer p → p ≡ Ok tt → BytesAnswer b → b ≡ Ok tt
+      → RunReady code g rows₀ state₀ rules₀ tokens₀ brackets₀ texts₀
+  all-ready l ep passed eb sheet = record { sheet = sym (bytes-passed eb sheet); page = sym (page-passed ep passed); lengths = l }
+
+  -- the return where neither is refused: the run of the page is what is left
+  pub page-run : {p : Result Unit PageError} {b : Result Unit Fault} → PageAnswer p → p ≡ Ok tt → BytesAnswer b → b ≡ Ok tt
+      → {z : RunLeft} → z ≡ ran rows₀ texts₀ state₀ rules₀ tokens₀ brackets₀ code settings g → Checked z
+  unfolding run_by
+  page-run ep passed eb sheet e = pick_true _ _ _ _ (page-number ep passed) (pick_true _ _ _ _ (is-yes _ _ (ap (λ (q : Refusal). q.number) (sym (bytes-passed eb sheet)))) e)
 
   -- ---- the call, in the order of the refusals
   abbrev Called : RunLeft → Type 0
   Called z = z ≡ run_call rows₀ texts₀ state₀ rules₀ tokens₀ brackets₀ code settings g
 
   -- the return where the compiled bytes are too long
-  pub too_long_lem : compiled_limit < length code → {a : RunAnswer} {q : Refusal} → q ≡ refused too_long → a ≡ record { refusal = q; texts = 0 } → Called (refuses a)
-  unfolding run_call
-  too_long_lem h eq ea = pick_true _ _ _ _ (lt-ltb compiled_limit (length code) h) (refused_as eq ea)
+  pub too_long_lem : compiled_limit < length code → Called (refuses (numbers_of (Err TooLong)))
+  unfolding run_call run_refusal
+  too_long_lem h = pick_true _ _ _ _ (lt-ltb compiled_limit (length code) h) (refused_as TooLong refl)
 
   module _ (h : length code ≤ compiled_limit) (count : ℕ) (ec : count ≡ node_count g.nodes) {v : Bool}
       (ev : v ≡ and (leb (count * style_row_width) (length rows₀)) (and (leb (depths * (length code + 1)) (length state₀)) (stores_suffice (length g.text + 2 * (length g.attributes / attribute_width)) (length rules₀) (length tokens₀) (length brackets₀) (length texts₀)))) where
@@ -202,9 +197,9 @@ module _ (rows₀ texts₀ state₀ rules₀ tokens₀ brackets₀ code : List �
         ∙ ap (λ (n : ℕ). and (leb (n * style_row_width) (length rows₀)) (and (leb (depths * (length code + 1)) (length state₀)) (stores_suffice (length g.text + 2 * (length g.attributes / attribute_width)) (length rules₀) (length tokens₀) (length brackets₀) (length texts₀)))) ec
 
     -- the return where what is lent is too short
-    pub short-store : v ≡ false → {a : RunAnswer} {q : Refusal} → q ≡ refused short_store → a ≡ record { refusal = q; texts = 0 } → Called (refuses a)
-    unfolding run_call
-    short-store f eq ea = pick-false _ _ _ _ (le-ltb compiled_limit (length code) h) (pick-false _ _ _ _ (sym told ∙ f) (refused_as eq ea))
+    pub short-store : v ≡ false → Called (refuses (numbers_of (Err ShortStore)))
+    unfolding run_call run_refusal
+    short-store f = pick-false _ _ _ _ (le-ltb compiled_limit (length code) h) (pick-false _ _ _ _ (sym told ∙ f) (refused_as ShortStore refl))
 
     module _ (f : v ≡ true) where
       -- where the test holds, rows, state and stores have the least lengths

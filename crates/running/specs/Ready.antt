@@ -9,7 +9,7 @@ use Rattle.page.specs.Accepted.{node_limit, attributes_before, bytes_before, pag
 use Rattle.page.specs.Rows.{node_count, node_at}
 use Rattle.compiled.specs.Answer.{bytes_refusal}
 use Rattle.compiled.specs.Sheet.{compiled_limit}
-use Rattle.styles.specs.Lent.{Page}
+use Rattle.page.specs.Lent.{Page}
 use Rattle.runner.specs.LeastLengths.{run_text_bytes, state_least, rows_least}
 use Rattle.runner.specs.PageRows.{style_row_at}
 

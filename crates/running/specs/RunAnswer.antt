@@ -1,18 +1,36 @@
 -- What `run` answers and leaves: the refusals of document 01 in the order in which they are looked for, or the style rows of a page.
-use Rattle.std.specs.Prelude.{ℕ, Bool, List, leb, ltb, length, replicate}
+use Rattle.std.specs.Prelude.{ℕ, Bool, Result, Ok, Err, List, leb, ltb, length, replicate}
 use Rattle.combinators.specs.Choice.{pick, and, is}
 use Rattle.combinators.specs.LeastLengths.{stores_suffice}
-use Rattle.combinators.specs.Refusal.{no_refusal, refused, too_long, short_store}
+use Rattle.combinators.specs.Refusal.{no_refusal, refused, refused_at, too_long, short_store, bad_bytes}
 use Rattle.combinators.specs.declared.refusals.Refusal.{Refusal}
 use Rattle.sheets.specs.SheetAnswer.{padded}
-use Rattle.page.specs.Accepted.{page_refusal}
+use Rattle.page.specs.Accepted.{error_refusal, page_refusal}
 use Rattle.compiled.specs.Answer.{bytes_refusal}
 use Rattle.compiled.specs.Sheet.{compiled_limit}
+use Rattle.combinators.specs.declared.lent.Stores.{Stores}
 use Rattle.styles.specs.declared.settings.Settings.{Settings}
-use Rattle.styles.specs.Lent.{Page}
+use Rattle.page.specs.Lent.{Page}
 use Rattle.runner.specs.LeastLengths.{run_text_bytes, state_least, rows_least}
 use Rattle.runner.specs.PageRows.{page_contents, page_rows}
-use Rattle.running.specs.declared.run.RunAnswer.{RunAnswer}
+use Rattle.running.specs.declared.run.RunError.{RunError}
+use Rattle.running.specs.declared.run.RunError.TheVariants.{TooLong, ShortStore, BadPage, BadBytes}
+
+-- ---- an answer in numbers: the refusal; of a page that was styled the bytes of its texts. What does not apply is 0.
+pub record RunAnswer : Type 0 where
+  pub refusal : Refusal
+  pub texts : ℕ
+
+-- why a run is refused, in numbers
+unfoldable pub run_refusal : RunError → Refusal
+run_refusal TooLong = refused too_long
+run_refusal ShortStore = refused short_store
+run_refusal (BadPage e) = error_refusal e
+run_refusal (BadBytes f) = refused_at bad_bytes f.place
+
+unfoldable pub numbers_of : Result ℕ RunError → RunAnswer
+numbers_of (Ok texts) = record { refusal = no_refusal; texts = texts }
+numbers_of (Err e) = record { refusal = run_refusal e; texts = 0 }
 
 -- ---- what is left of the call: its answer and the six buffers
 pub record RunLeft : Type 0 where
@@ -23,6 +41,11 @@ pub record RunLeft : Type 0 where
   pub rules : List ℕ
   pub tokens : List ℕ
   pub brackets : List ℕ
+
+-- of a call that is lent rows, a state and the stores
+abbrev pub left_in : RunAnswer → List ℕ → List ℕ → Stores → RunLeft
+left_in a rows state s =
+    record { answer = a; rows = rows; texts = s.texts.now; state = state; rules = s.rules.now; tokens = s.tokens.now; brackets = s.brackets.now }
 
 module _ (rows texts state rules tokens brackets : List ℕ) where
   -- "after others it is unchanged"

@@ -1,15 +1,18 @@
 // The rows of a run, one step for each, in order.
 ghost use Rattle.std.specs.Prelude.{◌≡◌, ◌+◌, ◌≤◌, length, take};
 ghost use Rattle.runner.specs.Run.{run_step, run_of};
+ghost use Rattle.combinators.specs.Lent.{SameStores, SameLengths};
+ghost use Rattle.page.specs.Lent.{page_in};
 ghost use Rattle.running.specs.Ready.{RunReady, RowReady, PlaceRoom, texts_most, with_parent};
 
+use crate::input::RunInput;
 use cascade::rows::{STYLE_ROW_WIDTH, copy_within};
+use combinators::lent::Stores;
 use page::ancestors::depth_of;
 use page::rows::{
     ATTRIBUTE_WIDTH, NODE_WIDTH, attribute_count, first_attribute, node_count, parent_of,
 };
-use stepping::step::step;
-use styles::settings::Settings;
+use stepping::step::{NodeRow, step};
 
 // The style row of a row's parent, copied to the place of the row's own. Row 0, which is its own parent, has none.
 fn place_parent(nodes: &[u32], row: usize, rows: &mut [u32])
@@ -22,77 +25,66 @@ fn place_parent(nodes: &[u32], row: usize, rows: &mut [u32])
     }
 }
 
-// The step of a row; the fill behind its texts. What the work stores hold afterwards, and `texts` behind that fill, is left free.
+// The step of a row; the fill behind its texts. The rows are one slice of numbers, of which a row is split off: of chunks (`as_chunks_mut`) nothing is promised of what the
+// slice ends as. What the work stores hold afterwards, and the texts behind that fill, is left free.
 fn run_row(
-    settings: Settings,
-    compiled: &[u8],
-    nodes: &[u32],
-    attributes: &[u32],
-    text: &[u8],
+    input: RunInput<'_>,
     row: usize,
     rows: &mut [u32],
     state: &mut [u8],
-    rules: &mut [u32],
-    tokens: &mut [u32],
-    brackets: &mut [u8],
-    texts: &mut [u8],
+    stores: &mut Stores<'_>,
     fill: usize,
 ) -> usize
-    requires { RowReady compiled.now (record { nodes = nodes.now; attributes = attributes.now; text = text.now }) rows.old state.old rules.old tokens.old brackets.old texts.old row fill }
-    ensures texts_after { record { rows = rows.new; state = state.new; texts = take result texts.new }
-        ≡ run_step compiled.now settings (record { nodes = nodes.now; attributes = attributes.now; text = text.now }) row (record { rows = rows.old; state = state.old; texts = take fill texts.old }) }
-    ensures upper_bound { result ≤ length texts.new }
-    ensures upper_bound_2 { result ≤ texts_most (record { nodes = nodes.now; attributes = attributes.now; text = text.now }) (row + 1) }
+    requires { RowReady input.compiled.now (page_in input.page) rows.old state.old stores.old.rules.now stores.old.tokens.now stores.old.brackets.now stores.old.texts.now row fill }
+    ensures texts_after { record { rows = rows.new; state = state.new; texts = take result stores.new.texts.now }
+        ≡ run_step input.entry.compiled.now input.entry.settings (page_in input.entry.page) row (record { rows = rows.old; state = state.old; texts = take fill stores.old.texts.now }) }
+    ensures upper_bound { result ≤ length stores.new.texts.now }
+    ensures upper_bound_2 { result ≤ texts_most (page_in input.entry.page) (row + 1) }
+    ensures lengths { SameLengths stores.old stores.new }
+    ensures same { SameStores stores.old stores.new }
 {
-    place_parent(nodes, row, rows);
+    let page = input.page;
+    place_parent(page.nodes, row, rows);
     let node = row * NODE_WIDTH;
-    let first = first_attribute(nodes, row) * ATTRIBUTE_WIDTH;
-    let behind = first + attribute_count(nodes, row) * ATTRIBUTE_WIDTH;
-    let depth = depth_of(nodes, row);
-    let place = row * STYLE_ROW_WIDTH;
+    let first = first_attribute(page.nodes, row) * ATTRIBUTE_WIDTH;
+    let behind = first + attribute_count(page.nodes, row) * ATTRIBUTE_WIDTH;
+    let depth = depth_of(page.nodes, row);
+    let (_, own) = rows.split_at_mut(row * STYLE_ROW_WIDTH);
+    let handed = NodeRow {
+        node: &page.nodes[node..node + NODE_WIDTH],
+        attributes: &page.attributes[first..behind],
+        text: page.text,
+    };
     step(
-        settings,
-        compiled,
-        &nodes[node..node + NODE_WIDTH],
-        &attributes[first..behind],
-        text,
+        input.settings,
+        input.compiled,
+        handed,
         depth,
-        &mut rows[place..place + STYLE_ROW_WIDTH],
+        own.first_chunk_mut().unwrap(),
         state,
-        rules,
-        tokens,
-        brackets,
-        texts,
+        stores,
         fill,
     )
 }
 
-// The steps of all rows; the fill behind their texts. What the work stores hold afterwards, and `texts` behind that fill, is left free.
+// The steps of all rows; the fill behind their texts. What the work stores hold afterwards, and the texts behind that fill, is left free.
 pub fn run_rows(
-    settings: Settings,
-    compiled: &[u8],
-    nodes: &[u32],
-    attributes: &[u32],
-    text: &[u8],
+    input: RunInput<'_>,
     rows: &mut [u32],
     state: &mut [u8],
-    rules: &mut [u32],
-    tokens: &mut [u32],
-    brackets: &mut [u8],
-    texts: &mut [u8],
+    stores: &mut Stores<'_>,
 ) -> usize
-    requires { RunReady compiled.now (record { nodes = nodes.now; attributes = attributes.now; text = text.now }) rows.old state.old rules.old tokens.old brackets.old texts.old }
-    ensures texts_after { record { rows = rows.new; state = state.new; texts = take result texts.new }
-        ≡ run_of compiled.now settings (record { nodes = nodes.now; attributes = attributes.now; text = text.now }) rows.old state.old }
-    ensures upper_bound { result ≤ length texts.new }
+    requires { RunReady input.compiled.now (page_in input.page) rows.old state.old stores.old.rules.now stores.old.tokens.now stores.old.brackets.now stores.old.texts.now }
+    ensures texts_after { record { rows = rows.new; state = state.new; texts = take result stores.new.texts.now }
+        ≡ run_of input.entry.compiled.now input.entry.settings (page_in input.entry.page) rows.old state.old }
+    ensures upper_bound { result ≤ length stores.new.texts.now }
+    ensures lengths { SameLengths stores.old stores.new }
+    ensures same { SameStores stores.old stores.new }
 {
-    let count = node_count(nodes);
+    let count = node_count(input.page.nodes);
     let mut fill = 0;
     for row in 0..count {
-        fill = run_row(
-            settings, compiled, nodes, attributes, text, row, rows, state, rules, tokens, brackets,
-            texts, fill,
-        );
+        fill = run_row(input, row, rows, state, stores, fill);
     }
     fill
 }

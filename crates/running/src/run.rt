@@ -1,56 +1,67 @@
 // `run`: the style rows of all elements of a page. Refusals are looked for in the order of document 01; nothing is written before all of them are ruled out.
-ghost use Rattle.std.specs.Prelude.{◌≡◌};
-ghost use Rattle.combinators.specs.Refusal.{no_refusal};
+ghost use Rattle.std.specs.Prelude.{◌≡◌, Ok};
 ghost use Rattle.combinators.specs.Store.{cleared};
 ghost use Rattle.page.specs.Accepted.{page_refusal};
 ghost use Rattle.compiled.specs.Answer.{bytes_refusal};
+ghost use Rattle.combinators.specs.Lent.{SameStores};
+ghost use Rattle.page.specs.Lent.{page_in};
 ghost use Rattle.running.specs.Ready.{Lengths, RunReady};
-ghost use Rattle.running.specs.RunAnswer.{ran, run_by, run_call};
+ghost use Rattle.running.specs.RunAnswer.{numbers_of, left_in, run_refusal, ran, run_by, run_call};
 
+use crate::input::RunInput;
 use crate::rows::run_rows;
 use crate::suffices::run_suffices;
 use cascade::rows::STYLE_ROW_WIDTH;
-use combinators::refusals::{NO_REFUSAL, Refusal, SHORT_STORE, TOO_LONG, no_refusal, refused};
-use combinators::stores::{clear_bytes, clear_numbers};
+use combinators::lent::Stores;
+use combinators::refusals::{Refusal, SHORT_STORE, TOO_LONG, refused};
+use combinators::stores::fill_from;
+use compiled::places::Fault;
 use compiled::sheets::{COMPILED_LIMIT, check_sheet};
-use page::check::check_page;
+use page::check::{PageError, check_page};
 use page::rows::node_count;
-use styles::settings::Settings;
 
-// The refusal; of a page that was styled the bytes of its texts. What does not apply is 0.
-#[derive(Clone, Copy)]
-pub struct RunAnswer {
-    pub refusal: Refusal,
-    pub texts: usize,
+// Why a page is not styled: compiled bytes over the limit, a lent buffer that is too short, a page that is not accepted, or bytes that are no sheet. It is the
+// error of a `Result`: no variant stands for a page that is styled.
+#[derive(Clone, Copy, PartialEq, Eq)]
+pub enum RunError {
+    TooLong,
+    ShortStore,
+    BadPage(PageError),
+    BadBytes(Fault),
 }
 
-fn refused_run(refusal: Refusal) -> RunAnswer
-    ensures { result ≡ record { refusal = refusal; texts = 0 } }
-{
-    RunAnswer { refusal, texts: 0 }
-}
+impl From<PageError> for RunError {
+    ghost use Rattle.running.specs.declared.run.RunError.{RunError};
 
-// A page that was styled, with so many bytes of texts.
-fn run_answer(texts: usize) -> RunAnswer
-    ensures { result ≡ record { refusal = no_refusal; texts = texts } }
-{
-    RunAnswer {
-        refusal: no_refusal(),
-        texts,
+    ghost from_gives = { λ page error. error ≡ RunError.BadPage page };
+
+    fn from(page: PageError) -> RunError {
+        RunError::BadPage(page)
     }
 }
 
-// Zeros throughout the work stores.
-fn clear_work(rules: &mut [u32], tokens: &mut [u32], brackets: &mut [u8], state: &mut [u8])
-    ensures rules_after { rules.new ≡ cleared 0 rules.old }
-    ensures tokens_after { tokens.new ≡ cleared 0 tokens.old }
-    ensures brackets_after { brackets.new ≡ cleared 0 brackets.old }
-    ensures state_after { state.new ≡ cleared 0 state.old }
-{
-    clear_numbers(rules, 0);
-    clear_numbers(tokens, 0);
-    clear_bytes(brackets, 0);
-    clear_bytes(state, 0);
+impl From<Fault> for RunError {
+    ghost use Rattle.running.specs.declared.run.RunError.{RunError};
+
+    ghost from_gives = { λ fault error. error ≡ RunError.BadBytes fault };
+
+    fn from(fault: Fault) -> RunError {
+        RunError::BadBytes(fault)
+    }
+}
+
+impl From<RunError> for Refusal {
+    ghost from_gives = { λ error refusal. refusal ≡ run_refusal error };
+
+    #[tactic(auto, unfolding(crate::specs::RunAnswer::run_refusal))]
+    fn from(error: RunError) -> Refusal {
+        match error {
+            RunError::TooLong => refused(TOO_LONG),
+            RunError::ShortStore => refused(SHORT_STORE),
+            RunError::BadPage(page) => Refusal::from(page),
+            RunError::BadBytes(fault) => Refusal::from(fault),
+        }
+    }
 }
 
 // Zeros behind the rows and the texts of a page.
@@ -58,103 +69,79 @@ fn clear_behind(rows: &mut [u32], styled: usize, texts: &mut [u8], fill: usize)
     ensures rows_after { rows.new ≡ cleared styled rows.old }
     ensures texts_after { texts.new ≡ cleared fill texts.old }
 {
-    clear_numbers(rows, styled);
-    clear_bytes(texts, fill);
+    fill_from(rows, styled, 0);
+    fill_from(texts, fill, 0);
 }
 
 // Runs a compiled sheet down a page, where nothing is refused.
 fn run_page(
-    settings: Settings,
-    compiled: &[u8],
-    nodes: &[u32],
-    attributes: &[u32],
-    text: &[u8],
+    input: RunInput<'_>,
     rows: &mut [u32],
-    texts: &mut [u8],
     state: &mut [u8],
-    rules: &mut [u32],
-    tokens: &mut [u32],
-    brackets: &mut [u8],
-) -> RunAnswer
-    requires { RunReady compiled.now (record { nodes = nodes.now; attributes = attributes.now; text = text.now }) rows.old state.old rules.old tokens.old brackets.old texts.old }
-    ensures { record { answer = result; rows = rows.new; texts = texts.new; state = state.new; rules = rules.new; tokens = tokens.new; brackets = brackets.new }
-        ≡ ran rows.old texts.old state.old rules.old tokens.old brackets.old compiled.now settings (record { nodes = nodes.now; attributes = attributes.now; text = text.now }) }
+    stores: &mut Stores<'_>,
+) -> usize
+    requires { RunReady input.compiled.now (page_in input.page) rows.old state.old stores.old.rules.now stores.old.tokens.now stores.old.brackets.now stores.old.texts.now }
+    ensures left { left_in (numbers_of (Ok result)) rows.new state.new stores.new
+        ≡ ran rows.old stores.old.texts.now state.old stores.old.rules.now stores.old.tokens.now stores.old.brackets.now input.entry.compiled.now input.entry.settings (page_in input.entry.page) }
+    ensures same { SameStores stores.old stores.new }
 {
-    let fill = run_rows(
-        settings, compiled, nodes, attributes, text, rows, state, rules, tokens, brackets, texts,
+    let fill = run_rows(input, rows, state, stores);
+    clear_behind(
+        rows,
+        node_count(input.page.nodes) * STYLE_ROW_WIDTH,
+        stores.texts,
+        fill,
     );
-    clear_behind(rows, node_count(nodes) * STYLE_ROW_WIDTH, texts, fill);
-    clear_work(rules, tokens, brackets, state);
-    run_answer(fill)
+    stores.clear_work();
+    fill_from(state, 0, 0);
+    fill
 }
 
 // Runs a compiled sheet down a page, where the buffers are long enough: the page is looked at first.
 fn run_checked(
-    settings: Settings,
-    compiled: &[u8],
-    nodes: &[u32],
-    attributes: &[u32],
-    text: &[u8],
+    input: RunInput<'_>,
     rows: &mut [u32],
-    texts: &mut [u8],
     state: &mut [u8],
-    rules: &mut [u32],
-    tokens: &mut [u32],
-    brackets: &mut [u8],
-) -> RunAnswer
-    requires { Lengths compiled.now (record { nodes = nodes.now; attributes = attributes.now; text = text.now }) rows.old state.old rules.old tokens.old brackets.old texts.old }
-    ensures { record { answer = result; rows = rows.new; texts = texts.new; state = state.new; rules = rules.new; tokens = tokens.new; brackets = brackets.new }
-        ≡ run_by rows.old texts.old state.old rules.old tokens.old brackets.old compiled.now settings (record { nodes = nodes.now; attributes = attributes.now; text = text.now }) (page_refusal nodes.now attributes.now text.now) (bytes_refusal compiled.now) }
+    stores: &mut Stores<'_>,
+) -> Result<usize, RunError>
+    requires { Lengths input.compiled.now (page_in input.page) rows.old state.old stores.old.rules.now stores.old.tokens.now stores.old.brackets.now stores.old.texts.now }
+    ensures left { left_in (numbers_of result) rows.new state.new stores.new
+        ≡ run_by rows.old stores.old.texts.now state.old stores.old.rules.now stores.old.tokens.now stores.old.brackets.now input.entry.compiled.now input.entry.settings (page_in input.entry.page) (page_refusal input.entry.page.nodes.now input.entry.page.attributes.now input.entry.page.text.now) (bytes_refusal input.entry.compiled.now) }
+    ensures same { SameStores stores.old stores.new }
 {
-    let page = page::check::refusal_of(check_page(nodes, attributes, text));
-    if page.number != NO_REFUSAL {
-        return refused_run(page);
-    }
-    match check_sheet(compiled) {
-        Ok(()) => run_page(
-            settings, compiled, nodes, attributes, text, rows, texts, state, rules, tokens,
-            brackets,
-        ),
-        Err(fault) => refused_run(Refusal::from(fault)),
-    }
+    check_page(input.page)?;
+    check_sheet(input.compiled)?;
+    Ok(run_page(input, rows, state, stores))
 }
 
 // Runs a compiled sheet down a page: the style row of each node to `rows`, the contents of `style` attributes to `texts`; the others are work stores.
+// `rows`, `state` and `stores` come one by one: each step is lent one row of the first beside the other two, so a struct of them would be taken apart again for every row.
 pub fn run(
-    settings: Settings,
-    compiled: &[u8],
-    nodes: &[u32],
-    attributes: &[u32],
-    text: &[u8],
+    input: RunInput<'_>,
     rows: &mut [u32],
-    texts: &mut [u8],
     state: &mut [u8],
-    rules: &mut [u32],
-    tokens: &mut [u32],
-    brackets: &mut [u8],
-) -> RunAnswer
-    ensures { record { answer = result; rows = rows.new; texts = texts.new; state = state.new; rules = rules.new; tokens = tokens.new; brackets = brackets.new }
-        ≡ run_call rows.old texts.old state.old rules.old tokens.old brackets.old compiled.now settings (record { nodes = nodes.now; attributes = attributes.now; text = text.now }) }
+    stores: &mut Stores<'_>,
+) -> Result<usize, RunError>
+    ensures left { left_in (numbers_of result) rows.new state.new stores.new
+        ≡ run_call rows.old stores.old.texts.now state.old stores.old.rules.now stores.old.tokens.now stores.old.brackets.now input.entry.compiled.now input.entry.settings (page_in input.entry.page) }
+    ensures same { SameStores stores.old stores.new }
 {
-    if compiled.len() > COMPILED_LIMIT {
-        return refused_run(refused(TOO_LONG));
+    if input.compiled.len() > COMPILED_LIMIT {
+        return Err(RunError::TooLong);
     }
-    if run_suffices(
-        compiled.len(),
-        node_count(nodes),
-        attributes.len(),
-        text.len(),
+    if !run_suffices(
+        input.compiled.len(),
+        node_count(input.page.nodes),
+        input.page.attributes.len(),
+        input.page.text.len(),
         rows.len(),
         state.len(),
-        rules.len(),
-        tokens.len(),
-        brackets.len(),
-        texts.len(),
+        stores.rules.len(),
+        stores.tokens.len(),
+        stores.brackets.len(),
+        stores.texts.len(),
     ) {
-        return run_checked(
-            settings, compiled, nodes, attributes, text, rows, texts, state, rules, tokens,
-            brackets,
-        );
+        return Err(RunError::ShortStore);
     }
-    refused_run(refused(SHORT_STORE))
+    run_checked(input, rows, state, stores)
 }

@@ -28,10 +28,9 @@ fn texts_suffice(
     ensures { result ≡ stores_suffice (text + 2 * (attributes / attribute_width)) rules tokens brackets texts }
 {
     let beside = 2 * (attributes / ATTRIBUTE_WIDTH);
-    if brackets < text || brackets - text < beside {
-        return false;
-    }
-    stores_suffice(text + beside, rules, tokens, brackets, texts)
+    brackets >= text
+        && brackets - text >= beside
+        && stores_suffice(text + beside, rules, tokens, brackets, texts)
 }
 
 // Whether all that is lent suffices for so many compiled bytes, so many nodes, numbers of attributes and bytes of text.
@@ -50,8 +49,7 @@ pub fn run_suffices(
     requires { compiled ≤ compiled_limit }
     ensures { result ≡ and (leb (nodes * style_row_width) rows) (and (leb (depths * (compiled + 1)) state) (stores_suffice (text + 2 * (attributes / attribute_width)) rules tokens brackets texts)) }
 {
-    if long_enough(rows, STYLE_ROW_WIDTH, nodes, 0) && DEPTHS * (compiled + 1) <= state {
-        return texts_suffice(attributes, text, rules, tokens, brackets, texts);
-    }
-    false
+    long_enough(rows, STYLE_ROW_WIDTH, nodes, 0)
+        && DEPTHS * (compiled + 1) <= state
+        && texts_suffice(attributes, text, rules, tokens, brackets, texts)
 }

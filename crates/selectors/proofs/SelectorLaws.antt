@@ -1,61 +1,19 @@
 -- The small functions of selectors.
-use mathlib.Core.Path.{◌≡◌, refl, sym, ap, subst, ◌∙◌}
-use mathlib.Core.Bool.{Bool, true, false, not}
+use mathlib.Core.Path.{◌≡◌, refl, sym, ◌∙◌}
+use mathlib.Core.Bool.{Bool, true, false}
 use mathlib.Core.List.{List, [], ◌∷◌}
-use Prim.Native.Nat.{ℕ, ◌+◌, ◌-◌, ◌*◌, ◌<◌, ◌≤◌}
-use native.Mathlib.Omega.{arith}
-use borrow.Author.Tests.{lt-ltb}
-use lib.Dec.{eqb, ltb}
+use Prim.Native.Nat.{ℕ, ◌+◌, ◌-◌, ◌*◌}
 use lib.ListN.{get_or}
-use lib.Seq.{sets}
 use Rattle.combinators.specs.Choice.{pick, is}
 use Rattle.combinators.specs.Store.{wiped}
 use Rattle.combinators.specs.Word.{starts_with}
 use Rattle.combinators.proofs.Rules.{pick_true, pick-false, is-yes, is-no, is-yes-of, is-no-of}
 use Rattle.characters.specs.Literal.{text}
 use Rattle.characters.specs.Utf8.{utf8, continuation}
-use Rattle.syntax.specs.RuleLayout.{component_width, component_kind_at, nth_kind, descendant_kind, pseudo_number}
+use Rattle.syntax.specs.RuleLayout.{component_width, component_kind_at, descendant_kind}
 use Rattle.syntax.specs.Selector.{PseudoElement, none, before, after}
-use Rattle.selectors.specs.Components.{text_length, blank_last}
+use Rattle.selectors.specs.Components.{blank_last}
 use Rattle.selectors.specs.Selector.{pseudo_of, pseudo_taken}
-
--- ---- `text_length`
--- nth-child has no texts
-pub text-none : (k a b : ℕ) → k ≡ nth_kind → 0 ≡ text_length k a b
-unfolding text_length
-text-none k a b e = pick_true _ _ _ _ (is-yes k nth_kind e) refl
-
--- others have two, which may be empty
-pub text-both : (k a b : ℕ) → (k ≡ nth_kind → ⊥) → a + b ≡ text_length k a b
-unfolding text_length
-text-both k a b n = pick-false _ _ _ _ (is-no k nth_kind n) refl
-
--- where the length of both texts fits, their sum does
-pub text-fits : (k a b m : ℕ) → (k ≡ nth_kind → ⊥) → text_length k a b < m → a + b < m
-text-fits k a b m n h = subst (λ (t : ℕ). t < m) (sym (text-both k a b n)) h
-
--- ---- `is_kept`: a blank at the start is not
-module _ (start k : ℕ) where
-  -- behind the start all are kept
-  pub kept-later : 0 < start → ltb 0 start ≡ pick (is start 0) (pick (is k descendant_kind) false true) true
-  kept-later h = lt-ltb 0 start h ∙ pick-false _ _ _ _ (is-no start 0 (λ e. absurd (omega arith))) refl
-
-  -- at the start all but a blank are
-  pub kept-first : start ≤ 0 → not (eqb k descendant_kind) ≡ pick (is start 0) (pick (is k descendant_kind) false true) true
-  unfolding is
-  kept-first h = pick_true _ _ _ _ (is-yes start 0 (omega arith)) (by (eqb k descendant_kind))
-    where
-      by : (b : Bool) → not b ≡ pick b false true
-      by true = unfold pick in refl
-      by false = unfold pick in refl
-
--- what is not kept is not written
-pub put-none : (kept : Bool) (row rules : List ℕ) (place : ℕ) → kept ≡ false → rules ≡ sets rules place (pick kept row [])
-put-none kept row rules place e = ap (sets rules place) (pick-false _ _ _ _ e refl)
-
--- the row of one that is kept
-pub put_one : (kept : Bool) (row rules rules' : List ℕ) (place : ℕ) → kept ≡ true → rules' ≡ sets rules place row → rules' ≡ sets rules place (pick kept row [])
-put_one kept row rules rules' place e w = w ∙ ap (sets rules place) (pick_true _ _ _ _ e refl)
 
 -- ---- `drop_blank`: a blank at the end is dropped
 module _ (rules : List ℕ) (place count : ℕ) where

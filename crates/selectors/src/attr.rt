@@ -1,4 +1,5 @@
-// Attributes in square brackets, with a value or without. What an alternative wrote that then fails is wiped.
+// Attributes in square brackets, with a value or without. What an alternative wrote that then fails is wiped. That the store is clean is asked of
+// each reader, and kept by no type: it is so from a fill on, which goes on from reader to reader.
 ghost use Rattle.std.specs.Prelude.{◌≡◌, ◌≤◌, ◌<◌, ◌+◌, ◌-◌, length, drop};
 ghost use Rattle.std.proofs.lemmas.List.Edits.{sets};
 ghost use Rattle.lexer.specs.Name.{ident_of, name_answer, name_text};
@@ -11,7 +12,7 @@ ghost use Rattle.selectors.specs.Stores.{Clean};
 use crate::components::{Component, with_text};
 use crate::readings::Panic;
 use combinators::bytes::byte_is;
-use combinators::stores::wipe_bytes;
+use combinators::stores::fill_part;
 use lexer::Written;
 use lexer::names::parse_ident;
 use lexer::tokens::{Token, parse_string_token};
@@ -25,7 +26,7 @@ fn parse_quoted_string(s: &[u8], store: &mut [u8], fill: usize) -> Option<Writte
 {
     let read = parse_string_token(s, store, fill)?;
     let Token::String(length) = read.token else {
-        wipe_bytes(store, fill, read.taken);
+        fill_part(store, fill, read.taken, 0);
         return None;
     };
     Some(Written {
@@ -46,7 +47,7 @@ fn closed(s: &[u8], text: Written, store: &mut [u8], fill: usize) -> Option<Writ
             length: text.length,
         });
     }
-    wipe_bytes(store, fill, text.length);
+    fill_part(store, fill, text.length, 0);
     None
 }
 
@@ -96,7 +97,7 @@ fn parse_attr_equal(
     ensures store_after { store.new ≡ equal_store (attr_value_of (drop (at + 1) s.now)) name fill store.old }
 {
     let Some(value) = parse_attr_value(&s[at + 1..], store, fill + name) else {
-        wipe_bytes(store, fill, name);
+        fill_part(store, fill, name, 0);
         return Ok(None);
     };
     Ok(Some(Component {
@@ -126,6 +127,6 @@ pub fn parse_attr(s: &[u8], store: &mut [u8], fill: usize) -> Result<Option<Comp
     if byte_is(s, at, b'=') {
         return parse_attr_equal(s, at, name.length, store, fill);
     }
-    wipe_bytes(store, fill, name.length);
+    fill_part(store, fill, name.length, 0);
     Ok(None)
 }

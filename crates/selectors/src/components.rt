@@ -1,5 +1,5 @@
 // Simple components of selectors. A component's text goes to the store from a fill on; what an alternative wrote that then fails is
-// wiped.
+// wiped. So no writer is lent: the next alternative writes from the same fill. That the store is clean is asked of those that may wipe (attr.rt).
 ghost use Rattle.std.specs.Prelude.{◌≡◌, ◌≤◌, length};
 ghost use Rattle.std.proofs.lemmas.List.Edits.{sets};
 ghost use Rattle.lexer.specs.Name.{ident_of};
@@ -15,7 +15,7 @@ use crate::attr::parse_attr;
 use crate::nth::parse_nth_child_args;
 use crate::readings::Panic;
 use combinators::bytes::byte_is;
-use combinators::stores::wipe_bytes;
+use combinators::stores::fill_part;
 use combinators::texts::{part_of, same_text};
 use lexer::names::{parse_ident, parse_identstring};
 use lexer::whitespace::{skip_from, skip_optional_whitespace};
@@ -118,7 +118,7 @@ fn nth_child_name(s: &[u8], store: &mut [u8], fill: usize) -> Option<usize>
 {
     let name = parse_ident(s, store, fill)?;
     let known = same_text(part_of(store, fill, name.length), b"nth-child");
-    wipe_bytes(store, fill, name.length);
+    fill_part(store, fill, name.length, 0);
     known.then_some(name.taken)
 }
 

@@ -34,7 +34,7 @@ const EVEN: [u8; 4] = *b"even";
 
 const ODD: [u8; 3] = *b"odd";
 
-// 0, 1 and 2 with their sign.
+// 0, 1 and 2 with their sign; they number no kinds.
 const ZERO: u32 = 0;
 
 const ONE: u32 = 2;

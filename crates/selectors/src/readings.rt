@@ -1,8 +1,10 @@
 // What readers of selectors, rules and sheets answer, and how what they wrote is taken back.
 ghost use Rattle.std.specs.Prelude.{◌≡◌, ◌+◌, ◌^◌, ◌<◌};
+ghost use Rattle.combinators.specs.Lent.{SameStores, SameWork};
 ghost use Rattle.combinators.specs.Store.{wiped};
 
-use combinators::stores::{wipe_bytes, wipe_numbers};
+use combinators::lent::Stores;
+use combinators::stores::fill_part;
 
 // The bytes that a reader takes, how many things it read, how many numbers their rows take and how many bytes their texts. One that does not read
 // answers None.
@@ -33,17 +35,12 @@ impl Panic {
 }
 
 // Zeros again where rows and texts were written, of which nothing is kept.
-pub fn take_back(
-    rules: &mut [u32],
-    place: usize,
-    numbers: usize,
-    store: &mut [u8],
-    fill: usize,
-    text: usize,
-)
-    ensures rules_after { rules.new ≡ wiped place numbers rules.old }
-    ensures store_after { store.new ≡ wiped fill text store.old }
+pub fn take_back(stores: &mut Stores<'_>, place: usize, numbers: usize, fill: usize, text: usize)
+    ensures same { SameStores stores.old stores.new }
+    ensures work_unchanged { SameWork stores.old stores.new }
+    ensures rules_after { stores.new.rules.now ≡ wiped place numbers stores.old.rules.now }
+    ensures texts_after { stores.new.texts.now ≡ wiped fill text stores.old.texts.now }
 {
-    wipe_numbers(rules, place, numbers);
-    wipe_bytes(store, fill, text);
+    fill_part(stores.rules, place, numbers, 0);
+    fill_part(stores.texts, fill, text, 0);
 }

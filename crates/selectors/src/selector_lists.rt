@@ -1,7 +1,8 @@
-// Lists of selectors, parted by ','. Rows go to `rules` from `place` on, texts to `store` from `fill` on; both are zero there, and stay so where
-// nothing is read.
+// Lists of selectors, parted by ','. Rows go to the stores' rules from `place` on, texts to their texts from `fill` on; both are zero there, and stay so where
+// nothing is read. The room is asked for by the text that is read, and `place` and `fill` stand beside the stores: they go on from selector to selector.
 ghost use Rattle.std.specs.Prelude.{◌≡◌, length};
 ghost use Rattle.std.proofs.lemmas.List.Edits.{sets};
+ghost use Rattle.combinators.specs.Lent.{SameStores, SameWork};
 ghost use Rattle.syntax.specs.RuleLayout.{selector_head, selector_rows, selector_texts};
 ghost use Rattle.selectors.specs.SelectorList.{selectors_of};
 ghost use Rattle.selectors.specs.Reading.{many_reading, written, TextRoom, RowRoom};
@@ -9,29 +10,32 @@ ghost use Rattle.selectors.specs.Reading.{many_reading, written, TextRoom, RowRo
 use crate::readings::{Panic, Read, take_back};
 use crate::selectors::parse_selector;
 use combinators::bytes::byte_is;
+use combinators::lent::Stores;
 use lexer::whitespace::skip_from;
 
 // Reads selectors, parted by ',' and white space or none; there may be none. It stops before a ',' that no selector follows.
 pub fn parse_selectors(
     s: &[u8],
-    rules: &mut [u32],
+    stores: &mut Stores<'_>,
     place: usize,
-    store: &mut [u8],
     fill: usize,
 ) -> Result<Read, Panic>
-    requires row_room { RowRoom selector_head s.now rules.old place }
-    requires text_room { TextRoom 4 s.now store.old fill }
+    requires row_room { RowRoom selector_head s.now stores.old.rules.now place }
+    requires text_room { TextRoom 4 s.now stores.old.texts.now fill }
+    ensures same { SameStores stores.old stores.new }
+    ensures work_unchanged { SameWork stores.old stores.new }
     ensures value { result ≡ many_reading length (selector_rows fill) selector_texts (selectors_of s.now) }
-    ensures rules_after { rules.new ≡ sets rules.old place (written (selector_rows fill) (selectors_of s.now)) }
-    ensures store_after { store.new ≡ sets store.old fill (written selector_texts (selectors_of s.now)) }
+    ensures rules_after { stores.new.rules.now ≡ sets stores.old.rules.now place (written (selector_rows fill) (selectors_of s.now)) }
+    ensures texts_after { stores.new.texts.now ≡ sets stores.old.texts.now fill (written selector_texts (selectors_of s.now)) }
 {
     let mut taken = 0;
     let mut count = 0;
     let mut numbers = 0;
     let mut text = 0;
     let mut next = 0;
+    // no `?`: what was written before is taken back
     loop {
-        match parse_selector(&s[next..], rules, place + numbers, store, fill + text) {
+        match parse_selector(&s[next..], stores, place + numbers, fill + text) {
             Ok(None) => {
                 return Ok(Read {
                     taken,
@@ -41,7 +45,7 @@ pub fn parse_selectors(
                 });
             }
             Err(panic) => {
-                take_back(rules, place, numbers, store, fill, text);
+                take_back(stores, place, numbers, fill, text);
                 return Err(panic.behind(next));
             }
             Ok(Some(selector)) => {

@@ -1,8 +1,10 @@
-// Selectors: components as long as they read, and `parse_selector`. Rows go to `rules` from `place` on, texts to `store` from `fill` on; both
-// are zero there, and stay so where nothing is read.
+// Selectors: components as long as they read, and `parse_selector`. Rows go to the stores' rules from `place` on, texts to their texts from `fill` on; both
+// are zero there, and stay so where nothing is read. The room is asked of each reader, by its own text,
+// and `place` and `fill` stand beside the stores: they go on from what was read to what is read next.
 ghost use Rattle.std.specs.Prelude.{◌≡◌, true, false, [], ◌∷◌, ◌+◌, ◌-◌, ◌*◌, ◌^◌, ◌<◌, length};
 ghost use Rattle.std.proofs.lemmas.List.Edits.{sets};
 ghost use Rattle.combinators.specs.Choice.{pick, is};
+ghost use Rattle.combinators.specs.Lent.{SameStores, SameWork};
 ghost use Rattle.combinators.specs.Store.{wiped};
 ghost use Rattle.syntax.specs.RuleLayout.{component_width, descendant_kind, component_text, component_rows, component_texts, selector_head, selector_row, selector_text, pseudo_number};
 ghost use Rattle.syntax.specs.Writing.{ComponentFits};
@@ -15,7 +17,8 @@ ghost use Rattle.selectors.specs.Reading.{reading, written, TextRoom, RowRoom};
 use crate::components::{Component, parse_element, parse_simple_selector_component};
 use crate::readings::{Panic, Read, take_back};
 use combinators::bytes::starts_with;
-use combinators::stores::{number_at, wipe_numbers};
+use combinators::lent::Stores;
+use combinators::stores::{fill_part, number_at};
 use syntax::rows::{
     COMPONENT_KIND, COMPONENT_WIDTH, DESCENDANT, NTH, PSEUDO_AFTER, PSEUDO_BEFORE, PSEUDO_NONE,
     SELECTOR_HEAD,
@@ -41,6 +44,7 @@ pub struct PseudoRead {
 }
 
 // The bytes of a component's texts.
+#[tactic(auto, unfolding(crate::specs::Components::text_length, combinators::specs::Choice::pick, combinators::specs::Choice::is))]
 fn text_length(kind: u32, first: usize, second: usize) -> usize
     requires { text_length kind first second < 2 ^ 64 }
     ensures { result ≡ text_length kind first second }
@@ -69,13 +73,15 @@ fn parse_next(
 }
 
 // Whether a component of a kind has a row, `start` bytes from the start of a selector: there a blank is dropped.
+#[tactic(auto, unfolding(combinators::specs::Choice::pick, combinators::specs::Choice::is))]
 fn is_kept(start: usize, kind: u32) -> bool
     ensures { result ≡ pick (is start 0) (pick (is kind descendant_kind) false true) true }
 {
     start > 0 || kind != DESCENDANT
 }
 
-// Puts down the row of a component where it is kept.
+// Puts down the row of a component where it is kept: `fill` is a number of the row, `place` where the row goes.
+#[tactic(auto, unfolding(combinators::specs::Choice::pick))]
 fn put_kept(kept: bool, component: Component, fill: usize, rules: &mut [u32], place: usize)
     requires { ComponentFits component.first component.second fill }
     ensures { rules.new ≡ sets rules.old place (pick kept (component.kind ∷ fill ∷ component.first ∷ component.second ∷ []) []) }
@@ -96,16 +102,17 @@ fn put_kept(kept: bool, component: Component, fill: usize, rules: &mut [u32], pl
 // at the start; their rows stand in reading order.
 fn parse_body(
     s: &[u8],
-    rules: &mut [u32],
+    stores: &mut Stores<'_>,
     place: usize,
-    store: &mut [u8],
     fill: usize,
 ) -> Result<Option<Read>, Panic>
-    requires row_room { RowRoom 0 s.now rules.old place }
-    requires text_room { TextRoom 4 s.now store.old fill }
+    requires row_room { RowRoom 0 s.now stores.old.rules.now place }
+    requires text_room { TextRoom 4 s.now stores.old.texts.now fill }
+    ensures same { SameStores stores.old stores.new }
+    ensures work_unchanged { SameWork stores.old stores.new }
     ensures value { result ≡ reading length (component_rows fill) component_texts (started_of s.now) }
-    ensures rules_after { rules.new ≡ sets rules.old place (written (component_rows fill) (started_of s.now)) }
-    ensures store_after { store.new ≡ sets store.old fill (written component_texts (started_of s.now)) }
+    ensures rules_after { stores.new.rules.now ≡ sets stores.old.rules.now place (written (component_rows fill) (started_of s.now)) }
+    ensures texts_after { stores.new.texts.now ≡ sets stores.old.texts.now fill (written component_texts (started_of s.now)) }
 {
     let mut taken = 0;
     let mut count = 0;
@@ -113,10 +120,10 @@ fn parse_body(
     let mut text = 0;
     loop {
         let at = fill + text;
-        match parse_next(&s[taken..], taken, store, at) {
+        match parse_next(&s[taken..], taken, stores.texts, at) {
             Ok(Some(component)) => {
                 let kept = is_kept(taken, component.kind);
-                put_kept(kept, component, at, rules, place + numbers);
+                put_kept(kept, component, at, stores.rules, place + numbers);
                 taken += component.taken;
                 let rows = usize::from(kept);
                 count += rows;
@@ -135,14 +142,14 @@ fn parse_body(
                 }));
             }
             Err(panic) => {
-                take_back(rules, place, numbers, store, fill, text);
+                take_back(stores, place, numbers, fill, text);
                 return Err(panic.behind(taken));
             }
         }
     }
 }
 
-// The count of components without a blank at the end, whose row is wiped.
+// The count of components, whose rows lie in a lent store from `place` on, without a blank at the end, whose row is wiped.
 fn drop_blank(rules: &mut [u32], place: usize, count: usize) -> usize
     requires { place + component_width * count < 2 ^ 64 }
     ensures value { result ≡ pick (blank_last rules.old place count) (count - 1) count }
@@ -155,7 +162,7 @@ fn drop_blank(rules: &mut [u32], place: usize, count: usize) -> usize
     if number_at(rules, last, COMPONENT_KIND) != DESCENDANT {
         return count;
     }
-    wipe_numbers(rules, last, COMPONENT_WIDTH);
+    fill_part(rules, last, COMPONENT_WIDTH, 0);
     count - 1
 }
 
@@ -182,6 +189,7 @@ fn parse_pseudo_element(s: &[u8]) -> PseudoRead
 }
 
 // The number of a pseudo element or none in the row of a selector.
+#[tactic(auto, unfolding(syntax::specs::RuleLayout::pseudo_number, crate::specs::Components::pseudo_meant))]
 fn pseudo_number(pseudo: Option<PseudoElement>) -> u32
     ensures { result ≡ pseudo_number (pseudo_meant pseudo) }
 {
@@ -197,23 +205,24 @@ fn pseudo_number(pseudo: Option<PseudoElement>) -> u32
 // Reads a selector; a blank at either end is dropped.
 pub fn parse_selector(
     s: &[u8],
-    rules: &mut [u32],
+    stores: &mut Stores<'_>,
     place: usize,
-    store: &mut [u8],
     fill: usize,
 ) -> Result<Option<Read>, Panic>
-    requires row_room { RowRoom selector_head s.now rules.old place }
-    requires text_room { TextRoom 4 s.now store.old fill }
+    requires row_room { RowRoom selector_head s.now stores.old.rules.now place }
+    requires text_room { TextRoom 4 s.now stores.old.texts.now fill }
+    ensures same { SameStores stores.old stores.new }
+    ensures work_unchanged { SameWork stores.old stores.new }
     ensures value { result ≡ reading (λ x. 1) (selector_row fill) selector_text (selector_of s.now) }
-    ensures rules_after { rules.new ≡ sets rules.old place (written (selector_row fill) (selector_of s.now)) }
-    ensures store_after { store.new ≡ sets store.old fill (written selector_text (selector_of s.now)) }
+    ensures rules_after { stores.new.rules.now ≡ sets stores.old.rules.now place (written (selector_row fill) (selector_of s.now)) }
+    ensures texts_after { stores.new.texts.now ≡ sets stores.old.texts.now fill (written selector_text (selector_of s.now)) }
 {
-    let Some(body) = parse_body(s, rules, place + SELECTOR_HEAD, store, fill)? else {
+    let Some(body) = parse_body(s, stores, place + SELECTOR_HEAD, fill)? else {
         return Ok(None);
     };
-    let kept = drop_blank(rules, place + SELECTOR_HEAD, body.count);
+    let kept = drop_blank(stores.rules, place + SELECTOR_HEAD, body.count);
     let pseudo = parse_pseudo_element(&s[body.taken..]);
-    put_selector_head(kept, pseudo_number(pseudo.pseudo), rules, place);
+    put_selector_head(kept, pseudo_number(pseudo.pseudo), stores.rules, place);
     Ok(Some(Read {
         taken: body.taken + pseudo.taken,
         count: 1,

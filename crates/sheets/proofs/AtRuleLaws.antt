@@ -23,7 +23,7 @@ use Rattle.lexer.proofs.IdentBounds.{ident-fits}
 use Rattle.syntax.specs.RuleLayout.{rule_rows, rule_texts}
 use Rattle.syntax.specs.Stream.{rows_many, texts_many}
 use Rattle.values.specs.Value.{Statement, statement_of}
-use Rattle.values.specs.Layout.{statement_answer, rows_of, texts_of, brackets_after, Left, left, Room}
+use Rattle.values.specs.Layout.{statement_answer, rows_of, texts_of, brackets_after, Left, left}
 use Rattle.values.specs.declared.statements.Statement as declared
 use Rattle.values.specs.declared.statements.Unbalanced.{Unbalanced}
 use Rattle.values.proofs.Sizes.{Sized, statement-sized, rows_long}
@@ -67,17 +67,6 @@ module _ (s : List ℕ) (n : ℕ) (tokens brackets store : List ℕ) (fill : ℕ
   -- how much there is of it
   sized : Sized (drop n s) 0 stated
   sized = statement-sized true (drop n s)
-
-  -- the stores have room for the statement
-  pub end-room : Room (length lent) fill tokens brackets store
-  end-room =
-      let l = ap length (rest s n) ∙ length-drop n s in
-      record {
-        for-tokens = omega (arith, o.for-tokens);
-        for-brackets = omega (arith, o.for-brackets);
-        for-texts = omega (arith, o.for-texts);
-        bits = omega (arith, o.text-bits);
-      }
 
   -- what was left of it
   module _ {a : Result declared.Statement Unbalanced} {x b z : List ℕ}

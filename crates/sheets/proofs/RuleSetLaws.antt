@@ -32,6 +32,11 @@ use Rattle.sheets.proofs.BlockLaws.{block_sizes, block-by, no-block-by, block-ne
 use Rattle.sheets.proofs.SheetBounds.{BlockKeeps, block-at-keeps}
 use Rattle.combinators.proofs.ZeroLaws.{zeros-later, zeros-behind, zeros-back}
 
+-- the room for a block is told as well by work stores that are equal
+pub block-room-as : {s : List ℕ} {n at : ℕ} {rules : List ℕ} {place : ℕ} {tokens brackets store : List ℕ} {fill : ℕ} {x b : List ℕ} → x ≡ tokens → b ≡ brackets
+    → BlockRoom s n at rules place tokens brackets store fill → BlockRoom s n at rules place x b store fill
+block-room-as ex eb o = rw (ex, eb) o
+
 -- what is stored behind something
 module _ (l l₀ : List ℕ) (f n : ℕ) (xs : List ℕ) (e : l ≡ sets l₀ f xs) (en : n ≡ length xs) where
   -- two lists stored one behind the other are stored as one

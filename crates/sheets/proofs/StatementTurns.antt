@@ -11,6 +11,8 @@ use Rattle.combinators.specs.Choice.{pick, or, and, is, within}
 use Rattle.combinators.specs.Parsed as parsed
 use Rattle.combinators.specs.Parsed.{err, on_parsed}
 use Rattle.combinators.specs.Repeat.{many, took}
+use Rattle.combinators.specs.Lent.{SameStores}
+use Rattle.combinators.specs.declared.lent.Stores.{Stores}
 use Rattle.combinators.specs.Store.{wiped, Zeros}
 use Rattle.combinators.proofs.Lists.{rest, nil-of}
 use Rattle.characters.specs.Utf8 as utf8
@@ -121,6 +123,11 @@ pub record Reading-on (s rules₀ tokens₀ brackets₀ store₀ rules tokens br
   pub counted : count ≤ taken
   pub wide : numbers ≤ rule_width * taken
   pub long : text ≤ taken
+
+-- the reader, with the stores that it was lent and as they are
+pub record Going-on (s : List ℕ) (stores₀ stores : Stores) (taken count numbers text : ℕ) : Type 0 where
+  pub same : SameStores stores₀ stores
+  pub reading : Reading-on s stores₀.rules.now stores₀.tokens.now stores₀.brackets.now stores₀.texts.now stores.rules.now stores.tokens.now stores.brackets.now stores.texts.now taken count numbers text
 
 -- before the first statement nothing is gathered
 pub begin : (s rules tokens brackets store : List ℕ) → Reading-on s rules tokens brackets store rules tokens brackets store 0 0 0 0

@@ -3,6 +3,7 @@ use Rattle.std.specs.Prelude.{ℕ, ◌-◌, ◌≤◌, ◌≡◌, refl, Result, 
 use Rattle.combinators.specs.Choice.{pick, or, and, is, within}
 use Rattle.combinators.specs.LeastLengths.{stores_suffice, Least}
 use Rattle.combinators.specs.Refusal.{no_refusal, refused, refused_at, too_long, short_store, not_utf8, panic}
+use Rattle.combinators.specs.declared.lent.Stores.{Stores}
 use Rattle.combinators.specs.declared.refusals.Refusal.{Refusal}
 use Rattle.syntax.specs.Stream.{rows_many, texts_many}
 use Rattle.characters.specs.Utf8.{valid, scalar_taken, scalar_of, scalar_by, lead_of, taken_of, is_continuation}
@@ -44,6 +45,10 @@ pub record SheetLeft : Type 0 where
   pub tokens : List ℕ
   pub brackets : List ℕ
   pub texts : List ℕ
+
+-- by a call that is lent the stores: its answer, and what they then hold
+abbrev pub leaving : SheetNumbers → Stores → SheetLeft
+leaving a stores = record { answer = a; rules = stores.rules.now; tokens = stores.tokens.now; brackets = stores.brackets.now; texts = stores.texts.now }
 
 -- numbers at the start of a store of n, zeros behind them
 unfoldable pub padded : List ℕ → ℕ → List ℕ

@@ -8,7 +8,7 @@ use combinators::refusals::{
 };
 
 // The refusal; of a sheet that was read the count of its rules, the first byte not read, the numbers that the rules take and the bytes of their texts.
-// What does not apply is 0.
+// What does not apply is 0: so the documents and C have it.
 #[derive(Clone, Copy)]
 pub struct SheetNumbers {
     pub refusal: Refusal,
@@ -18,9 +18,11 @@ pub struct SheetNumbers {
     pub bytes: usize,
 }
 
+// One `From` for each error.
 impl From<SheetError> for Refusal {
     ghost from_gives = { λ error refusal. refusal ≡ refusal_of error };
 
+    #[tactic(auto, unfolding(crate::specs::SheetAnswer::refusal_of))]
     fn from(error: SheetError) -> Refusal {
         match error {
             SheetError::TooLong => refused(TOO_LONG),
@@ -44,6 +46,7 @@ fn refused_sheet(refusal: Refusal) -> SheetNumbers
 }
 
 // What an answer stands for.
+#[tactic(auto, unfolding(crate::specs::SheetAnswer::numbers_of))]
 pub fn numbers_of(answer: Result<Sheet, SheetError>) -> SheetNumbers
     ensures { result ≡ numbers_of answer }
 {

@@ -1,9 +1,10 @@
-// Rules: `parse_ruleset`. The row of a rule goes to `rules` from `place` on, its texts to `store` from `fill` on. All stores are zero where
-// something may be written, and stay so where nothing is read.
+// Rules: `parse_ruleset`. The row of a rule goes to the stores' rules from `place` on, its texts to their texts from `fill` on. All stores are zero where
+// something may be written, and stay so where nothing is read. `place` and `fill` stand beside the stores: they go on from one part of a rule to the next.
 ghost use Rattle.std.specs.Prelude.{◌≡◌, ◌+◌, ◌≤◌, length, get_or};
 ghost use Rattle.std.proofs.lemmas.List.Edits.{sets};
 ghost use Rattle.combinators.specs.Ascii.{semicolon};
 ghost use Rattle.combinators.specs.Choice.{pick, is};
+ghost use Rattle.combinators.specs.Lent.{SameStores, SameWork, OfStores};
 ghost use Rattle.syntax.specs.Layout.{declaration_rows, declaration_texts};
 ghost use Rattle.syntax.specs.RuleLayout.{rule_row, rule_text};
 ghost use Rattle.selectors.specs.Outcome.{behind};
@@ -12,6 +13,7 @@ ghost use Rattle.sheets.specs.Rules.{block_at, block_answer, BlockRoom, RuleRoom
 ghost use Rattle.selectors.specs.Reading.{reading, written};
 
 use combinators::bytes::byte_is;
+use combinators::lent::Stores;
 use declarations::rules::parse_rules;
 use lexer::whitespace::{skip_from, skip_optional_whitespace};
 use selectors::readings::{Panic, Read, take_back};
@@ -28,7 +30,7 @@ fn past_semicolon(s: &[u8], e: usize) -> usize
     if byte_is(s, e, b';') { e + 1 } else { e }
 }
 
-// Where '}' should stand behind declarations that end at `n`.
+// Where '}' should stand behind declarations that end at `n`; all places here count from the start of `s`.
 fn before_end(s: &[u8], n: usize) -> usize
     requires { n ≤ length s.now }
     ensures value { result ≡ before_end s.now n }
@@ -53,36 +55,23 @@ fn parse_block(
     s: &[u8],
     n: usize,
     at: usize,
-    rules: &mut [u32],
+    stores: &mut Stores<'_>,
     place: usize,
-    tokens: &mut [u32],
-    brackets: &mut [u8],
-    store: &mut [u8],
     fill: usize,
 ) -> Option<Block>
-    requires { BlockRoom s.now n at rules.old place tokens.old brackets.old store.old fill }
+    requires { OfStores (BlockRoom s.now n at) stores.old place fill }
+    ensures same { SameStores stores.old stores.new }
+    ensures work_unchanged { SameWork stores.old stores.new }
     ensures value { result ≡ block_answer fill (block_at at s.now n) }
-    ensures rules_after { rules.new ≡ sets rules.old place (written (declaration_rows fill) (block_at at s.now n)) }
-    ensures tokens_unchanged { tokens.new ≡ tokens.old }
-    ensures brackets_unchanged { brackets.new ≡ brackets.old }
-    ensures store_after { store.new ≡ sets store.old fill (written declaration_texts (block_at at s.now n)) }
+    ensures rules_after { stores.new.rules.now ≡ sets stores.old.rules.now place (written (declaration_rows fill) (block_at at s.now n)) }
+    ensures texts_after { stores.new.texts.now ≡ sets stores.old.texts.now fill (written declaration_texts (block_at at s.now n)) }
 {
     let o = skip_from(s, n);
     if !byte_is(s, o, b'{') {
         return None;
     }
     let d = skip_from(s, o + 1);
-    let read = parse_rules(
-        &s[d..],
-        true,
-        at + d,
-        rules,
-        place,
-        tokens,
-        brackets,
-        store,
-        fill,
-    );
+    let read = parse_rules(&s[d..], true, at + d, stores, place, fill);
     let numbers = DECLARATION_WIDTH * read.count;
     let f = before_end(s, d + read.taken);
     if byte_is(s, f, b'}') {
@@ -93,7 +82,7 @@ fn parse_block(
             text: read.text,
         });
     }
-    take_back(rules, place, numbers, store, fill, read.text);
+    take_back(stores, place, numbers, fill, read.text);
     None
 }
 
@@ -101,22 +90,20 @@ fn parse_block(
 pub fn parse_ruleset(
     s: &[u8],
     at: usize,
-    rules: &mut [u32],
+    stores: &mut Stores<'_>,
     place: usize,
-    tokens: &mut [u32],
-    brackets: &mut [u8],
-    store: &mut [u8],
     fill: usize,
 ) -> Result<Option<Read>, Panic>
-    requires { RuleRoom s.now at rules.old place tokens.old brackets.old store.old fill }
+    requires { OfStores (RuleRoom s.now at) stores.old place fill }
+    ensures same { SameStores stores.old stores.new }
+    ensures work_unchanged { SameWork stores.old stores.new }
     ensures value { result ≡ reading (λ x. 1) (rule_row fill) rule_text (behind 0 (ruleset_of s.now) (moved_by at)) }
-    ensures rules_after { rules.new ≡ sets rules.old place (written (rule_row fill) (behind 0 (ruleset_of s.now) (moved_by at))) }
-    ensures tokens_unchanged { tokens.new ≡ tokens.old }
-    ensures brackets_unchanged { brackets.new ≡ brackets.old }
-    ensures store_after { store.new ≡ sets store.old fill (written rule_text (behind 0 (ruleset_of s.now) (moved_by at))) }
+    ensures rules_after { stores.new.rules.now ≡ sets stores.old.rules.now place (written (rule_row fill) (behind 0 (ruleset_of s.now) (moved_by at))) }
+    ensures texts_after { stores.new.texts.now ≡ sets stores.old.texts.now fill (written rule_text (behind 0 (ruleset_of s.now) (moved_by at))) }
 {
     let w = skip_optional_whitespace(s);
-    let list = match parse_selectors(&s[w..], rules, place + RULE_HEAD, store, fill) {
+    // no `?`: the panic's place is moved, and no proof reaches what a closure of `map_err` ensures
+    let list = match parse_selectors(&s[w..], stores, place + RULE_HEAD, fill) {
         Ok(list) => list,
         Err(panic) => return Err(panic.behind(w)),
     };
@@ -124,24 +111,14 @@ pub fn parse_ruleset(
         s,
         w + list.taken,
         at,
-        rules,
+        stores,
         place + RULE_HEAD + list.numbers,
-        tokens,
-        brackets,
-        store,
         fill + list.text,
     ) else {
-        take_back(
-            rules,
-            place + RULE_HEAD,
-            list.numbers,
-            store,
-            fill,
-            list.text,
-        );
+        take_back(stores, place + RULE_HEAD, list.numbers, fill, list.text);
         return Ok(None);
     };
-    put_rule_head(at + w, list.count, block.count, rules, place);
+    put_rule_head(at + w, list.count, block.count, stores.rules, place);
     Ok(Some(Read {
         taken: block.end,
         count: 1,

@@ -2,13 +2,13 @@
 // be UTF-8.
 ghost use Rattle.std.specs.Prelude.{◌≡◌};
 ghost use Rattle.sheets.specs.declared.sheet.SheetError.TheVariants as SheetError;
-ghost use Rattle.combinators.specs.Store.{cleared};
-ghost use Rattle.sheets.specs.SheetAnswer.{numbers_of, SheetLent, sheet_left, read_sheet};
+ghost use Rattle.combinators.specs.Lent.{SameStores};
+ghost use Rattle.sheets.specs.SheetAnswer.{numbers_of, SheetLent, leaving, sheet_left, read_sheet};
 
 use crate::statements::parse_stylesheet;
 use characters::utf8::is_valid;
 use combinators::least::stores_suffice;
-use combinators::stores::{clear_bytes, clear_numbers};
+use combinators::lent::Stores;
 use selectors::readings::Panic;
 
 // The bytes that a sheet may have.
@@ -23,7 +23,7 @@ pub struct Sheet {
     pub bytes: usize,
 }
 
-// Why a sheet is refused; of a panic the byte where the crate panics.
+// Why a sheet is refused, the error of a `Result`; of a panic the byte where the crate panics.
 #[derive(Clone, Copy, Debug, PartialEq, Eq)]
 pub enum SheetError {
     TooLong,
@@ -40,32 +40,14 @@ impl From<Panic> for SheetError {
     }
 }
 
-// Zeros throughout all stores.
-pub fn clear_stores(rules: &mut [u32], tokens: &mut [u32], brackets: &mut [u8], texts: &mut [u8])
-    ensures rules_after { rules.new ≡ cleared 0 rules.old }
-    ensures tokens_after { tokens.new ≡ cleared 0 tokens.old }
-    ensures brackets_after { brackets.new ≡ cleared 0 brackets.old }
-    ensures texts_after { texts.new ≡ cleared 0 texts.old }
-{
-    clear_numbers(rules, 0);
-    clear_numbers(tokens, 0);
-    clear_bytes(brackets, 0);
-    clear_bytes(texts, 0);
-}
-
 // Reads a sheet for which the stores suffice, whatever they hold.
-fn read_text(
-    s: &[u8],
-    rules: &mut [u32],
-    tokens: &mut [u32],
-    brackets: &mut [u8],
-    texts: &mut [u8],
-) -> Result<Sheet, SheetError>
-    requires { SheetLent s.now rules.old tokens.old brackets.old texts.old }
-    ensures { record { answer = numbers_of result; rules = rules.new; tokens = tokens.new; brackets = brackets.new; texts = texts.new } ≡ sheet_left s.now rules.old tokens.old brackets.old texts.old }
+fn read_text(s: &[u8], stores: &mut Stores<'_>) -> Result<Sheet, SheetError>
+    requires { SheetLent s.now stores.old.rules.now stores.old.tokens.now stores.old.brackets.now stores.old.texts.now }
+    ensures same { SameStores stores.old stores.new }
+    ensures stores_after { leaving (numbers_of result) stores.new ≡ sheet_left s.now stores.old.rules.now stores.old.tokens.now stores.old.brackets.now stores.old.texts.now }
 {
-    clear_stores(rules, tokens, brackets, texts);
-    let read = parse_stylesheet(s, rules, tokens, brackets, texts)?;
+    stores.clear();
+    let read = parse_stylesheet(s, stores)?;
     Ok(Sheet {
         count: read.count,
         stop: read.taken,
@@ -74,30 +56,26 @@ fn read_text(
     })
 }
 
-// Reads a sheet: its rules, which lie in `rules` and their texts in `texts`, and the first byte not read.
-pub fn read_sheet(
-    s: &[u8],
-    rules: &mut [u32],
-    tokens: &mut [u32],
-    brackets: &mut [u8],
-    texts: &mut [u8],
-) -> Result<Sheet, SheetError>
-    ensures { record { answer = numbers_of result; rules = rules.new; tokens = tokens.new; brackets = brackets.new; texts = texts.new } ≡ read_sheet s.now rules.old tokens.old brackets.old texts.old }
+// Reads a sheet, if none of the three tests refuses it: its rules, which lie in the stores' rules and their texts in the texts, and the first byte not read.
+// Other calls have the tests again: each definition has them with its own answer, and the errors are of other types.
+pub fn read_sheet(s: &[u8], stores: &mut Stores<'_>) -> Result<Sheet, SheetError>
+    ensures same { SameStores stores.old stores.new }
+    ensures stores_after { leaving (numbers_of result) stores.new ≡ read_sheet s.now stores.old.rules.now stores.old.tokens.now stores.old.brackets.now stores.old.texts.now }
 {
     if s.len() > SHEET_LIMIT {
         return Err(SheetError::TooLong);
     }
     if !stores_suffice(
         s.len(),
-        rules.len(),
-        tokens.len(),
-        brackets.len(),
-        texts.len(),
+        stores.rules.len(),
+        stores.tokens.len(),
+        stores.brackets.len(),
+        stores.texts.len(),
     ) {
         return Err(SheetError::ShortStore);
     }
     if !is_valid(s) {
         return Err(SheetError::NotUtf8);
     }
-    read_text(s, rules, tokens, brackets, texts)
+    read_text(s, stores)
 }

@@ -1,6 +1,8 @@
-// Statements: `parse_statement`, a rule or an at-rule; and `parse_stylesheet`, statements as long as they read.
+// Statements: `parse_statement`, a rule or an at-rule; and `parse_stylesheet`, statements as long as they read. `at`, `place` and `fill` stand beside the
+// stores: they go on from statement to statement.
 ghost use Rattle.std.specs.Prelude.{◌≡◌, length};
 ghost use Rattle.std.proofs.lemmas.List.Edits.{sets};
+ghost use Rattle.combinators.specs.Lent.{SameStores, SameWork, OfStores};
 ghost use Rattle.syntax.specs.RuleLayout.{rule_rows, rule_texts};
 ghost use Rattle.sheets.specs.Sheet.{statements_of, moved_to, sheet_of};
 ghost use Rattle.sheets.specs.Rules.{RuleRoom, SheetRoom};
@@ -8,62 +10,46 @@ ghost use Rattle.selectors.specs.Reading.{reading, many_reading, written};
 
 use crate::at_rules::parse_at_rule;
 use crate::rulesets::parse_ruleset;
+use combinators::lent::Stores;
 use selectors::readings::{Panic, Read, take_back};
 
 // Reads a rule, or else an at-rule; `s` starts at the byte `at` of the text.
 pub fn parse_statement(
     s: &[u8],
     at: usize,
-    rules: &mut [u32],
+    stores: &mut Stores<'_>,
     place: usize,
-    tokens: &mut [u32],
-    brackets: &mut [u8],
-    store: &mut [u8],
     fill: usize,
 ) -> Result<Option<Read>, Panic>
-    requires { RuleRoom s.now at rules.old place tokens.old brackets.old store.old fill }
+    requires { OfStores (RuleRoom s.now at) stores.old place fill }
+    ensures same { SameStores stores.old stores.new }
+    ensures work_unchanged { SameWork stores.old stores.new }
     ensures value { result ≡ reading length (rule_rows fill) rule_texts (moved_to at (statements_of s.now)) }
-    ensures rules_after { rules.new ≡ sets rules.old place (written (rule_rows fill) (moved_to at (statements_of s.now))) }
-    ensures tokens_unchanged { tokens.new ≡ tokens.old }
-    ensures brackets_unchanged { brackets.new ≡ brackets.old }
-    ensures store_after { store.new ≡ sets store.old fill (written rule_texts (moved_to at (statements_of s.now))) }
+    ensures rules_after { stores.new.rules.now ≡ sets stores.old.rules.now place (written (rule_rows fill) (moved_to at (statements_of s.now))) }
+    ensures texts_after { stores.new.texts.now ≡ sets stores.old.texts.now fill (written rule_texts (moved_to at (statements_of s.now))) }
 {
-    match parse_ruleset(s, at, rules, place, tokens, brackets, store, fill)? {
+    match parse_ruleset(s, at, stores, place, fill)? {
         Some(rule) => Ok(Some(rule)),
-        None => parse_at_rule(s, tokens, brackets, store, fill),
+        None => parse_at_rule(s, stores, fill),
     }
 }
 
 // Reads a sheet into stores that are zero: statements as long as they read. At the end of the text there is none.
-pub fn parse_stylesheet(
-    s: &[u8],
-    rules: &mut [u32],
-    tokens: &mut [u32],
-    brackets: &mut [u8],
-    store: &mut [u8],
-) -> Result<Read, Panic>
-    requires { SheetRoom s.now rules.old tokens.old brackets.old store.old }
+pub fn parse_stylesheet(s: &[u8], stores: &mut Stores<'_>) -> Result<Read, Panic>
+    requires { SheetRoom s.now stores.old.rules.now stores.old.tokens.now stores.old.brackets.now stores.old.texts.now }
+    ensures same { SameStores stores.old stores.new }
+    ensures work_unchanged { SameWork stores.old stores.new }
     ensures value { result ≡ many_reading length (rule_rows 0) rule_texts (sheet_of s.now) }
-    ensures rules_after { rules.new ≡ sets rules.old 0 (written (rule_rows 0) (sheet_of s.now)) }
-    ensures tokens_unchanged { tokens.new ≡ tokens.old }
-    ensures brackets_unchanged { brackets.new ≡ brackets.old }
-    ensures store_after { store.new ≡ sets store.old 0 (written rule_texts (sheet_of s.now)) }
+    ensures rules_after { stores.new.rules.now ≡ sets stores.old.rules.now 0 (written (rule_rows 0) (sheet_of s.now)) }
+    ensures texts_after { stores.new.texts.now ≡ sets stores.old.texts.now 0 (written rule_texts (sheet_of s.now)) }
 {
     let mut taken = 0;
     let mut count = 0;
     let mut numbers = 0;
     let mut text = 0;
+    // each turn goes on behind the statement that was read; no `?`, since what was written before is taken back
     while taken < s.len() {
-        match parse_statement(
-            &s[taken..],
-            taken,
-            rules,
-            numbers,
-            tokens,
-            brackets,
-            store,
-            text,
-        ) {
+        match parse_statement(&s[taken..], taken, stores, numbers, text) {
             Ok(Some(statement)) => {
                 taken += statement.taken;
                 count += statement.count;
@@ -79,7 +65,7 @@ pub fn parse_stylesheet(
                 });
             }
             Err(panic) => {
-                take_back(rules, 0, numbers, store, 0, text);
+                take_back(stores, 0, numbers, 0, text);
                 return Err(panic.behind(taken));
             }
         }

@@ -12,6 +12,7 @@ mod selector; // selector.rt: selectors as text
 mod text; // text.rt: names, lines and colours as text
 
 use combinators::least::{NUMBER_MORE, NUMBER_WIDTH, TEXT_MORE, TEXT_WIDTH};
+use combinators::lent::Stores;
 use place::{Marked, Place};
 use refusal::Refusal;
 use rule::{Source, print_rules};
@@ -43,7 +44,13 @@ fn print_sheet(out: &impl Print, sheet: &[u8]) -> io::Result<()> {
     let mut tokens = [0u32; NUMBERS];
     let mut brackets = [0u8; BRACKETS];
     let mut texts = [0u8; STORE];
-    match read_sheet(sheet, &mut rules, &mut tokens, &mut brackets, &mut texts) {
+    let mut stores = Stores {
+        rules: &mut rules,
+        tokens: &mut tokens,
+        brackets: &mut brackets,
+        texts: &mut texts,
+    };
+    match read_sheet(sheet, &mut stores) {
         Ok(read) => {
             let texts = &texts;
             print_read(out, sheet, read.stop)?;
@@ -53,7 +60,7 @@ fn print_sheet(out: &impl Print, sheet: &[u8]) -> io::Result<()> {
     }
 }
 
-// Whoever stops reading the output ends it; that is no error.
+// Whoever stops reading the output ends it; that is no error. (Each program has a `main` of its own, over its own buffer.)
 fn main(rt: HostRuntime) {
     let mut input = [0u8; INPUT];
     let n = read_full(&mut rt.stdin(), &mut input);

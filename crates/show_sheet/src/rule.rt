@@ -14,7 +14,7 @@ pub struct Source<'a> {
     pub texts: &'a [u8],
 }
 
-/// Prints the first `count` rules of the rows.
+/// Prints the first `count` rules of the rows. Rules are not of one width, so that the count is no length of the rows.
 pub fn print_rules(
     out: &impl Print,
     source: Source<'_>,

@@ -27,6 +27,7 @@ fn print_tokens(out: &impl Print, s: &[u8], store: &mut [u8]) -> io::Result<usiz
     requires { length s.now + 2 ≤ length store.old }
 {
     let mut at = 0;
+    // a token takes as many bytes as it has, so its turns are no range
     while let Some(Lexed { start, end, token }) = parse_token(&s[at..], store, 0) {
         let line = Line {
             start: at + start,
@@ -53,7 +54,7 @@ fn print_text(out: &impl Print, s: &[u8]) -> io::Result<()> {
     println!(out; "stop {stop}")
 }
 
-// Whoever stops reading the output ends it; that is no error.
+// Whoever stops reading the output ends it; that is no error. (Each program has a `main` of its own, over its own buffer.)
 fn main(rt: HostRuntime) {
     let mut input = [0u8; INPUT];
     let n = read_full(&mut rt.stdin(), &mut input);

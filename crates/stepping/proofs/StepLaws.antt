@@ -1,64 +1,76 @@
 -- The needs and returns of the functions that open a row, merge its attributes and make its step.
 use mathlib.Core.Path.{◌≡◌, refl, sym, ap, ◌∙◌}
 use mathlib.Core.Bool.{true, false}
-use mathlib.Core.List.{List, [], ◌∷◌, ◌++◌, append-nil}
-use mathlib.Core.Logic.{inl}
-use Prim.Native.Nat.{ℕ, suc, ◌+◌, ◌-◌, ◌*◌, ◌≤◌, ◌<◌}
+use mathlib.Core.List.{List, [], ◌∷◌, ◌++◌, append-nil, append_assoc}
+use Prim.Native.Nat.{ℕ, suc, ◌+◌, ◌-◌, ◌*◌, ◌≤◌}
 use native.Mathlib.Nat.{suc-mul, add-mul, mul-le-mul_right}
 use native.Mathlib.Omega.{arith}
-use lib.ListN.{length, take, replicate, length-set, length-append, length-replicate, drop_of_length-le, length-take}
+use lib.ListN.{length, take, drop, set, replicate, length-set, length-append, length-take, length-drop}
 use lib.Seq.{sets, sets-eq, length-sets, length-take-le}
 use Rattle.combinators.specs.Choice.{pick}
 use Rattle.combinators.specs.Part.{part}
-use Rattle.combinators.specs.Store.{wiped}
+use Rattle.combinators.proofs.Wiped.{sets-append, sets-apart}
+use Rattle.std.proofs.lemmas.List.{drop-drop}
+use Rattle.segments.proofs.StoreLaws.{part-write, part_same, length_part}
 use Rattle.combinators.proofs.Rules.{pick_true, pick-false, is-yes, is-no}
 use Rattle.syntax.specs.Stream.{texts_many}
 use Rattle.cascade.specs.declared.slots.Cascade.TheVariants.{Crate}
-use Rattle.cascade.specs.Row.{style_row_width, RowRoom, Inherited, Emptied, inherited_row, present_row}
-use Rattle.page.specs.Path.{Attribute, Element, Path}
+use Rattle.cascade.specs.Row.{style_row_width, Inherited, Emptied, inherited_row}
+use Rattle.page.specs.Path.{Attribute, Element}
 use Rattle.page.specs.PathOf.{attributes_from}
 use Rattle.page.specs.Rows.{other_kind, node_at, name_of, attribute_rows}
-use Rattle.attributes.specs.Merging.{InlineRoom}
 use Rattle.styles.specs.declared.settings.Settings.{Settings}
 use Rattle.styles.specs.Merged.{merged_row, late_declared}
 use Rattle.styles.specs.Said.{counted_attributes}
 use Rattle.styles.specs.StyleCall.{attributes_contents, inline_contents, placed_attributes}
-use Rattle.styles.proofs.Merging.{merged-none, merged-long, late-none}
-use Rattle.segments.specs.Down.{pass_at}
+use Rattle.styles.proofs.Merging.{merged-none, late-none}
+use Rattle.segments.specs.Down.{pass_at, fresh_in}
 use Rattle.sweeps.specs.Met.{handed_element}
-use Rattle.sweeps.specs.declared.elements.Handed as element
-use Rattle.segments.specs.Parts.{part_sets, flags_limit, pair_limit}
 use Rattle.segments.specs.Pass.{Passed}
 use Rattle.segments.specs.Sweep.{pair_at, pair_bytes}
-use Rattle.segments.proofs.PartSetLaws.{length-sets-own}
 use Rattle.runner.specs.PageRows.{no_style, selectors_declare}
 use Rattle.runner.specs.Run.{Handed, Stepped, handed_from, row_below, found_at, document_step, element_step, open_step, step_on}
 use Rattle.runner.specs.State.{depths, part_place, part_of, raised, opened}
-use Rattle.runner.proofs.StateParts.{sets-own}
+use Rattle.runner.proofs.StateParts.{part_pair, raised-part, raised-behind}
 use Rattle.stepping.specs.Lent.{StepLent}
-use Rattle.stepping.specs.Opened.{OpenLent, Below, child_element, child_passed, ElementOpened}
-use Rattle.stepping.specs.Passing.{SheetLent, DocumentLent, document_passed}
+use Rattle.stepping.specs.Opened.{OpenLent, Below, child_below, ChildOpened, child_element, child_passed, ElementOpened}
+use Rattle.cascade.proofs.Windows.{all-wiped}
 use Rattle.stepping.proofs.PassingLaws.{some_bytes}
 
 -- ---- rows
 -- zeros over a whole row
-emptied : (xs ys : List ℕ) → length xs ≡ style_row_width → Emptied xs ys → ys ≡ no_style
-unfolding wiped
-emptied xs ys e m =
-    let zeros : List ℕ = replicate style_row_width 0 in
-    let l : length zeros ≡ style_row_width = length-replicate {A = ℕ} style_row_width 0 in
-    m.numbers ∙ sets-eq zeros xs 0 (omega arith) ∙ ap (λ (r : List ℕ). zeros ++ r) (drop_of_length-le xs {i = 0 + length zeros} (omega arith)) ∙ append-nil zeros
-
--- the row that a child begins with is as long as its parent's
-inherited-long : (xs ys : List ℕ) → Inherited Crate xs ys → length ys ≡ length xs
-unfolding inherited_row present_row
-inherited-long xs ys m = ap length m.numbers ∙ simp length-set
+pub emptied : (xs ys : List ℕ) → length xs ≡ style_row_width → Emptied xs ys → ys ≡ no_style
+emptied xs ys e m = m.numbers ∙ sym (all-wiped xs style_row_width e) ∙ ap (λ (n : ℕ). replicate n 0) e
 
 -- ---- parts
--- the two bytes of a count lie in a part
-count-stored : (state : List ℕ) (own width n : ℕ) → 1 < width → part_sets state own width 0 (pair_bytes n) ≡ sets state own (pair_bytes n)
-unfolding pair_bytes
-count-stored state own width n h = let e : own + 0 ≡ own = omega arith in sets-own _ state own width 0 h ∙ rw e
+-- bytes stored in a part that is then stored whole are stored in the whole
+part-stored : (bs l store : List ℕ) (o j : ℕ) → j + length bs ≤ length l → sets store o (sets l j bs) ≡ sets (sets store o l) (o + j) bs
+part-stored [] l store o j h = refl
+part-stored (b ∷ bs) l store o j h =
+    let e : o + suc j ≡ suc (o + j) = omega arith in
+    let n = length-set l j b in
+    part-stored bs (set l j b) store o (suc j) (omega arith)
+    ∙ ap (λ (s : List ℕ). sets s (o + suc j) bs) (sym (part-write l store o j b (omega arith)))
+    ∙ ap (λ (i : ℕ). sets (set (sets store o l) (o + j) b) i bs) e
+
+-- a count stored in a part is stored in the whole
+count-stored : (l store : List ℕ) (o n : ℕ) → 2 ≤ length l → sets store o (sets l 0 (pair_bytes n)) ≡ sets (sets store o l) o (pair_bytes n)
+count-stored l store o n h =
+    let z : o + 0 ≡ o = omega arith in
+    let two : length (pair_bytes n) ≡ 2 = unfold pair_bytes in refl in
+    part-stored (pair_bytes n) l store o 0 (omega (arith, two)) ∙ ap (λ (i : ℕ). sets (sets store o l) i (pair_bytes n)) z
+
+-- two parts of the same length, put back side by side, are both stored
+side-by-side : (state x y : List ℕ) (a w : ℕ) → length x ≡ w → length y ≡ w → a + w + w ≤ length state → take a state ++ (x ++ (y ++ drop (a + w + w) state)) ≡ sets (sets state a x) (a + w) y
+side-by-side state x y a w lx ly h =
+    let both : length (x ++ y) ≡ w + w = length-append x y ∙ rw (lx, ly) in
+    let behind : a + length (x ++ y) ≡ a + w + w = omega arith in
+    ap (λ (z : List ℕ). take a state ++ z) (sym (append_assoc x y (drop (a + w + w) state)))
+    ∙ sym (append_assoc (take a state) (x ++ y) (drop (a + w + w) state))
+    ∙ ap (λ (i : ℕ). take a state ++ (x ++ y) ++ drop i state) (sym behind)
+    ∙ sym (sets-eq (x ++ y) state a (omega (arith, both, h)))
+    ∙ sets-append state a x y
+    ∙ ap (λ (n : ℕ). sets (sets state a x) (a + n) y) lx
 
 -- a part and two more, of so many
 parts-fit : (d w n : ℕ) → d + 2 ≤ depths → depths * w ≤ n → d * w + w + w ≤ n
@@ -68,125 +80,149 @@ parts-fit d w n h l =
     omega arith
 
 -- ---- what opening a row knows
-module _ (code out state : List ℕ) (l : OpenLent code out state) where
-  -- the buffer that is lent has room for a row
-  pub row-there : RowRoom out
-  row-there = record { room = omega (arith, l.one-row) }
+-- what opening a child by its part and its parent's leaves
+pub child-opened : (code node attributes text above own out name : List ℕ) (n : ℕ) → name ≡ name_of node text 0 → n ≡ pair_at above 0
+    → (above₁ own₁ own₂ out₁ out₂ : List ℕ) → above₁ ≡ sets above 0 (pair_bytes (n + 1)) → Inherited Crate out out₁
+    → own₁ ≡ (pass_at code (handed_element name attributes text (n + 1) ∷ []) above₁ own).part
+    → out₂ ≡ merged_row Crate out₁ (selectors_declare (found_at code (pass_at code (handed_element name attributes text (n + 1) ∷ []) above₁ own).matched))
+    → own₂ ≡ sets own₁ 0 (pair_bytes 0) → ChildOpened code (child_below node attributes text above) above own out above₁ own₂ out₂
+child-opened code node attributes text above own out name n en ev above₁ own₁ own₂ out₁ out₂ ea i e₁ eo e₂ =
+    let child : handed_element name attributes text (n + 1) ≡ child_below node attributes text above = unfold child_below in rw (en, ev) in
+    record {
+      count = ea ∙ ap (λ (k : ℕ). sets above 0 (pair_bytes (k + 1))) ev;
+      part = e₂ ∙ ap (λ (x : List ℕ). sets x 0 (pair_bytes 0)) (e₁ ∙ ap (λ (e : Element). (pass_at code (e ∷ []) above₁ own).part) child);
+      row =
+          eo
+          ∙ ap (λ (e : Element). merged_row Crate out₁ (selectors_declare (found_at code (pass_at code (e ∷ []) above₁ own).matched))) child
+          ∙ ap (λ (x : List ℕ). merged_row Crate x (selectors_declare (found_at code (pass_at code (child_below node attributes text above ∷ []) above₁ own).matched))) i.numbers;
+    }
 
-  -- the row that a child begins with has room too
-  pub inherited-room : (out₁ : List ℕ) → Inherited Crate out out₁ → RowRoom out₁
-  inherited-room out₁ m = record { room = omega (arith, l.one-row, inherited-long out out₁ m) }
+module _ (code state : List ℕ) (l : OpenLent code state) where
+  -- how long a part is, which has two bytes
+  abbrev width : ℕ
+  width = length code + 1
 
-  -- a part has two bytes
-  wide : 1 < length code + 1
+  wide : 2 ≤ length code + 1
   wide = omega (arith, some_bytes code l.sheet)
 
-  -- what passing the selectors at the document asks for
-  pub document-lent : DocumentLent code state
-  document-lent = record { sheet = l.sheet; few_bytes = l.few; room = omega (arith, l.for-state) }
-
   -- what opening the document leaves
-  pub document-opened : (out₁ state₁ state₂ : List ℕ) → state₁ ≡ document_passed code state → state₂ ≡ part_sets state₁ 0 (length code + 1) 0 (pair_bytes 0) → Emptied out out₁
-      → (out₁ ≡ no_style) × (state₂ ≡ (document_step code state []).state)
-  unfolding document_step opened document_passed
-  document-opened out₁ state₁ state₂ p w m =
-      let z : 0 ≡ part_place code 0 = omega arith in (
-        emptied out out₁ l.one-row m,
-        w
-            ∙ count-stored state₁ 0 (length code + 1) 0 wide
-            ∙ ap (λ (x : List ℕ). sets x 0 (pair_bytes 0)) p
-            ∙ ap (λ (k : ℕ). sets (document_passed code state) k (pair_bytes 0)) z,
-      )
+  module _ (own behind own₁ next₁ own₂ : List ℕ) (eo : own ≡ take (length code + 1) state) (eb : behind ≡ drop (length code + 1) state)
+      (en : next₁ ≡ fresh_in code (take (length code + 1) behind)) (e₁ : own₁ ≡ (pass_at code [] (fresh_in code (take (length code + 1) behind)) own).part) (e₂ : own₂ ≡ sets own₁ 0 (pair_bytes 0))
+      (lo : length own₂ ≡ length own) (ln : length next₁ ≡ length (take (length code + 1) behind)) where
+    -- both keep their lengths
+    document-long : length own₂ ≡ width
+    document-long = let r = l.for-state in lo ∙ ap length eo ∙ length-take-le width state (omega arith)
+
+    next-long : length next₁ ≡ width
+    next-long = let r = l.for-state in let d = length-drop width state in ln ∙ ap (λ (x : List ℕ). length (take width x)) eb ∙ length-take-le width (drop width state) (omega arith)
+
+    -- both parts are stored, in either order
+    parts-put : own₂ ++ (next₁ ++ drop (length code + 1) behind) ≡ sets (sets (sets state width next₁) 0 own₁) 0 (pair_bytes 0)
+    parts-put =
+        let z : 0 + width ≡ width = omega arith in
+        let g = ap (drop width) eb ∙ drop-drop width width state in
+        let d : 0 + width + width ≡ width + width = omega arith in
+        let r = l.for-state in
+        let long : length own₁ ≡ length own₂ = sym (ap length e₂ ∙ length-sets own₁ 0 (pair_bytes 0)) in
+        ap (λ (x : List ℕ). own₂ ++ (next₁ ++ x)) (g ∙ ap (λ (i : ℕ). drop i state) (sym d))
+        ∙ side-by-side state own₂ next₁ 0 width document-long next-long (omega arith)
+        ∙ ap (λ (i : ℕ). sets (sets state 0 own₂) i next₁) z
+        ∙ sym (sets-apart state 0 width own₂ next₁ (omega (arith, document-long)))
+        ∙ ap (sets (sets state width next₁) 0) e₂
+        ∙ count-stored own₁ (sets state width next₁) 0 0 (omega (arith, long, document-long, wide))
+
+    -- so the state is that of the document's step
+    pub document-opened : own₂ ++ (next₁ ++ drop (length code + 1) behind) ≡ (document_step code state []).state
+    unfolding document_step opened part part_of
+    document-opened =
+        let one : part_place code 1 ≡ width = omega arith in
+        let none : part_place code 0 ≡ 0 = omega arith in
+        parts-put ∙ rw (e₁, en, eo, eb, one, none)
 
   module _ (depth : ℕ) (b : Below depth) where
-    -- where the part of its parent begins, and its own
+    -- where the part of its parent begins
     abbrev parent : ℕ
     parent = (depth - 1) * (length code + 1)
-
-    abbrev own : ℕ
-    own = parent + (length code + 1)
 
     -- both parts lie in the state
     pub parts-there : (depth - 1) * (length code + 1) + (length code + 1) + (length code + 1) ≤ length state
     parts-there = parts-fit (depth - 1) (length code + 1) (length state) (omega (arith, b.deep, b.shallow)) l.for-state
 
-    -- the count of the parent has a low place
-    pub parent-low : (depth - 1) * (length code + 1) ≤ flags_limit
-    parent-low =
-        let m : (depth - 1) * (length code + 1) ≤ depths * (length code + 1) = mul-le-mul_right (length code + 1) (let h : depth - 1 ≤ depths = omega (arith, b.shallow) in h) in
-        omega (arith, m, l.few)
+    -- what opening an element leaves
+    module _ (node attributes text out rest above behind above₁ own₁ out₁ : List ℕ) (er : rest ≡ drop ((depth - 1) * (length code + 1)) state)
+        (ea : above ≡ take (length code + 1) rest) (eb : behind ≡ drop (length code + 1) rest) (la : length above₁ ≡ length above) (lo : length own₁ ≡ length (take (length code + 1) behind))
+        (e : ChildOpened code (child_below node attributes text above) above (take (length code + 1) behind) out above₁ own₁ out₁) where
+      -- the element that is opened, and what passing the selectors at it comes to
+      abbrev child : Element
+      child = child_element node attributes text state parent
 
-    module _ (n : ℕ) (en : n ≡ pair_at state ((depth - 1) * (length code + 1))) (small : n < pair_limit)
-        (state₁ : List ℕ) (e₁ : state₁ ≡ part_sets state ((depth - 1) * (length code + 1)) (length code + 1) 0 (pair_bytes (n + 1))) where
-      -- the state stays as long
-      raised_long : length state₁ ≡ length state
-      raised_long = ap length e₁ ∙ length-sets-own (pair_bytes (n + 1)) state parent (length code + 1) 0
+      abbrev passed : Passed
+      passed = child_passed code child (depth - 1) state
 
-      -- the parent has one child more
-      raises : state₁ ≡ raised state parent
+      -- the parent's part, and the own one
+      above-is : above ≡ part state parent width
+      unfolding part
+      above-is = ea ∙ ap (take width) er
+
+      own-is : take width behind ≡ part state (parent + width) width
+      unfolding part
+      own-is = ap (take width) (eb ∙ ap (drop width) er ∙ drop-drop width parent state)
+
+      -- which keep their lengths
+      above-long : length above₁ ≡ width
+      above-long = let there = parts-there in la ∙ ap length above-is ∙ length_part state parent width (omega (arith, there))
+
+      own-long : length own₁ ≡ width
+      own-long = lo ∙ ap length own-is ∙ length_part state (parent + width) width parts-there
+
+      -- the element is that of the whole state
+      child-is : child_below node attributes text above ≡ child
+      unfolding child_below child_element
+      child-is = let p = part_pair state parent width wide in rw (above-is, p)
+
+      -- the count of the parent is raised
+      raised-is : above₁ ≡ part (raised state parent) parent width
+      raised-is = let p = part_pair state parent width wide in e.count ∙ rw (above-is, p) (sym (raised-part state parent width))
+
+      -- so what is passed is what is passed in the whole state
+      passed-is : pass_at code (child_below node attributes text above ∷ []) above₁ (take width behind) ≡ passed
+      unfolding child_passed part_of part
+      passed-is =
+          let place : part_place code (suc (depth - 1)) ≡ parent + width = suc-mul (depth - 1) width in
+          let own : take width behind ≡ take width (drop (parent + width) (raised state parent)) = own-is ∙ ap (take width) (sym (raised-behind state parent width wide)) in
+          rw (child-is, raised-is, own, place)
+
+      -- the parent's part put back is the state with its count raised
+      raised-put : sets state parent above₁ ≡ raised state parent
       unfolding raised
-      raises = e₁ ∙ count-stored state parent (length code + 1) (n + 1) wide ∙ rw en
+      raised-put =
+          let there = parts-there in
+          let p = part_pair state parent width wide in
+          let n = length_part state parent width (omega (arith, there)) in
+          ap (sets state parent) e.count
+          ∙ ap (λ (x : List ℕ). sets state parent (sets x 0 (pair_bytes (pair_at x 0 + 1)))) above-is
+          ∙ ap (λ (k : ℕ). sets state parent (sets (part state parent width) 0 (pair_bytes (k + 1)))) p
+          ∙ count-stored (part state parent width) state parent (pair_at state parent + 1) (omega (arith, n, wide))
+          ∙ ap (λ (x : List ℕ). sets x parent (pair_bytes (pair_at state parent + 1))) (part_same width state parent (omega (arith, there)))
 
-      -- what passing the selectors at an element asks for
-      pub element-lent : (e : element.Handed) → e.place ≡ n + 1
-          → SheetLent code state₁ (record { above = (depth - 1) * (length code + 1); own = (depth - 1) * (length code + 1) + (length code + 1); width = length code + 1 }) e
-      element-lent e p =
-          record { sheet = l.sheet; few_bytes = l.few; room = omega (arith, raised_long, parts-there); apart = inl (omega arith); few = omega (arith, small, p) }
+      -- so the state is the raised one with the own part written
+      state-is : take parent state ++ (above₁ ++ (own₁ ++ drop (length code + 1) behind)) ≡ opened (raised state parent) (parent + width) passed.part
+      unfolding opened
+      state-is =
+          let g = ap (drop width) (eb ∙ ap (drop width) er ∙ drop-drop width parent state) ∙ drop-drop width (parent + width) state in
+          let blocks : List ℕ = (pass_at code (child_below node attributes text above ∷ []) above₁ (take width behind)).part in
+          let long : length blocks ≡ length own₁ = sym (ap length e.part ∙ length-sets blocks 0 (pair_bytes 0)) in
+          ap (λ (x : List ℕ). take parent state ++ (above₁ ++ (own₁ ++ x))) g
+          ∙ side-by-side state above₁ own₁ parent width above-long own-long parts-there
+          ∙ ap (λ (x : List ℕ). sets x (parent + width) own₁) raised-put
+          ∙ ap (sets (raised state parent) (parent + width)) e.part
+          ∙ count-stored blocks (raised state parent) (parent + width) 0 (omega (arith, long, own-long, wide))
+          ∙ ap (λ (x : Passed). sets (sets (raised state parent) (parent + width) x.part) (parent + width) (pair_bytes 0)) passed-is
 
-      -- its own part lies in the state behind that too
-      pub own_room : (row : Path) (above before state₂ : List ℕ) → state₂ ≡ sets state₁ ((depth - 1) * (length code + 1) + (length code + 1)) (pass_at code row above before).part
-          → (depth - 1) * (length code + 1) + (length code + 1) + (length code + 1) ≤ length state₂
-      own_room row above before state₂ e =
-          let n : length state₂ ≡ length state₁ = ap length e ∙ length-sets state₁ own (pass_at code row above before).part in
-          omega (arith, n, raised_long, parts-there)
-
-      module _ (node attributes text name : List ℕ) (named : name ≡ name_of node text 0) (out₁ : List ℕ) (inherits : Inherited Crate out out₁) where
-        -- the element that is opened
-        abbrev child : Element
-        child = child_element node attributes text state parent
-
-        -- what is passed at the element as it is handed
-        abbrev passed : Passed
-        passed = pass_at code (handed_element name attributes text (n + 1) ∷ []) (part state₁ parent (length code + 1)) (part state₁ own (length code + 1))
-
-        -- its own part begins behind its parent's
-        own-place : own ≡ part_place code (suc (depth - 1))
-        own-place = sym (suc-mul (depth - 1) (length code + 1))
-
-        -- that is what is passed at the child
-        passed_is : passed ≡ child_passed code child (depth - 1) state
-        unfolding child_passed child_element part_of
-        passed_is = rw (raises, own-place, en, named)
-
-        -- what opening an element leaves
-        pub element-opened : (state₂ out₂ state₃ : List ℕ)
-            → (state₂ ≡ sets state₁ ((depth - 1) * (length code + 1) + (length code + 1)) passed.part) × (out₂ ≡ merged_row Crate out₁ (selectors_declare (found_at code passed.matched)))
-            → state₃ ≡ part_sets state₂ ((depth - 1) * (length code + 1) + (length code + 1)) (length code + 1) 0 (pair_bytes 0)
-            → ElementOpened code child (depth - 1) out state out₂ state₃
-        unfolding opened
-        element-opened state₂ out₂ state₃ p w =
-            let blocks = (child_passed code child (depth - 1) state).part in
-            let found = (child_passed code child (depth - 1) state).matched in
-            record {
-              row =
-                  p.1
-                  ∙ ap (λ (x : Passed). merged_row Crate out₁ (selectors_declare (found_at code x.matched))) passed_is
-                  ∙ ap (λ (x : List ℕ). merged_row Crate x (selectors_declare (found_at code found))) inherits.numbers;
-              part =
-                  w
-                  ∙ count-stored state₂ own (length code + 1) 0 wide
-                  ∙ ap (λ (x : List ℕ). sets x own (pair_bytes 0)) (p.0 ∙ ap (λ (x : Passed). sets state₁ own x.part) passed_is)
-                  ∙ ap (λ (x : List ℕ). sets (sets x own blocks) own (pair_bytes 0)) raises
-                  ∙ ap (λ (k : ℕ). opened (raised state parent) k blocks) own-place;
-            }
+      pub element-opened : ElementOpened code child (depth - 1) out state out₁ (take parent state ++ (above₁ ++ (own₁ ++ drop (length code + 1) behind)))
+      element-opened = record { row = e.row ∙ ap (λ (x : Passed). merged_row Crate (inherited_row Crate out) (selectors_declare (found_at code x.matched))) passed-is; part = state-is ∙ ap (λ (k : ℕ). opened (raised state parent) k passed.part) (sym (suc-mul (depth - 1) width)) }
 
 -- ---- returns of `merge_inline`
--- so many attributes are those that are lent
-pub inline-lent : (attributes text : List ℕ) (n base fill : ℕ) (rules tokens brackets texts : List ℕ) → n ≡ attribute_rows attributes
-    → InlineRoom (attributes_from attributes text (attribute_rows attributes) 0) base fill rules tokens brackets texts
-    → InlineRoom (attributes_from attributes text n 0) base fill rules tokens brackets texts
-inline-lent attributes text n base fill rules tokens brackets texts e l = rw e l
-
 module _ (settings : Settings) (attributes text : List ℕ) (base fill : ℕ) (out texts : List ℕ) where
   -- the attributes of the row
   abbrev row_attributes : List Attribute
@@ -234,26 +270,19 @@ module _ (settings : Settings) (attributes text : List ℕ) (base fill : ℕ) (o
       )
 
 -- ---- what a step asks for
-module _ (code attributes text : List ℕ) (depth : ℕ) (out state rules tokens brackets texts : List ℕ) (fill : ℕ)
-    (l : StepLent code attributes text depth out state rules tokens brackets texts fill) where
+module _ (code attributes text : List ℕ) (depth : ℕ) (state rules tokens brackets texts : List ℕ) (fill : ℕ)
+    (l : StepLent code attributes text depth state rules tokens brackets texts fill) where
   -- what is filled lies in the store
   pub filled : fill ≤ length texts
   filled = omega (arith, l.for-attributes.for-texts)
 
   -- what opening the row asks for
-  pub open_lent : OpenLent code out state
-  open_lent = record { sheet = l.sheet; few = l.few; one-row = l.one-row; for-state = l.for-state }
+  pub open_lent : OpenLent code state
+  open_lent = record { sheet = l.sheet; few = l.few; for-state = l.for-state }
 
   -- an element is below the document
   pub below : ¬ (depth ≡ 0) → Below depth
   below d = record { deep = omega arith; shallow = l.shallow }
-
-  -- its row has room
-  pub opened-room : (e : Element) (out₁ state₁ : List ℕ) → ElementOpened code e (depth - 1) out state out₁ state₁ → RowRoom out₁
-  unfolding inherited_row present_row
-  opened-room e out₁ state₁ p =
-      let a : length out₁ ≡ length out = ap length p.row ∙ merged-long Crate _ (inherited_row Crate out) ∙ simp length-set in
-      record { room = omega (arith, a, l.one-row) }
 
 -- ---- returns of `step`
 -- the parts of what a step leaves
@@ -286,21 +315,21 @@ module _ (settings : Settings) (code node attributes text out state texts : List
       part t
 
 module _ (settings : Settings) (code node attributes text : List ℕ) (depth : ℕ) (out state rules tokens brackets texts : List ℕ) (fill : ℕ)
-    (l : StepLent code attributes text depth out state rules tokens brackets texts fill) where
+    (l : StepLent code attributes text depth state rules tokens brackets texts fill) where
   -- the row as it is handed to its step
   abbrev handed : Handed
   handed = handed_from node attributes text
 
   -- what is filled lies in the store
   abbrev fits : fill ≤ length texts
-  fits = filled code attributes text depth out state rules tokens brackets texts fill l
+  fits = filled code attributes text depth state rules tokens brackets texts fill l
 
   -- the step of other content leaves an empty row, and state and texts as they were
-  pub other_step : (kind : ℕ) → kind ≡ (node_at node 0).kind → kind ≡ other_kind → (out₁ : List ℕ) → Emptied out out₁
+  pub other_step : length out ≡ style_row_width → (kind : ℕ) → kind ≡ (node_at node 0).kind → kind ≡ other_kind → (out₁ : List ℕ) → Emptied out out₁
       → (record { row = out₁; state = state; texts = take fill texts } ≡ step_on code settings handed depth out state (take fill texts)) × (fill ≤ length texts)
   unfolding step_on handed_from
-  other_step kind e h out₁ m =
-      (pick_true _ _ _ _ (is-yes _ _ (sym e ∙ h)) (stepped _ _ _ _ _ _ (emptied out out₁ l.one-row m) refl refl), fits)
+  other_step o kind e h out₁ m =
+      (pick_true _ _ _ _ (is-yes _ _ (sym e ∙ h)) (stepped _ _ _ _ _ _ (emptied out out₁ o m) refl refl), fits)
 
   module _ (kind : ℕ) (e : kind ≡ (node_at node 0).kind) (h : ¬ (kind ≡ other_kind)) where
     -- a row that is no other content is opened

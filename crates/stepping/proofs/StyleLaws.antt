@@ -1,4 +1,4 @@
--- Declarations merged into a row one after the other, and the returns and turns of the functions that merge the styles of a selector.
+-- The returns and turns of the functions that merge the styles of a selector.
 use mathlib.Core.Path.{◌≡◌, refl, sym, ap, ◌∙◌}
 use mathlib.Core.Bool.{true, false}
 use mathlib.Core.List.{List, [], ◌∷◌, ◌++◌}
@@ -9,12 +9,12 @@ use Rattle.syntax.specs.declared.styles.StyleNumbers.{StyleNumbers}
 use Rattle.syntax.specs.declared.styles.Value.{Value}
 use Rattle.cascade.specs.declared.slots.Cascade.TheVariants.{Crate}
 use Rattle.cascade.specs.declared.specificity.Specificity.{Specificity}
-use Rattle.cascade.specs.Record.{Styled, Declared, from_rule}
-use Rattle.cascade.specs.Row.{RowRoom, Merged}
+use Rattle.cascade.specs.Record.{Styled, from_rule}
+use Rattle.cascade.specs.Row.{Merged}
 use Rattle.styles.specs.Merged.{merged_row}
 use Rattle.styles.specs.Said.{rule_style}
 use Rattle.styles.specs.StyleCall.{in_numbers}
-use Rattle.styles.proofs.Merging.{merged-none, merged-more, merged-append, merged-long}
+use Rattle.styles.proofs.Merging.{merged-none, merged-more, Merging, merging-begin, merging-more, merging-done}
 use Rattle.compiled.specs.Decoded.{read, counted}
 use Rattle.compiled.specs.Number.{number_at}
 use Rattle.compiled.specs.Style.{style_numbers_at}
@@ -33,37 +33,6 @@ use Rattle.stepping.specs.Reading.{listed}
 use Rattle.stepping.specs.Merging.{walked_style_at, styles_declare, CountedLent}
 use Rattle.stepping.proofs.ReadingLaws.{listed_at, listed-none, one-read, one_none, counted_next, counted-there, counted-end}
 
--- ---- a loop that merges declarations into a row
--- what has the length of a row with room has room
-pub room-kept : (row z : List ℕ) → length z ≡ length row → RowRoom row → RowRoom z
-room-kept row z e r = record { room = omega (arith, e, r.room) }
-
-module _ (row₀ : List ℕ) (all : List (Declared Value)) where
-  -- what is left to merge is what was to be merged, and the row has its length and room for a style
-  pub record Merging (row : List ℕ) (others : List (Declared Value)) : Type 0 where
-    pub left : merged_row Crate row others ≡ merged_row Crate row₀ all
-    pub long : length row ≡ length row₀
-    pub room : RowRoom row
-
-  -- nothing is merged yet
-  pub merging-begin : RowRoom row₀ → Merging row₀ all
-  merging-begin r = record { left = refl; long = refl; room = r }
-
-  module _ (row : List ℕ) (others : List (Declared Value)) (m : Merging row others) where
-    -- some of the others are merged: what stands behind them is left to merge
-    pub merging-more : (ds behind : List (Declared Value)) → others ≡ ds ++ behind → (z : List ℕ) → z ≡ merged_row Crate row ds → Merging z behind
-    merging-more ds behind e z ez =
-        let same : length z ≡ length row = ap length ez ∙ merged-long Crate ds row in
-        record {
-          left = ap (λ (x : List ℕ). merged_row Crate x behind) ez ∙ sym (merged-append Crate row ds behind) ∙ sym (ap (merged_row Crate row) e) ∙ m.left;
-          long = same ∙ m.long;
-          room = room-kept row z same m.room;
-        }
-
-    -- where none is left, the row is the first one with all merged
-    pub merging-done : others ≡ [] → row ≡ merged_row Crate row₀ all
-    merging-done e = sym (merged-none Crate row) ∙ sym (ap (merged_row Crate row) e) ∙ m.left
-
 -- ---- turns of `merge_counted`
 module _ (code : List ℕ) (count at origin pseudo : ℕ) (spec : Specificity) (row₀ : List ℕ) where
   -- all that is to be read
@@ -75,13 +44,13 @@ module _ (code : List ℕ) (count at origin pseudo : ℕ) (spec : Specificity) (
     pub end : ℕ
     pub others : List (Styled Value)
     pub told : counted (walked_style_at code) left i ≡ read end others
-    pub merging : Merging row₀ (styles_declare origin pseudo spec all) row (styles_declare origin pseudo spec others)
+    pub merging : Merging Crate row₀ (styles_declare origin pseudo spec all) row (styles_declare origin pseudo spec others)
 
   -- nothing is merged yet
-  pub styles-begin : RowRoom row₀ → CountedLent code at count → StylesMerging count at row₀
-  styles-begin r l =
+  pub styles-begin : CountedLent code at count → StylesMerging count at row₀
+  styles-begin l =
       let e = listed_at _ _ _ l.reads.told in
-      record { end = l.reads.end; others = all; told = e; merging = merging-begin row₀ _ r }
+      record { end = l.reads.end; others = all; told = e; merging = merging-begin Crate row₀ _ }
 
   -- one style is merged
   style-merged : (row z : List ℕ) (x : StyleNumbers) → Merged Crate row z (record { pseudo = pseudo; slot = x.slot; candidate = record { weight = record { important = x.important; origin = origin; spec = spec }; value = x.value } })
@@ -112,7 +81,7 @@ module _ (code : List ℕ) (count at origin pseudo : ℕ) (spec : Specificity) (
           end = m.end;
           others = w.0;
           told = w.1;
-          merging = merging-more row₀ _ row _ m.merging _ _ (one-declared m.others w.0 (in_numbers x.value) w.2) z (style-merged row z x.value d);
+          merging = merging-more Crate row₀ _ row _ m.merging _ _ (one-declared m.others w.0 (in_numbers x.value) w.2) z (style-merged row z x.value d);
         }
 
     -- while some are left, the reading of a style does not fail
@@ -122,7 +91,7 @@ module _ (code : List ℕ) (count at origin pseudo : ℕ) (spec : Specificity) (
 
     -- when none is left, all styles of the selector are merged into the row
     pub styles-done : left ≤ 0 → row ≡ merged_row Crate row₀ (styles_declare origin pseudo spec all)
-    styles-done h = merging-done row₀ _ row _ m.merging (none-declared m.others (counted-end (walked_style_at code) left i m.end m.others m.told h))
+    styles-done h = merging-done Crate row₀ _ row _ m.merging (none-declared m.others (counted-end (walked_style_at code) left i m.end m.others m.told h))
 
 -- ---- where nothing is read, nothing is merged
 -- no styles, merged into a row, leave it as it is

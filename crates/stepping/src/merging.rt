@@ -1,7 +1,6 @@
 // The styles of a selector in compiled bytes, merged into a style row.
 ghost use Rattle.std.specs.Prelude.{◌≡◌, [], ◌∷◌, ◌≤◌, length};
 ghost use Rattle.cascade.specs.declared.slots.Cascade.TheVariants.{Crate};
-ghost use Rattle.cascade.specs.Row.{RowRoom};
 ghost use Rattle.styles.specs.Merged.{merged_row};
 ghost use Rattle.compiled.specs.Decoded.{counted};
 ghost use Rattle.compiled.specs.Sheet.{compiled_limit};
@@ -12,7 +11,7 @@ ghost use Rattle.stepping.specs.Reading.{listed};
 ghost use Rattle.stepping.specs.Merging.{walked_style_at, styles_declare, CountedLent};
 
 use crate::specificity::read_weights;
-use cascade::rows::merge_computed_style;
+use cascade::rows::{StyleRow, merge_computed_style};
 use cascade::slots::Cascade;
 use cascade::specificity::Specificity;
 use compiled::numbers::read_number;
@@ -20,7 +19,9 @@ use compiled::sheets::{Head, read_head};
 use compiled::styles::{read_style, skip_styles};
 use syntax::rows::AGENT_ORIGIN;
 
-// Merges `count` styles from `at` on, as those of a selector.
+// Merges `count` styles from `at` on, as those of a selector. What is told of the selector comes from `merge_found`, and only two layers hand it through.
+// Styles differ in size, so `count` is no length of the bytes. That the bytes are few, so that places in them stay small, is asked below as a clause and is no
+// type: see compiled/src/sheets.rt.
 fn merge_counted(
     compiled: &[u8],
     at: usize,
@@ -28,10 +29,9 @@ fn merge_counted(
     origin: u32,
     pseudo: u32,
     spec: Specificity,
-    out: &mut [u32],
+    out: &mut StyleRow,
 )
-    requires row_room { RowRoom out.old }
-    requires counted_lent { CountedLent compiled.now at count }
+    requires { CountedLent compiled.now at count }
     ensures { out.new ≡ merged_row Crate out.old (styles_declare origin pseudo spec (listed (counted (walked_style_at compiled.now) count at))) }
 {
     let mut next = at;
@@ -58,10 +58,9 @@ fn merge_one(
     origin: u32,
     pseudo: u32,
     spec: Specificity,
-    out: &mut [u32],
+    out: &mut StyleRow,
 )
-    requires row_room { RowRoom out.old }
-    requires compiled_len_bound { length compiled.now ≤ compiled_limit }
+    requires { length compiled.now ≤ compiled_limit }
     ensures { out.new ≡ merged_row Crate out.old (styles_declare origin pseudo spec (listed (counted (walked_style_at compiled.now) 1 at))) }
 {
     if let Ok(style) = read_style(compiled, at) {
@@ -83,10 +82,9 @@ fn merge_styles(
     origin: u32,
     pseudo: u32,
     spec: Specificity,
-    out: &mut [u32],
+    out: &mut StyleRow,
 )
-    requires row_room { RowRoom out.old }
-    requires compiled_len_bound { length compiled.now ≤ compiled_limit }
+    requires { length compiled.now ≤ compiled_limit }
     ensures { out.new ≡ merged_row Crate out.old (styles_declare origin pseudo spec (listed (walked_styles_at compiled.now at))) }
 {
     let Ok(count) = read_number(compiled, at) else {
@@ -100,9 +98,8 @@ fn merge_styles(
 }
 
 // Merges the styles of the selector at `p`; where none reads to its end, nothing is declared.
-pub fn merge_found(compiled: &[u8], p: usize, out: &mut [u32])
-    requires row_room { RowRoom out.old }
-    requires compiled_len_bound { length compiled.now ≤ compiled_limit }
+pub fn merge_found(compiled: &[u8], p: usize, out: &mut StyleRow)
+    requires { length compiled.now ≤ compiled_limit }
     ensures { out.new ≡ merged_row Crate out.old (selectors_declare (found_at compiled.now (p ∷ []))) }
 {
     let Ok(head) = read_head(compiled, p, AGENT_ORIGIN) else {

@@ -1,81 +1,80 @@
 // The selectors of a compiled sheet at a row: by the part of its parent into its own, and at an element the styles of those that match.
-ghost use Rattle.std.specs.Prelude.{◌≡◌, [], ◌∷◌, ◌<◌, Some};
-ghost use Rattle.std.proofs.lemmas.List.Edits.{sets};
-ghost use Rattle.combinators.specs.Part.{part};
+ghost use Rattle.std.specs.Prelude.{◌≡◌, [], ◌∷◌, ◌≤◌, ◌<◌, length};
 ghost use Rattle.cascade.specs.declared.slots.Cascade.TheVariants.{Crate};
-ghost use Rattle.cascade.specs.Row.{RowRoom};
 ghost use Rattle.styles.specs.Merged.{merged_row};
+ghost use Rattle.compiled.specs.Sheet.{compiled_limit};
 ghost use Rattle.sweeps.specs.Met.{handed};
-ghost use Rattle.segments.specs.Visits.{visit_at};
-ghost use Rattle.visits.specs.Visiting.{VisitLent};
-ghost use Rattle.segments.specs.Pass.{matched_here, pass_from};
+ghost use Rattle.visits.specs.Visiting.{visited, next_from};
+ghost use Rattle.segments.specs.Pass.{matched_here, block_set, pass_from};
 ghost use Rattle.segments.specs.Parts.{pair_limit};
-ghost use Rattle.visits.specs.Passing.{next_from, visit_stored, pass_stored};
-ghost use Rattle.segments.specs.Down.{pass_at};
+ghost use Rattle.segments.specs.Down.{pass_at, fresh_in};
 ghost use Rattle.runner.specs.PageRows.{selectors_declare};
 ghost use Rattle.runner.specs.Run.{found_at};
-ghost use Rattle.stepping.specs.Passing.{SheetLent, DocumentLent, document_passed};
+ghost use Rattle.stepping.specs.Passing.{SheetLent};
 
 use crate::merging::merge_found;
+use cascade::rows::StyleRow;
 use compiled::numbers::read_number;
 use hints::hints::hint_of;
 use hints::skipping::skip_failing;
 use sweeps::elements::Handed;
-use sweeps::sweeping::Parts;
 use visits::document::{first_styled, tell_document};
 use visits::passing::{NO_PLACE, pass_blocks};
+use visits::rows::Row;
 use visits::visiting::visit;
 
-// The selector at `p`, at an element: its block goes to the own part, and where it matches its styles are merged. Returns the place of the next selector.
-fn visit_found(
-    compiled: &[u8],
-    state: &mut [u8],
-    parts: Parts,
-    p: usize,
-    element: Handed<'_>,
-    out: &mut [u32],
-) -> usize
-    requires row_room { RowRoom out.old }
-    requires visit_lent { VisitLent compiled.now state.old parts p (Some element) }
-    ensures state_after { state.new ≡ visit_stored compiled.now (handed element.entry ∷ []) parts.above parts.own parts.width p state.old }
-    ensures out_after { out.new ≡ merged_row Crate out.old (selectors_declare (found_at compiled.now
-        (matched_here (visit_at compiled.now (handed element.entry ∷ []) (part state.old parts.above parts.width) p) p))) }
-    ensures value { result ≡ next_from state.old parts.above parts.width p }
+// The selector at `p`, at a row: its block goes to the own part, and where it matches its styles are merged. Returns the place of the next selector. (`own` is
+// written while the row is read, and `p` is another at each turn, so the three are no struct.)
+fn visit_found(row: &Row<'_>, own: &mut [u8], p: usize, out: &mut StyleRow) -> usize
+    requires room { length row.now.above.now ≤ length own.old }
+    requires near { p ≤ compiled_limit }
+    ensures own_after { own.new ≡ block_set (visited row.now p) (next_from row.now p) p own.old }
+    ensures out_after { out.new ≡ merged_row Crate out.old (selectors_declare (found_at row.now.compiled.now (matched_here (visited row.now p) p))) }
+    ensures value { result ≡ next_from row.now p }
     ensures upper_bound { result < pair_limit }
 {
-    let answer = visit(compiled, state, parts, p, Some(element));
+    let answer = visit(row, own, p);
     if answer.matched {
-        merge_found(compiled, p, out);
+        merge_found(row.compiled, p, out);
     }
     answer.next
 }
 
-// At most `count` selectors from the one at `first` on, at an element. Those that surely fail are passed over by a hint, which is found once.
+// At most `count` selectors from the one at `first` on, at an element. Those that surely fail are passed over by a hint, which is found once. (A call of its own: as a part of the whole
+// run its loop has too few registers, by a tenth of a run's time. The row is made here: the hint asks for the element, for which a `Row` has an `Option`. A
+// block says where the next one is, so that no slice of `own` holds `count` of them, here and in `pass_told`.)
+#[inline(never)]
 fn pass_found(
     compiled: &[u8],
-    state: &mut [u8],
-    parts: Parts,
+    above: &[u8],
+    own: &mut [u8],
     first: usize,
     count: u32,
-    element: Handed<'_>,
-    out: &mut [u32],
+    element: &Handed<'_>,
+    out: &mut StyleRow,
 )
-    requires row_room { RowRoom out.old }
-    requires visit_lent { VisitLent compiled.now state.old parts first (Some element) }
-    ensures state_after { state.new ≡ pass_stored compiled.now (handed element.entry ∷ []) parts.above parts.own parts.width count first state.old }
+    requires few_bytes { length compiled.now ≤ compiled_limit }
+    requires room { length above.now ≤ length own.old }
+    requires near { first ≤ compiled_limit }
+    ensures own_after { own.new ≡ (pass_from compiled.now (handed element.now ∷ []) above.now count first own.old).part }
     ensures out_after { out.new ≡ merged_row Crate out.old (selectors_declare (found_at compiled.now
-        (pass_from compiled.now (handed element.entry ∷ []) (part state.old parts.above parts.width) count first (part state.old parts.own parts.width)).matched)) }
+        (pass_from compiled.now (handed element.now ∷ []) above.now count first own.old).matched)) }
 {
+    let row = Row {
+        compiled,
+        above,
+        element: Some(element),
+    };
     let hint = hint_of(element, count);
     let mut p = first;
     let mut left = count;
     // a pass over some is no step of a range
     while left > 0 {
-        let skipped = skip_failing(compiled, state, parts, p, left, hint);
+        let skipped = skip_failing(&row, own, p, left, hint);
         if skipped.left == 0 || skipped.place == NO_PLACE {
             return;
         }
-        p = visit_found(compiled, state, parts, skipped.place, element, out);
+        p = visit_found(&row, own, skipped.place, out);
         left = skipped.left - 1;
     }
 }
@@ -83,40 +82,51 @@ fn pass_found(
 // All selectors of the sheet that have a style, at an element.
 pub fn pass_element(
     compiled: &[u8],
-    state: &mut [u8],
-    parts: Parts,
-    element: Handed<'_>,
-    out: &mut [u32],
+    above: &[u8],
+    own: &mut [u8],
+    element: &Handed<'_>,
+    out: &mut StyleRow,
 )
-    requires row_room { RowRoom out.old }
-    requires sheet_lent { SheetLent compiled.now state.old parts element }
-    ensures state_after { state.new ≡ sets state.old parts.own (pass_at compiled.now (handed element.entry ∷ [])
-        (part state.old parts.above parts.width) (part state.old parts.own parts.width)).part }
+    requires { SheetLent compiled.now above.now own.old }
+    ensures own_after { own.new ≡ (pass_at compiled.now (handed element.now ∷ []) above.now own.old).part }
     ensures out_after { out.new ≡ merged_row Crate out.old (selectors_declare (found_at compiled.now
-        (pass_at compiled.now (handed element.entry ∷ []) (part state.old parts.above parts.width) (part state.old parts.own parts.width)).matched)) }
+        (pass_at compiled.now (handed element.now ∷ []) above.now own.old).matched)) }
 {
     let Ok(count) = read_number(compiled, 0) else {
         return;
     };
     let first = first_styled(compiled, count.next, count.value);
-    pass_found(compiled, state, parts, first, count.value, element, out);
+    if first == NO_PLACE {
+        return;
+    }
+    pass_found(compiled, above, own, first, count.value, element, out);
 }
 
-// The same at the document, which has no style: what stands above all selectors is told in the part of the next depth, which is not open yet.
-pub fn pass_document(compiled: &[u8], state: &mut [u8])
-    requires { DocumentLent compiled.now state.old }
-    ensures { state.new ≡ document_passed compiled.now state.old }
+// At most `count` selectors from the one at `first` on, at the document, by what it is told.
+fn pass_told<'a>(compiled: &'a [u8], told: &'a [u8], own: &mut [u8], first: usize, count: u32)
+    requires few_bytes { length compiled.now ≤ compiled_limit }
+    requires room { length told.now ≤ length own.old }
+    requires near { first ≤ compiled_limit }
+    ensures { own.new ≡ (pass_from compiled.now [] told.now count first own.old).part }
 {
-    let width = compiled.len() + 1;
+    let row = Row {
+        compiled,
+        above: told,
+        element: None,
+    };
+    pass_blocks(&row, own, first, count);
+}
+
+// All selectors at the document, which has no style: what stands above all selectors is told in the part of the next depth, which is not open yet.
+pub fn pass_document(compiled: &[u8], own: &mut [u8], next: &mut [u8])
+    requires { SheetLent compiled.now next.old own.old }
+    ensures next_after { next.new ≡ fresh_in compiled.now next.old }
+    ensures own_after { own.new ≡ (pass_at compiled.now [] (fresh_in compiled.now next.old) own.old).part }
+{
     let Ok(count) = read_number(compiled, 0) else {
         return;
     };
-    tell_document(compiled, state, width, width, count.next, count.value);
+    tell_document(compiled, next, count.next, count.value);
     let first = first_styled(compiled, count.next, count.value);
-    let parts = Parts {
-        above: width,
-        own: 0,
-        width,
-    };
-    pass_blocks(compiled, state, parts, first, count.value, None);
+    pass_told(compiled, next, own, first, count.value);
 }

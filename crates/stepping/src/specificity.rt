@@ -9,7 +9,7 @@ use compiled::components::{MARK_SIZE, Written, read_component, short_size};
 use compiled::places::{Fault, Read};
 use syntax::rows::{ELEMENT, HASH};
 
-// What a component of one text adds, by its kind.
+// What a component of one text adds, by its kind, a number of the bytes: the last arm is that of any other.
 fn name_weight(kind: u32) -> Specificity
     ensures { (x : List ℕ) → result ≡ added (named_of kind x) }
 {
@@ -60,7 +60,7 @@ fn read_weight(compiled: &[u8], at: usize) -> Result<Read<Specificity>, Fault>
     }
 }
 
-// How specific the selector of `count` components from `at` on is, with the place behind them.
+// How specific the selector of `count` components from `at` on is, with the place behind them. Components differ in size, so the count is no length.
 pub fn read_weights(compiled: &[u8], at: usize, count: u32) -> Result<Read<Specificity>, Fault>
     ensures { result ≡ weights_at compiled.now count at }
 {

@@ -2,144 +2,150 @@
 ghost use Rattle.std.specs.Prelude.{◌≡◌, [], ◌++◌, ◌+◌, ◌-◌, ◌≤◌, length, take};
 ghost use Rattle.combinators.specs.Choice.{pick};
 ghost use Rattle.cascade.specs.declared.slots.Cascade.TheVariants.{Crate};
-ghost use Rattle.cascade.specs.Row.{RowRoom};
 ghost use Rattle.page.specs.PathOf.{attributes_from};
 ghost use Rattle.page.specs.Rows.{attribute_rows};
 ghost use Rattle.attributes.specs.Merging.{InlineRoom};
+ghost use Rattle.combinators.specs.Lent.{SameStores, SameLengths};
 ghost use Rattle.styles.specs.Merged.{merged_row, late_declared};
 ghost use Rattle.styles.specs.StyleCall.{attributes_contents, placed_attributes};
 ghost use Rattle.runner.specs.PageRows.{no_style};
 ghost use Rattle.runner.specs.Run.{handed_from, document_step, step_on};
 ghost use Rattle.runner.specs.State.{part_place};
 ghost use Rattle.stepping.specs.Lent.{StepLent};
-ghost use Rattle.stepping.specs.Opened.{OpenLent, Below, child_element, ElementOpened};
+ghost use Rattle.stepping.specs.Opened.{OpenLent, Below, child_below, ChildOpened, child_element, ElementOpened};
+ghost use Rattle.stepping.specs.Passing.{SheetLent};
 
 use crate::passing::{pass_document, pass_element};
 use attributes::merging::merge_attributes;
-use cascade::rows::{clear_row, inherit};
+use cascade::rows::{StyleRow, clear_row, inherit};
 use cascade::slots::Cascade;
+use combinators::lent::Stores;
+use matching::elements::Attributes;
 use page::rows::{OTHER, attribute_rows, kind_of, name_of};
 use styles::settings::Settings;
 use sweeps::elements::Handed;
 use sweeps::parts::{pair_at, put_pair};
-use sweeps::sweeping::Parts;
 
 // Where in a part the count of the element children stands.
 const TO_COUNT: usize = 0;
 
+// A row of a page as its step is handed it: the six numbers of the node, its attribute rows, and the text that they name their texts in.
+#[derive(Clone, Copy)]
+pub struct NodeRow<'a> {
+    pub node: &'a [u32],
+    pub attributes: &'a [u32],
+    pub text: &'a [u8],
+}
+
 // The document: its part of the state, and no style.
-fn open_document(compiled: &[u8], out: &mut [u32], state: &mut [u8])
-    requires { OpenLent compiled.now out.old state.old }
+fn open_document(compiled: &[u8], out: &mut StyleRow, state: &mut [u8])
+    requires { OpenLent compiled.now state.old }
     ensures out_after { out.new ≡ no_style }
     ensures state_after { state.new ≡ (document_step compiled.now state.old []).state }
 {
     let width = compiled.len() + 1;
-    pass_document(compiled, state);
-    put_pair(state, 0, width, TO_COUNT, 0);
+    let (own, behind) = state.split_at_mut(width);
+    pass_document(compiled, own, &mut behind[..width]);
+    put_pair(own, TO_COUNT, 0);
     clear_row(out);
 }
 
-// An element: its style row without what its attributes say, its own part of the state, and one child more in its parent's.
+// An element, by its own part of the state and its parent's: its style row without what its attributes say, its own part, and one child more in its parent's.
+fn open_child(
+    compiled: &[u8],
+    row: NodeRow<'_>,
+    above: &mut [u8],
+    own: &mut [u8],
+    out: &mut StyleRow,
+)
+    requires { SheetLent compiled.now above.old own.old }
+    ensures { ChildOpened compiled.now (child_below row.entry.node.now row.entry.attributes.now row.entry.text.now above.old) above.old own.old out.old above.new own.new out.new }
+{
+    let place = pair_at(above, TO_COUNT) + 1;
+    put_pair(above, TO_COUNT, place);
+    inherit(out, Cascade::Crate);
+    let element = Handed {
+        name: name_of(row.node, row.text, 0),
+        attributes: row.attributes,
+        text: row.text,
+        place,
+    };
+    pass_element(compiled, above, own, &element, out);
+    put_pair(own, TO_COUNT, 0);
+}
+
+// The same, by the whole state.
 fn open_element(
     compiled: &[u8],
-    node: &[u32],
-    attributes: &[u32],
-    text: &[u8],
+    row: NodeRow<'_>,
     depth: usize,
-    out: &mut [u32],
+    out: &mut StyleRow,
     state: &mut [u8],
 )
-    requires open_lent { OpenLent compiled.now out.old state.old }
+    requires open_lent { OpenLent compiled.now state.old }
     requires below { Below depth }
     ensures { ElementOpened compiled.now
-        (child_element node.now attributes.now text.now state.old (part_place compiled.now (depth - 1)))
+        (child_element row.entry.node.now row.entry.attributes.now row.entry.text.now state.old (part_place compiled.now (depth - 1)))
         (depth - 1) out.old state.old out.new state.new }
 {
     let width = compiled.len() + 1;
-    let parent = (depth - 1) * width;
-    let parts = Parts {
-        above: parent,
-        own: parent + width,
-        width,
-    };
-    let place = pair_at(state, parent) + 1;
-    put_pair(state, parent, width, TO_COUNT, place);
-    inherit(out, Cascade::Crate);
-    let element = Handed {
-        name: name_of(node, text, 0),
-        attributes,
-        text,
-        place,
-    };
-    pass_element(compiled, state, parts, element, out);
-    put_pair(state, parts.own, width, TO_COUNT, 0);
+    let (_, rest) = state.split_at_mut((depth - 1) * width);
+    let (above, behind) = rest.split_at_mut(width);
+    open_child(compiled, row, above, &mut behind[..width], out);
 }
 
-// What the attributes of a row say, if document styles are on; the fill behind their contents, whose starts count from `base` on. What `rules`, `tokens` and
-// `brackets` hold afterwards, and `texts` behind that fill, is left free.
+// What the attributes of a row say, if document styles are on; the fill behind their contents, whose starts count from `base` on. What the work
+// stores hold afterwards, and the texts behind that fill, is left free.
 fn merge_inline(
     settings: Settings,
     attributes: &[u32],
     text: &[u8],
     base: usize,
-    out: &mut [u32],
-    rules: &mut [u32],
-    tokens: &mut [u32],
-    brackets: &mut [u8],
-    texts: &mut [u8],
+    out: &mut StyleRow,
+    stores: &mut Stores<'_>,
     fill: usize,
 ) -> usize
-    requires row_room { RowRoom out.old }
-    requires inline_room { InlineRoom (attributes_from attributes.now text.now (attribute_rows attributes.now) 0) base fill rules.old tokens.old brackets.old texts.old }
+    requires { InlineRoom (attributes_from attributes.now text.now (attribute_rows attributes.now) 0) base fill stores.old.rules.now stores.old.tokens.now stores.old.brackets.now stores.old.texts.now }
     ensures out_after { out.new ≡ merged_row Crate out.old (late_declared Crate (placed_attributes (base + fill)
         (pick settings.document_styles (attributes_from attributes.now text.now (attribute_rows attributes.now) 0) []))) }
-    ensures texts_after { take result texts.new ≡ take fill texts.old ++ attributes_contents
+    ensures texts_after { take result stores.new.texts.now ≡ take fill stores.old.texts.now ++ attributes_contents
         (pick settings.document_styles (attributes_from attributes.now text.now (attribute_rows attributes.now) 0) []) }
-    ensures upper_bound { result ≤ length texts.new }
+    ensures upper_bound { result ≤ length stores.new.texts.now }
+    ensures lengths { SameLengths stores.old stores.new }
+    ensures same { SameStores stores.old stores.new }
 {
     if settings.document_styles {
-        let count = attribute_rows(attributes);
-        return merge_attributes(
-            Cascade::Crate,
-            attributes,
+        let row_attributes = Attributes {
+            rows: attributes,
             text,
-            0,
-            count,
-            base,
-            out,
-            rules,
-            tokens,
-            brackets,
-            texts,
-            fill,
-        );
+            at: 0,
+            count: attribute_rows(attributes),
+        };
+        return merge_attributes(Cascade::Crate, row_attributes, base, out, stores, fill);
     }
     fill
 }
 
-// The step of a row: `node` is its six numbers, `attributes` its attribute rows. `out` is its parent's style row at entry and its own at exit; the fill behind
+// The step of a row. `out` is its parent's style row at entry and its own at exit; the fill behind
 // its texts. What `rules`, `tokens` and `brackets` hold afterwards, and `texts` behind that fill, is left free.
 pub fn step(
     settings: Settings,
     compiled: &[u8],
-    node: &[u32],
-    attributes: &[u32],
-    text: &[u8],
+    row: NodeRow<'_>,
     depth: usize,
-    out: &mut [u32],
+    out: &mut StyleRow,
     state: &mut [u8],
-    rules: &mut [u32],
-    tokens: &mut [u32],
-    brackets: &mut [u8],
-    texts: &mut [u8],
+    stores: &mut Stores<'_>,
     fill: usize,
 ) -> usize
-    requires { StepLent compiled.now attributes.now text.now depth out.old state.old rules.old tokens.old brackets.old texts.old fill }
-    ensures texts_after { record { row = out.new; state = state.new; texts = take result texts.new }
-        ≡ step_on compiled.now settings (handed_from node.now attributes.now text.now) depth out.old state.old (take fill texts.old) }
-    ensures upper_bound { result ≤ length texts.new }
+    requires { StepLent compiled.now row.attributes.now row.text.now depth state.old stores.old.rules.now stores.old.tokens.now stores.old.brackets.now stores.old.texts.now fill }
+    ensures texts_after { record { row = out.new; state = state.new; texts = take result stores.new.texts.now }
+        ≡ step_on compiled.now settings (handed_from row.entry.node.now row.entry.attributes.now row.entry.text.now) depth out.old state.old (take fill stores.old.texts.now) }
+    ensures upper_bound { result ≤ length stores.new.texts.now }
+    ensures lengths { SameLengths stores.old stores.new }
+    ensures same { SameStores stores.old stores.new }
 {
-    if kind_of(node, 0) == OTHER {
+    if kind_of(row.node, 0) == OTHER {
         clear_row(out);
         return fill;
     }
@@ -147,17 +153,14 @@ pub fn step(
         open_document(compiled, out, state);
         return fill;
     }
-    open_element(compiled, node, attributes, text, depth, out, state);
+    open_element(compiled, row, depth, out, state);
     merge_inline(
         settings,
-        attributes,
-        text,
+        row.attributes,
+        row.text,
         compiled.len(),
         out,
-        rules,
-        tokens,
-        brackets,
-        texts,
+        stores,
         fill,
     )
 }

@@ -67,6 +67,7 @@ pub fn read_full<R: Read>(input: &mut R, buffer: &mut [u8]) -> usize
     ensures { result ≤ length buffer.new }
 {
     let mut done = 0;
+    // a read takes as many bytes as it likes, so its turns are no range
     while let Ok(n @ 1..) = input.read(&mut buffer[done..]) {
         done += n;
     }

@@ -1,3 +1,4 @@
+pub mod KeptStores
 pub mod Lying
 pub mod Placed
 pub mod Called

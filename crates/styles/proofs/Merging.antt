@@ -1,5 +1,5 @@
 -- The laws of declarations merged into a row, and of what attributes declare.
-use mathlib.Core.Path.{◌≡◌, refl, sym, ◌∙◌}
+use mathlib.Core.Path.{◌≡◌, refl, sym, ap, ◌∙◌}
 use mathlib.Core.Bool.{false}
 use mathlib.Core.List.{List, [], ◌∷◌, ◌++◌, map, append_assoc}
 use Prim.Native.Nat.{ℕ}
@@ -38,6 +38,28 @@ module _ (c : Cascade) where
   unfolding merged_row
   merged-long [] row = refl
   merged-long (d ∷ ds) row = merged-long ds (merge_row_by (update_by c) row d) ∙ merge-long (update_by c) row d
+
+-- ---- a loop that merges declarations into a row
+module _ (c : Cascade) (row₀ : List ℕ) (all : List (Declared Value)) where
+  -- what is left to merge is what was to be merged
+  pub record Merging (row : List ℕ) (others : List (Declared Value)) : Type 0 where
+    pub left : merged_row c row others ≡ merged_row c row₀ all
+
+  -- nothing is merged yet
+  pub merging-begin : Merging row₀ all
+  merging-begin = record { left = refl }
+
+  module _ (row : List ℕ) (others : List (Declared Value)) (m : Merging row others) where
+    -- some of the others are merged: what stands behind them is left to merge
+    pub merging-more : (ds behind : List (Declared Value)) → others ≡ ds ++ behind → (z : List ℕ) → z ≡ merged_row c row ds → Merging z behind
+    merging-more ds behind e z ez =
+        record {
+          left = ap (λ (x : List ℕ). merged_row c x behind) ez ∙ sym (merged-append c row ds behind) ∙ sym (ap (merged_row c row) e) ∙ m.left;
+        }
+
+    -- where none is left, the row is the first one with all merged
+    pub merging-done : others ≡ [] → row ≡ merged_row c row₀ all
+    merging-done e = sym (merged-none c row) ∙ sym (ap (merged_row c row) e) ∙ m.left
 
 -- ---- what attributes declare, one behind the other
 module _ {A : Type 0} where

@@ -1,9 +1,6 @@
--- What a call is lent to read: three sheets, and a page.
+-- What a call is lent to read, beside a page: three sheets.
 use Rattle.std.specs.Prelude.{ℕ, List}
-use Rattle.page.specs.Path.{Element, Path}
-use Rattle.page.specs.PathOf.{element_at, path_of}
-use Rattle.styles.specs.declared.lent.Page as code
-use Rattle.styles.specs.declared.lent.SheetTexts as texts
+use Rattle.combinators.specs.declared.lent.SheetTexts as texts
 
 -- the bytes of the sheets
 pub record SheetTexts : Type 0 where
@@ -11,22 +8,6 @@ pub record SheetTexts : Type 0 where
   pub user : List ℕ
   pub author : List ℕ
 
--- the numbers of nodes and attributes, and the byte text
-pub record Page : Type 0 where
-  pub nodes : List ℕ
-  pub attributes : List ℕ
-  pub text : List ℕ
-
--- ---- what the structs of the code refer to
+-- what the struct of the code refers to
 abbrev pub sheets_in : texts.SheetTexts → SheetTexts
 sheets_in s = record { agent = s.agent.now; user = s.user.now; author = s.author.now }
-
-abbrev pub page_in : code.Page → Page
-page_in g = record { nodes = g.nodes.now; attributes = g.attributes.now; text = g.text.now }
-
--- a row of the page as an element, and with those above it
-abbrev pub element_in : code.Page → ℕ → Element
-element_in g row = element_at g.nodes.now g.attributes.now g.text.now row
-
-abbrev pub path_in : code.Page → ℕ → Path
-path_in g row = path_of g.nodes.now g.attributes.now g.text.now row

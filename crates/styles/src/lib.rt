@@ -2,4 +2,3 @@
 #![tactic(auto)]
 
 pub mod settings; // settings.rt: what a call is told beside its texts
-pub mod lent; // lent.rt: what is lent to a call to be read

@@ -32,7 +32,8 @@ use Rattle.styles.specs.Says.{Says}
 use Rattle.styles.specs.StyleCall.{placed_along, call_row, call_store}
 use Rattle.styles.proofs.Called.{cascaded-formed, call-row-long, call-says-alone, book-style-decides}
 use Rattle.styling.specs.Claim.{row_left, texts_left, RowSays}
-use Rattle.styles.specs.Lent.{SheetTexts, Page}
+use Rattle.page.specs.Lent.{Page}
+use Rattle.styles.specs.Lent.{SheetTexts}
 use Rattle.styling.specs.StyleAnswer.{call_bytes, is_element, StyleLeft, zeroed, unchanged, answered, styled_left, asked_left, style_of}
 
 -- what stands at the start of a store comes back

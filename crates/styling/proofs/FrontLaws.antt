@@ -6,7 +6,7 @@ use Prim.Native.Nat.{ℕ, zero, suc, ◌+◌, ◌-◌, ◌*◌, ◌^◌, ◌≤�
 use native.Mathlib.Omega.{arith}
 use borrow.Author.Tests.{ltb-true, lt-ltb, le-ltb}
 use lib.Dec.{ltb}
-use lib.ListN.{length, take, drop, replicate, length-append, length-drop, length-take, length-replicate, replicate-append-replicate}
+use lib.ListN.{length, take, drop, replicate, length-append, length-take, length-replicate, replicate-append-replicate}
 use lib.Seq.{drop_at, length-take-le}
 use Rattle.combinators.specs.Choice.{pick, is}
 use Rattle.combinators.specs.LeastLengths.{text_least, number_least, Least}
@@ -171,16 +171,12 @@ front_long : (n : ℕ) (l m : List ℕ) → n ≤ length l → length m ≡ leng
 front_long n l m h e = length-take-le n m (omega (arith, h, e))
 
 -- a front lies within the store
-pub front-within : (n : ℕ) (l m : List ℕ) → n ≤ length l → length m ≡ length l → n ≤ length m
-front-within n l m h e = omega (arith, h, e)
+pub front-within : (n : ℕ) (l m : List ℕ) → n ≤ length l → m ≡ cleared n l → n ≤ length m
+front-within n l m h e = omega (arith, h, ap length e, length-cleared n l)
 
 -- so many are lent of it
-pub front-count : (n : ℕ) (l m : List ℕ) → n ≤ length l → length m ≡ length l → n ≡ length (take n m)
-front-count n l m h e = sym (front_long n l m h e)
-
--- what is put back into a front leaves the store as long as it was
-pub front-returned : (n : ℕ) (l m ys : List ℕ) → n ≤ length l → length m ≡ length l → length ys ≡ length (take n m) → length (ys ++ drop n m) ≡ length l
-front-returned n l m ys h e f = omega (arith, f, front_long n l m h e, e, length-append ys (drop n m), length-drop n m)
+pub front-count : (n : ℕ) (l m : List ℕ) → n ≤ length l → m ≡ cleared n l → n ≡ length (take n m)
+front-count n l m h e = sym (front_long n l m h (ap length e ∙ length-cleared n l))
 
 -- behind its front a store that was cleared from there on is zero
 behind-zeros : (n : ℕ) (l m : List ℕ) → n ≤ length l → m ≡ cleared n l → drop n m ≡ replicate (length l - n) 0

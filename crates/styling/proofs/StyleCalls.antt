@@ -45,7 +45,8 @@ use Rattle.styles.specs.StyleCall.{call_row, call_store}
 use Rattle.styles.proofs.Called.{call-row-long}
 use Rattle.styles.proofs.Room.{path-values, path-attributes}
 use Rattle.rule_styles.specs.Held.{sheets_from, SheetsHeld}
-use Rattle.styles.specs.Lent.{SheetTexts, Page}
+use Rattle.page.specs.Lent.{Page}
+use Rattle.styles.specs.Lent.{SheetTexts}
 use Rattle.styling.specs.declared.style.StyleError.{StyleError}
 use Rattle.styling.specs.declared.style.StyleError.TheVariants.{TooLong, ShortStore, NotUtf8, BadPage, NoElement, Panic}
 use Rattle.styling.specs.StyleAnswer.{call_bytes, is_element, StyleAnswer, style_refusal, numbers_of, StyleLeft, zeroed, unchanged, answered, styled_left, asked_left, style_of}

@@ -201,15 +201,6 @@ module _ {s : SheetsRules} {rows tokens texts : List ℕ} (h : SheetsHeld s rows
           let whole : take (w.end + r) l ≡ take s.end texts ++ (C ++ P) = e ∙ ap (λ (f : List ℕ). f ++ P) front ∙ append_assoc (take s.end texts) C P in
           behind (take w.end l) (take r (drop w.end l)) (take s.end texts) (C ++ P) (b ∙ sym a) (sym (take-add w.end r l) ∙ whole) ∙ sym store_is
 
--- ---- the row that is lent
--- the part of the row that is lent is one style row long
-pub row-lent : (l : List ℕ) → style_row_width ≤ length l → style_row_width ≡ length (take style_row_width l)
-row-lent l h = sym (length-take-le style_row_width l h)
-
--- a row of the lent length, put back, leaves the buffer as long as it was
-pub row-returned : (l ys : List ℕ) → style_row_width ≤ length l → length ys ≡ length (take style_row_width l) → length (ys ++ drop style_row_width l) ≡ length l
-row-returned l ys h e = omega (arith, e, row-lent l h, length-append ys (drop style_row_width l), length-drop style_row_width l)
-
 -- ---- stores cleared throughout, which kept their length
 -- a store cleared throughout is as many zeros as it was long before
 pub cleared-throughout : (l m z : List ℕ) → length l ≡ length m → z ≡ cleared 0 l → z ≡ replicate (length m) 0

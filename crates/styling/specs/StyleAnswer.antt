@@ -15,8 +15,10 @@ use Rattle.page.specs.PathOf.{path_of}
 use Rattle.page.specs.Rows.{node_count, node_at, element_kind, attribute_rows}
 use Rattle.styling.specs.declared.style.StyleError.{StyleError}
 use Rattle.styling.specs.declared.style.StyleError.TheVariants.{TooLong, ShortStore, NotUtf8, BadPage, NoElement, Panic}
+use Rattle.combinators.specs.declared.lent.Stores.{Stores}
 use Rattle.styles.specs.declared.settings.Settings.{Settings}
-use Rattle.styles.specs.Lent.{SheetTexts, Page}
+use Rattle.page.specs.Lent.{Page}
+use Rattle.styles.specs.Lent.{SheetTexts}
 use Rattle.styles.specs.Said.{Rules}
 use Rattle.styles.specs.StyleCall.{call_row, call_store}
 
@@ -54,6 +56,10 @@ pub record StyleLeft : Type 0 where
   pub rules : List ℕ
   pub tokens : List ℕ
   pub brackets : List ℕ
+
+-- of a call that is lent a row and the stores
+abbrev pub left_in : StyleAnswer → List ℕ → Stores → StyleLeft
+left_in a row s = record { answer = a; row = row; texts = s.texts.now; rules = s.rules.now; tokens = s.tokens.now; brackets = s.brackets.now }
 
 module _ (row texts rules₀ tokens brackets : List ℕ) where
   -- "After 4 .. each writable buffer is zero throughout"

@@ -8,7 +8,8 @@ use Rattle.page.specs.Accepted.{text_limit}
 use Rattle.page.specs.Path.{Path}
 use Rattle.styles.specs.Room.{values_along, attributes_along}
 use Rattle.rule_styles.specs.Held.{SheetsHeld, PathHeld}
-use Rattle.styles.specs.Lent.{SheetTexts, Page}
+use Rattle.page.specs.Lent.{Page}
+use Rattle.styles.specs.Lent.{SheetTexts}
 use Rattle.styling.specs.StyleAnswer.{call_bytes}
 
 -- no more bytes than three sheets may have

@@ -3,9 +3,11 @@
 ghost use Rattle.std.specs.Prelude.{◌≡◌, ◌≤◌};
 ghost use Rattle.combinators.specs.Store.{cleared};
 ghost use Rattle.page.specs.Ancestors.{line_of};
+ghost use Rattle.combinators.specs.Lent.{SameStores};
 ghost use Rattle.styling.specs.Fronts.{room_most, attributes_room, rows_room, Totals};
 
-use combinators::stores::{clear_bytes, clear_numbers};
+use combinators::lent::Stores;
+use combinators::stores::fill_from;
 use page::check::TEXT_LIMIT;
 use page::rows::{attribute_count, first_attribute, parent_of, value_length};
 
@@ -15,7 +17,8 @@ const ROOM_LIMIT: usize = 3 * TEXT_LIMIT;
 // Beside its value's bytes an attribute asks for these.
 const ATTRIBUTE_MORE: usize = 2;
 
-// What attribute rows ask for at most, beside a total: their values may be cut by the end of the text.
+// What attribute rows ask for at most, beside a total: their values may be cut by the end of the text. A node
+// may name rows past the end of the list, so no part of it is cut for them.
 fn attributes_room(attributes: &[u32], first: usize, count: usize, start: usize) -> usize
     requires { Totals first count start }
     ensures value { result ≡ attributes_room attributes.now count first start }
@@ -52,22 +55,15 @@ pub fn path_room(nodes: &[u32], attributes: &[u32], row: usize) -> usize
 }
 
 // Zeros behind the fronts of the stores.
-pub fn clear_behind(
-    texts: &mut [u8],
-    rules: &mut [u32],
-    tokens: &mut [u32],
-    brackets: &mut [u8],
-    bytes: usize,
-    numbers: usize,
-    room: usize,
-)
-    ensures texts_after { texts.new ≡ cleared bytes texts.old }
-    ensures rules_after { rules.new ≡ cleared numbers rules.old }
-    ensures tokens_after { tokens.new ≡ cleared numbers tokens.old }
-    ensures brackets_after { brackets.new ≡ cleared room brackets.old }
+pub fn clear_behind(stores: &mut Stores<'_>, bytes: usize, numbers: usize, room: usize)
+    ensures same { SameStores stores.old stores.new }
+    ensures texts_after { stores.new.texts.now ≡ cleared bytes stores.old.texts.now }
+    ensures rules_after { stores.new.rules.now ≡ cleared numbers stores.old.rules.now }
+    ensures tokens_after { stores.new.tokens.now ≡ cleared numbers stores.old.tokens.now }
+    ensures brackets_after { stores.new.brackets.now ≡ cleared room stores.old.brackets.now }
 {
-    clear_bytes(texts, bytes);
-    clear_numbers(rules, numbers);
-    clear_numbers(tokens, numbers);
-    clear_bytes(brackets, room);
+    fill_from(stores.texts, bytes, 0);
+    fill_from(stores.rules, numbers, 0);
+    fill_from(stores.tokens, numbers, 0);
+    fill_from(stores.brackets, room, 0);
 }

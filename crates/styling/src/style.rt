@@ -11,11 +11,12 @@ ghost use Rattle.origins.specs.Reading.{sheets_of};
 ghost use Rattle.cascade.specs.declared.slots.Cascade.TheVariants.{Crate, Book};
 ghost use Rattle.cascade.specs.Row.{style_row_width};
 ghost use Rattle.page.specs.Rows.{attribute_width, number_bound};
-ghost use Rattle.matching.specs.Rows.{Rooted};
-ghost use Rattle.styles.specs.Lent.{sheets_in, page_in, path_in};
+ghost use Rattle.combinators.specs.Lent.{SameStores};
+ghost use Rattle.page.specs.Lent.{page_in, path_in};
+ghost use Rattle.styles.specs.Lent.{sheets_in};
 ghost use Rattle.styles.specs.StyleCall.{call_row, call_store};
 ghost use Rattle.rule_styles.specs.Held.{sheets_from, SheetsHeld};
-ghost use Rattle.styling.specs.StyleAnswer.{is_element, numbers_of, styled_left, asked_left, style_of, style_refusal};
+ghost use Rattle.styling.specs.StyleAnswer.{is_element, numbers_of, left_in, styled_left, asked_left, style_of, style_refusal};
 ghost use Rattle.styling.specs.Fronts.{FrontLent};
 ghost use Rattle.styling.specs.Styling.{FewBytes, ContentsIn, ReadRoom, CallLent, AskedLent};
 
@@ -23,23 +24,25 @@ use crate::front::{clear_behind, path_room};
 use cascade::rows::STYLE_ROW_WIDTH;
 use cascade::slots::Cascade;
 use combinators::least::{NUMBER_MORE, NUMBER_WIDTH, TEXT_MORE, TEXT_WIDTH, stores_suffice};
+use combinators::lent::{SheetTexts, Stores};
 use combinators::refusals::{
     NO_ELEMENT, NOT_UTF8, PANIC, Refusal, SHORT_STORE, TOO_LONG, refused, refused_in,
 };
-use combinators::stores::{clear_bytes, clear_numbers};
+use combinators::stores::fill_from;
 use declarations::texts::move_down;
+use matching::elements::Element;
 use origins::checks::{all_valid, any_too_long};
 use origins::reading::{SheetPanic, SheetsRules, read_sheets};
 use page::check::{PageError, check_page};
+use page::lent::Page;
 use page::rows::{ATTRIBUTE_WIDTH, ELEMENT, kind_of, node_count};
-use path_styles::path::style_path;
+use path_styles::path::Styling;
 use path_styles::tops::find_tops;
 use rule_styles::styled::style_sheets;
-use sheets::sheet::clear_stores;
-use styles::lent::{Page, SheetTexts};
 use styles::settings::Settings;
 
 // Why an element is not styled: for its sheets, the stores, the page or the row that is asked; of a panic the sheet and the byte where the crate panics.
+// It is the `Err` of a `Result`, so it has refusals only.
 #[derive(Clone, Copy, Debug, PartialEq, Eq)]
 pub enum StyleError {
     TooLong,
@@ -111,251 +114,226 @@ fn keep_contents(texts: &mut [u8], end: usize, fill: usize)
     ensures { texts.new ≡ padded (part texts.old end fill) (length texts.old) }
 {
     move_down(texts, end, 0, fill);
-    clear_bytes(texts, fill);
-}
-
-// Zeros throughout the work stores.
-fn clear_work(rules: &mut [u32], tokens: &mut [u32], brackets: &mut [u8])
-    ensures rules_after { rules.new ≡ cleared 0 rules.old }
-    ensures tokens_after { tokens.new ≡ cleared 0 tokens.old }
-    ensures brackets_after { brackets.new ≡ cleared 0 brackets.old }
-{
-    clear_numbers(rules, 0);
-    clear_numbers(tokens, 0);
-    clear_bytes(brackets, 0);
+    fill_from(texts, fill, 0);
 }
 
 // Zeros throughout all buffers.
-fn clear_all(
-    out: &mut [u32],
-    texts: &mut [u8],
-    rules: &mut [u32],
-    tokens: &mut [u32],
-    brackets: &mut [u8],
-)
+fn clear_all(out: &mut [u32], stores: &mut Stores<'_>)
+    ensures same { SameStores stores.old stores.new }
     ensures out_after { out.new ≡ cleared 0 out.old }
-    ensures texts_after { texts.new ≡ cleared 0 texts.old }
-    ensures rules_after { rules.new ≡ cleared 0 rules.old }
-    ensures tokens_after { tokens.new ≡ cleared 0 tokens.old }
-    ensures brackets_after { brackets.new ≡ cleared 0 brackets.old }
+    ensures texts_after { stores.new.texts.now ≡ cleared 0 stores.old.texts.now }
+    ensures rules_after { stores.new.rules.now ≡ cleared 0 stores.old.rules.now }
+    ensures tokens_after { stores.new.tokens.now ≡ cleared 0 stores.old.tokens.now }
+    ensures brackets_after { stores.new.brackets.now ≡ cleared 0 stores.old.brackets.now }
 {
-    clear_numbers(out, 0);
-    clear_stores(rules, tokens, brackets, texts);
+    fill_from(out, 0, 0);
+    stores.clear();
 }
 
-// Styles an element by sheets that were read; the bytes of its texts.
-fn style_read(
+// By what an element is styled: a cascade, the settings, and the texts of three sheets.
+#[derive(Clone, Copy)]
+struct StyleCall<'a> {
     cascade: Cascade,
     settings: Settings,
-    sheets: SheetsRules,
-    page: Page<'_>,
-    row: usize,
-    out: &mut [u32],
-    texts: &mut [u8],
-    rules: &mut [u32],
-    tokens: &mut [u32],
-    brackets: &mut [u8],
-) -> usize
-    requires rooted { Rooted page.nodes.now row }
-    requires row_lt_number_bound { row < number_bound }
-    requires read_room { ReadRoom sheets (path_in page row) out.old rules.old tokens.old brackets.old texts.old }
-    ensures out_after { out.new ≡ call_row cascade (sheets_from rules.old texts.old sheets) settings (path_in page.entry row) ++ drop style_row_width out.old }
-    ensures value { result ≡ length (call_store (sheets_from rules.old texts.old sheets) settings (path_in page.entry row)) }
-    ensures texts_after { texts.new ≡ padded (call_store (sheets_from rules.old texts.old sheets) settings (path_in page.entry row)) (length texts.old) }
-    ensures rules_after { rules.new ≡ replicate (length rules.old) 0 }
-    ensures tokens_after { tokens.new ≡ replicate (length tokens.old) 0 }
-    ensures brackets_after { brackets.new ≡ replicate (length brackets.old) 0 }
-{
-    let styled = style_sheets(rules, sheets, tokens, texts);
-    let ready = find_tops(styled, rules, texts, page, row, tokens);
-    let fill = style_path(
-        cascade,
-        settings,
-        ready,
-        page,
-        row,
-        &mut out[..STYLE_ROW_WIDTH],
-        rules,
-        tokens,
-        brackets,
-        texts,
-    );
-    keep_contents(texts, ready.end, fill);
-    clear_work(rules, tokens, brackets);
-    fill
+    sheets: SheetTexts<'a>,
 }
 
-// Styles an element by sheets for which the stores suffice, whatever the buffers hold.
-fn style_texts(
-    cascade: Cascade,
-    settings: Settings,
-    sheets: SheetTexts<'_>,
-    page: Page<'_>,
-    row: usize,
-    out: &mut [u32],
-    texts: &mut [u8],
-    rules: &mut [u32],
-    tokens: &mut [u32],
-    brackets: &mut [u8],
-) -> Result<usize, StyleError>
-    requires rooted { Rooted page.nodes.now row }
-    requires row_lt_number_bound { row < number_bound }
-    requires lent { Lent sheets.agent.now sheets.user.now sheets.author.now rules.old tokens.old brackets.old texts.old }
-    requires call_lent { CallLent (length sheets.agent.now + length sheets.user.now + length sheets.author.now) (path_in page row) out.old rules.old tokens.old brackets.old texts.old }
-    ensures { record { answer = numbers_of result; row = out.new; texts = texts.new; rules = rules.new; tokens = tokens.new; brackets = brackets.new }
-        ≡ styled_left out.old texts.old rules.old tokens.old brackets.old cascade settings (path_in page.entry row) (sheets_of sheets.entry.agent.now sheets.entry.user.now sheets.entry.author.now) }
-{
-    clear_all(out, texts, rules, tokens, brackets);
-    match read_sheets(
-        sheets.agent,
-        sheets.user,
-        sheets.author,
-        rules,
-        tokens,
-        brackets,
-        texts,
-    ) {
-        Ok(read) => Ok(style_read(
-            cascade, settings, read, page, row, out, texts, rules, tokens, brackets,
-        )),
-        Err(panic) => Err(StyleError::Panic(panic)),
+impl StyleCall<'_> {
+    // Styles an element by sheets that were read; the bytes of its texts. Row and stores stay apart, here and below, since `style_parts` is lent the whole row
+    // beside parts of the stores.
+    fn style_read(
+        &self,
+        sheets: SheetsRules,
+        element: Element<'_>,
+        out: &mut [u32],
+        stores: &mut Stores<'_>,
+    ) -> usize
+        requires row_lt_number_bound { element.row < number_bound }
+        requires read_room { ReadRoom sheets (path_in element.page element.row) out.old stores.old.rules.now stores.old.tokens.now stores.old.brackets.now stores.old.texts.now }
+        ensures same { SameStores stores.old stores.new }
+        ensures out_after { out.new ≡ call_row self.now.cascade (sheets_from stores.old.rules.now stores.old.texts.now sheets) self.now.settings (path_in element.entry.page element.entry.row) ++ drop style_row_width out.old }
+        ensures value { result ≡ length (call_store (sheets_from stores.old.rules.now stores.old.texts.now sheets) self.now.settings (path_in element.entry.page element.entry.row)) }
+        ensures texts_after { stores.new.texts.now ≡ padded (call_store (sheets_from stores.old.rules.now stores.old.texts.now sheets) self.now.settings (path_in element.entry.page element.entry.row)) (length stores.old.texts.now) }
+        ensures rules_after { stores.new.rules.now ≡ replicate (length stores.old.rules.now) 0 }
+        ensures tokens_after { stores.new.tokens.now ≡ replicate (length stores.old.tokens.now) 0 }
+        ensures brackets_after { stores.new.brackets.now ≡ replicate (length stores.old.brackets.now) 0 }
+    {
+        let rules = &mut *stores.rules;
+        let tokens = &mut *stores.tokens;
+        let texts = &mut *stores.texts;
+        let styled = style_sheets(rules, sheets, tokens, texts);
+        let ready = find_tops(styled, rules, texts, element, tokens);
+        let row = out.first_chunk_mut().unwrap();
+        let styling = Styling {
+            cascade: self.cascade,
+            settings: self.settings,
+            sheets: ready,
+        };
+        let fill = styling.style_path(element, row, stores);
+        keep_contents(stores.texts, ready.end, fill);
+        stores.clear_work();
+        fill
     }
-}
 
-// Styles an element in the fronts of stores that suffice for so many bytes; zeros behind the fronts.
-fn style_front(
-    cascade: Cascade,
-    settings: Settings,
-    sheets: SheetTexts<'_>,
-    page: Page<'_>,
-    row: usize,
-    out: &mut [u32],
-    texts: &mut [u8],
-    rules: &mut [u32],
-    tokens: &mut [u32],
-    brackets: &mut [u8],
-    room: usize,
-) -> Result<usize, StyleError>
-    requires rooted { Rooted page.nodes.now row }
-    requires row_lt_number_bound { row < number_bound }
-    requires front_lent { FrontLent sheets.agent.now sheets.user.now sheets.author.now (path_in page row) room out.old rules.old tokens.old brackets.old texts.old }
-    ensures { record { answer = numbers_of result; row = out.new; texts = texts.new; rules = rules.new; tokens = tokens.new; brackets = brackets.new }
-        ≡ styled_left out.old texts.old rules.old tokens.old brackets.old cascade settings (path_in page.entry row) (sheets_of sheets.entry.agent.now sheets.entry.user.now sheets.entry.author.now) }
-{
-    let bytes = TEXT_WIDTH * room + TEXT_MORE;
-    let numbers = NUMBER_WIDTH * room + NUMBER_MORE;
-    clear_behind(texts, rules, tokens, brackets, bytes, numbers, room);
-    style_texts(
-        cascade,
-        settings,
-        sheets,
-        page,
-        row,
-        out,
-        &mut texts[..bytes],
-        &mut rules[..numbers],
-        &mut tokens[..numbers],
-        &mut brackets[..room],
-    )
-}
+    // Styles an element by sheets for which the stores suffice, whatever the buffers hold.
+    fn style_texts(
+        &self,
+        element: Element<'_>,
+        out: &mut [u32],
+        stores: &mut Stores<'_>,
+    ) -> Result<usize, StyleError>
+        requires row_lt_number_bound { element.row < number_bound }
+        requires lent { Lent self.now.sheets.agent.now self.now.sheets.user.now self.now.sheets.author.now stores.old.rules.now stores.old.tokens.now stores.old.brackets.now stores.old.texts.now }
+        requires call_lent { CallLent (length self.now.sheets.agent.now + length self.now.sheets.user.now + length self.now.sheets.author.now) (path_in element.page element.row) out.old stores.old.rules.now stores.old.tokens.now stores.old.brackets.now stores.old.texts.now }
+        ensures same { SameStores stores.old stores.new }
+        ensures left { left_in (numbers_of result) out.new stores.new
+            ≡ styled_left out.old stores.old.texts.now stores.old.rules.now stores.old.tokens.now stores.old.brackets.now self.now.cascade self.now.settings (path_in element.entry.page element.entry.row) (sheets_of self.now.sheets.agent.now self.now.sheets.user.now self.now.sheets.author.now) }
+    {
+        clear_all(out, stores);
+        match read_sheets(self.sheets, stores) {
+            Ok(read) => Ok(self.style_read(read, element, out, stores)),
+            Err(panic) => Err(StyleError::Panic(panic)),
+        }
+    }
 
-// Styles an element in as much of the stores as it asks for, or in the whole of them, which always suffices: so nothing is to be known of what it asks for
-// but that it is enough.
-fn style_in_front(
-    cascade: Cascade,
-    settings: Settings,
-    sheets: SheetTexts<'_>,
-    page: Page<'_>,
-    row: usize,
-    out: &mut [u32],
-    texts: &mut [u8],
-    rules: &mut [u32],
-    tokens: &mut [u32],
-    brackets: &mut [u8],
-) -> Result<usize, StyleError>
-    requires rooted { Rooted page.nodes.now row }
-    requires row_lt_number_bound { row < number_bound }
-    requires lent { Lent sheets.agent.now sheets.user.now sheets.author.now rules.old tokens.old brackets.old texts.old }
-    requires call_lent { CallLent (length sheets.agent.now + length sheets.user.now + length sheets.author.now) (path_in page row) out.old rules.old tokens.old brackets.old texts.old }
-    ensures { record { answer = numbers_of result; row = out.new; texts = texts.new; rules = rules.new; tokens = tokens.new; brackets = brackets.new }
-        ≡ styled_left out.old texts.old rules.old tokens.old brackets.old cascade settings (path_in page.entry row) (sheets_of sheets.entry.agent.now sheets.entry.user.now sheets.entry.author.now) }
-{
-    let bytes = sheets.agent.len() + sheets.user.len() + sheets.author.len();
-    let room = bytes + path_room(page.nodes, page.attributes, row);
-    if stores_suffice(room, rules.len(), tokens.len(), brackets.len(), texts.len()) {
-        style_front(
-            cascade, settings, sheets, page, row, out, texts, rules, tokens, brackets, room,
-        )
-    } else {
-        style_texts(
-            cascade, settings, sheets, page, row, out, texts, rules, tokens, brackets,
+    // The same in parts of stores, which come one by one: of parts of a struct's fields the borrow checker makes no struct.
+    fn style_parts(
+        &self,
+        element: Element<'_>,
+        out: &mut [u32],
+        rules: &mut [u32],
+        tokens: &mut [u32],
+        brackets: &mut [u8],
+        texts: &mut [u8],
+    ) -> Result<usize, StyleError>
+        requires row_lt_number_bound { element.row < number_bound }
+        requires lent { Lent self.now.sheets.agent.now self.now.sheets.user.now self.now.sheets.author.now rules.old tokens.old brackets.old texts.old }
+        requires call_lent { CallLent (length self.now.sheets.agent.now + length self.now.sheets.user.now + length self.now.sheets.author.now) (path_in element.page element.row) out.old rules.old tokens.old brackets.old texts.old }
+        ensures { record { answer = numbers_of result; row = out.new; texts = texts.new; rules = rules.new; tokens = tokens.new; brackets = brackets.new }
+            ≡ styled_left out.old texts.old rules.old tokens.old brackets.old self.now.cascade self.now.settings (path_in element.entry.page element.entry.row) (sheets_of self.now.sheets.agent.now self.now.sheets.user.now self.now.sheets.author.now) }
+    {
+        let mut stores = Stores {
+            rules,
+            tokens,
+            brackets,
+            texts,
+        };
+        self.style_texts(element, out, &mut stores)
+    }
+
+    // Styles an element in the fronts of stores that suffice for so many bytes; zeros behind the fronts.
+    fn style_front(
+        &self,
+        element: Element<'_>,
+        out: &mut [u32],
+        stores: &mut Stores<'_>,
+        room: usize,
+    ) -> Result<usize, StyleError>
+        requires row_lt_number_bound { element.row < number_bound }
+        requires front_lent { FrontLent self.now.sheets.agent.now self.now.sheets.user.now self.now.sheets.author.now (path_in element.page element.row) room out.old stores.old.rules.now stores.old.tokens.now stores.old.brackets.now stores.old.texts.now }
+        ensures same { SameStores stores.old stores.new }
+        ensures left { left_in (numbers_of result) out.new stores.new
+            ≡ styled_left out.old stores.old.texts.now stores.old.rules.now stores.old.tokens.now stores.old.brackets.now self.now.cascade self.now.settings (path_in element.entry.page element.entry.row) (sheets_of self.now.sheets.agent.now self.now.sheets.user.now self.now.sheets.author.now) }
+    {
+        let bytes = TEXT_WIDTH * room + TEXT_MORE;
+        let numbers = NUMBER_WIDTH * room + NUMBER_MORE;
+        clear_behind(stores, bytes, numbers, room);
+        self.style_parts(
+            element,
+            out,
+            &mut stores.rules[..numbers],
+            &mut stores.tokens[..numbers],
+            &mut stores.brackets[..room],
+            &mut stores.texts[..bytes],
         )
     }
-}
 
-// Styles an element of a page that is accepted or not, by sheets for which the stores suffice.
-fn style_asked(
-    cascade: Cascade,
-    settings: Settings,
-    sheets: SheetTexts<'_>,
-    page: Page<'_>,
-    row: usize,
-    out: &mut [u32],
-    texts: &mut [u8],
-    rules: &mut [u32],
-    tokens: &mut [u32],
-    brackets: &mut [u8],
-) -> Result<usize, StyleError>
-    requires { AskedLent (sheets_in sheets) (page_in page) out.old rules.old tokens.old brackets.old texts.old }
-    ensures { record { answer = numbers_of result; row = out.new; texts = texts.new; rules = rules.new; tokens = tokens.new; brackets = brackets.new }
-        ≡ asked_left out.old texts.old rules.old tokens.old brackets.old cascade settings (page_in page.entry) row (sheets_of sheets.entry.agent.now sheets.entry.user.now sheets.entry.author.now) }
-{
-    check_page(page.nodes, page.attributes, page.text)?;
-    if !is_element(page.nodes, row) {
-        return Err(StyleError::NoElement);
+    // Styles an element in as much of the stores as it asks for, or in the whole of them, which always suffices: so nothing is to be known of what it asks for
+    // but that it is enough.
+    fn style_in_front(
+        &self,
+        element: Element<'_>,
+        out: &mut [u32],
+        stores: &mut Stores<'_>,
+    ) -> Result<usize, StyleError>
+        requires row_lt_number_bound { element.row < number_bound }
+        requires lent { Lent self.now.sheets.agent.now self.now.sheets.user.now self.now.sheets.author.now stores.old.rules.now stores.old.tokens.now stores.old.brackets.now stores.old.texts.now }
+        requires call_lent { CallLent (length self.now.sheets.agent.now + length self.now.sheets.user.now + length self.now.sheets.author.now) (path_in element.page element.row) out.old stores.old.rules.now stores.old.tokens.now stores.old.brackets.now stores.old.texts.now }
+        ensures same { SameStores stores.old stores.new }
+        ensures left { left_in (numbers_of result) out.new stores.new
+            ≡ styled_left out.old stores.old.texts.now stores.old.rules.now stores.old.tokens.now stores.old.brackets.now self.now.cascade self.now.settings (path_in element.entry.page element.entry.row) (sheets_of self.now.sheets.agent.now self.now.sheets.user.now self.now.sheets.author.now) }
+    {
+        let sheets = self.sheets;
+        let bytes = sheets.agent.len() + sheets.user.len() + sheets.author.len();
+        let page = element.page;
+        let room = bytes + path_room(page.nodes, page.attributes, element.row);
+        if stores_suffice(
+            room,
+            stores.rules.len(),
+            stores.tokens.len(),
+            stores.brackets.len(),
+            stores.texts.len(),
+        ) {
+            self.style_front(element, out, stores, room)
+        } else {
+            self.style_texts(element, out, stores)
+        }
     }
-    style_in_front(
-        cascade, settings, sheets, page, row, out, texts, rules, tokens, brackets,
-    )
-}
 
-// The style of an element in either cascade.
-fn style_by(
-    cascade: Cascade,
-    settings: Settings,
-    sheets: SheetTexts<'_>,
-    page: Page<'_>,
-    row: usize,
-    out: &mut [u32],
-    texts: &mut [u8],
-    rules: &mut [u32],
-    tokens: &mut [u32],
-    brackets: &mut [u8],
-) -> Result<usize, StyleError>
-    ensures { record { answer = numbers_of result; row = out.new; texts = texts.new; rules = rules.new; tokens = tokens.new; brackets = brackets.new }
-        ≡ style_of cascade settings (sheets_in sheets.entry) (page_in page.entry) row out.old texts.old rules.old tokens.old brackets.old }
-{
-    if any_too_long(sheets.agent.len(), sheets.user.len(), sheets.author.len()) {
-        return Err(StyleError::TooLong);
+    // Styles an element of a page that is accepted or not, by sheets for which the stores suffice.
+    fn style_asked(
+        &self,
+        page: Page<'_>,
+        row: usize,
+        out: &mut [u32],
+        stores: &mut Stores<'_>,
+    ) -> Result<usize, StyleError>
+        requires { AskedLent (sheets_in self.now.sheets) (page_in page) out.old stores.old.rules.now stores.old.tokens.now stores.old.brackets.now stores.old.texts.now }
+        ensures same { SameStores stores.old stores.new }
+        ensures left { left_in (numbers_of result) out.new stores.new
+            ≡ asked_left out.old stores.old.texts.now stores.old.rules.now stores.old.tokens.now stores.old.brackets.now self.now.cascade self.now.settings (page_in page.entry) row (sheets_of self.now.sheets.agent.now self.now.sheets.user.now self.now.sheets.author.now) }
+    {
+        check_page(page)?;
+        if !is_element(page.nodes, row) {
+            return Err(StyleError::NoElement);
+        }
+        let element = Element { page, row };
+        self.style_in_front(element, out, stores)
     }
-    if !lent_suffices(
-        sheets.agent.len() + sheets.user.len() + sheets.author.len(),
-        page.attributes.len(),
-        page.text.len(),
-        out.len(),
-        rules.len(),
-        tokens.len(),
-        brackets.len(),
-        texts.len(),
-    ) {
-        return Err(StyleError::ShortStore);
+
+    // The style of an element in either cascade.
+    fn style_by(
+        &self,
+        page: Page<'_>,
+        row: usize,
+        out: &mut [u32],
+        stores: &mut Stores<'_>,
+    ) -> Result<usize, StyleError>
+        ensures same { SameStores stores.old stores.new }
+        ensures left { left_in (numbers_of result) out.new stores.new
+            ≡ style_of self.now.cascade self.now.settings (sheets_in self.now.sheets) (page_in page.entry) row out.old stores.old.texts.now stores.old.rules.now stores.old.tokens.now stores.old.brackets.now }
+    {
+        let sheets = self.sheets;
+        if any_too_long(sheets.agent.len(), sheets.user.len(), sheets.author.len()) {
+            return Err(StyleError::TooLong);
+        }
+        if !lent_suffices(
+            sheets.agent.len() + sheets.user.len() + sheets.author.len(),
+            page.attributes.len(),
+            page.text.len(),
+            out.len(),
+            stores.rules.len(),
+            stores.tokens.len(),
+            stores.brackets.len(),
+            stores.texts.len(),
+        ) {
+            return Err(StyleError::ShortStore);
+        }
+        if !all_valid(sheets) {
+            return Err(StyleError::NotUtf8);
+        }
+        self.style_asked(page, row, out, stores)
     }
-    if !all_valid(sheets.agent, sheets.user, sheets.author) {
-        return Err(StyleError::NotUtf8);
-    }
-    style_asked(
-        cascade, settings, sheets, page, row, out, texts, rules, tokens, brackets,
-    )
 }
 
 // The style of an element in the crate's cascade: its row to `out`, its contents to `texts`; the others are work stores.
@@ -365,26 +343,18 @@ pub fn style(
     page: Page<'_>,
     row: usize,
     out: &mut [u32],
-    texts: &mut [u8],
-    rules: &mut [u32],
-    tokens: &mut [u32],
-    brackets: &mut [u8],
+    stores: &mut Stores<'_>,
 ) -> Result<usize, StyleError>
-    ensures { record { answer = numbers_of result; row = out.new; texts = texts.new; rules = rules.new; tokens = tokens.new; brackets = brackets.new }
-        ≡ style_of Crate settings (sheets_in sheets.entry) (page_in page.entry) row out.old texts.old rules.old tokens.old brackets.old }
+    ensures same { SameStores stores.old stores.new }
+    ensures left { left_in (numbers_of result) out.new stores.new
+        ≡ style_of Crate settings (sheets_in sheets.entry) (page_in page.entry) row out.old stores.old.texts.now stores.old.rules.now stores.old.tokens.now stores.old.brackets.now }
 {
-    style_by(
-        Cascade::Crate,
+    let call = StyleCall {
+        cascade: Cascade::Crate,
         settings,
         sheets,
-        page,
-        row,
-        out,
-        texts,
-        rules,
-        tokens,
-        brackets,
-    )
+    };
+    call.style_by(page, row, out, stores)
 }
 
 // The same in the book order. Both are entry points of document 01, so neither is told its cascade.
@@ -394,24 +364,16 @@ pub fn style_book(
     page: Page<'_>,
     row: usize,
     out: &mut [u32],
-    texts: &mut [u8],
-    rules: &mut [u32],
-    tokens: &mut [u32],
-    brackets: &mut [u8],
+    stores: &mut Stores<'_>,
 ) -> Result<usize, StyleError>
-    ensures { record { answer = numbers_of result; row = out.new; texts = texts.new; rules = rules.new; tokens = tokens.new; brackets = brackets.new }
-        ≡ style_of Book settings (sheets_in sheets.entry) (page_in page.entry) row out.old texts.old rules.old tokens.old brackets.old }
+    ensures same { SameStores stores.old stores.new }
+    ensures left { left_in (numbers_of result) out.new stores.new
+        ≡ style_of Book settings (sheets_in sheets.entry) (page_in page.entry) row out.old stores.old.texts.now stores.old.rules.now stores.old.tokens.now stores.old.brackets.now }
 {
-    style_by(
-        Cascade::Book,
+    let call = StyleCall {
+        cascade: Cascade::Book,
         settings,
         sheets,
-        page,
-        row,
-        out,
-        texts,
-        rules,
-        tokens,
-        brackets,
-    )
+    };
+    call.style_by(page, row, out, stores)
 }

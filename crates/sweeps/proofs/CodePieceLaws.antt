@@ -33,6 +33,7 @@ use Rattle.compiled.proofs.Following.{mapped-read}
 use Rattle.compiled.proofs.Walking.{at_component, at-fault}
 use Rattle.segments.specs.Segments.{test, piece, tested}
 use Rattle.segments.specs.Sweep.{on_piece, piece_at}
+use Rattle.std.specs.Borrow.{Bor}
 use Rattle.sweeps.specs.Met.{handed_element, handed, row_alone, met_of, met_at, mark_met, Nameless, NamedAt}
 use Rattle.sweeps.specs.declared.elements.Handed.{Handed}
 use Rattle.sweeps.specs.declared.pieces.Met.{Met}
@@ -260,12 +261,12 @@ module _ (code : List ℕ) (at : ℕ) where
   all-failed row = refl
 
   -- an element that has passed so far is asked
-  pub met-asked : (el : Option Handed) (x : Handed) → el ≡ Some x → (ok : Bool) → ok ≡ true → (r : Option Met) → r ≡ met_at code (handed x ∷ []) true at → r ≡ met_at code (row_alone el) ok at
+  pub met-asked : (el : Option (Bor Handed)) (x : Bor Handed) → el ≡ Some x → (ok : Bool) → ok ≡ true → (r : Option Met) → r ≡ met_at code (handed x.now ∷ []) true at → r ≡ met_at code (row_alone el) ok at
   unfolding row_alone
   met-asked el x e ok t r p = rw (e, t) p
 
   -- where it has not, or on the document, no test passes
-  pub met-passed : (el : Option Handed) (ok : Bool) → (ok ≡ true → (x : Handed) → ¬ (el ≡ Some x)) → (r : Option Met) → r ≡ met_at code [] ok at → r ≡ met_at code (row_alone el) ok at
+  pub met-passed : (el : Option (Bor Handed)) (ok : Bool) → (ok ≡ true → (x : Bor Handed) → ¬ (el ≡ Some x)) → (r : Option Met) → r ≡ met_at code [] ok at → r ≡ met_at code (row_alone el) ok at
   unfolding row_alone
   met-passed (Some x) true e r p = absurd (e refl x refl)
   met-passed None true e r p = p

@@ -3,24 +3,20 @@ use Prim.Native.Nat.{ℕ, suc, ◌+◌, ◌-◌, ◌≤◌, ◌<◌}
 use mathlib.Core.Path.{◌≡◌, refl, sym, ap, ◌∙◌}
 use mathlib.Core.Bool.{Bool, true, false}
 use mathlib.Core.List.{List, ◌∷◌}
+use native.Mathlib.Numerals.{add-one}
 use native.Mathlib.Omega.{arith}
 use borrow.Author.Tests.{le-leb, lt-leb}
 use lib.Dec.{leb, eqb}
-use lib.ListN.{length, get_or}
+use lib.ListN.{length, get_or, set}
+use lib.Seq.{sets}
 use Rattle.combinators.specs.Choice.{pick, is}
-use Rattle.combinators.specs.Part.{part}
 use Rattle.syntax.specs.Layout.{flag, flag_of}
 use Rattle.page.specs.Path.{Path}
 use Rattle.segments.specs.Sweep.{tests_pass, Ended, compound_at, without_tests, mark_bytes, marked_tests, sweep_at}
-use Rattle.segments.specs.Parts.{part_set, part_sets, Apart, flags_limit}
-use Rattle.sweeps.specs.Swept.{swept_one, swept_behind, SweepLent}
+use Rattle.segments.specs.Parts.{flags_limit}
+use Rattle.sweeps.specs.Swept.{swept_one, swept_behind}
 use Rattle.sweeps.specs.declared.sweeping.Swept.{Swept}
-use Rattle.sweeps.specs.declared.sweeping.Parts.{Parts}
-use Rattle.sweeps.specs.declared.elements.Handed.{Handed}
-use Rattle.std.proofs.Common.{Option}
 use mir.Val.{bool_byte}
-use Rattle.segments.proofs.PartSetLaws.{length-part-set}
-use Rattle.sweeps.proofs.CodePartLaws.{stored-first, part-above}
 
 -- a flag as a byte
 pub flag-byte : (b : Bool) → bool_byte b ≡ flag b
@@ -61,65 +57,42 @@ sweep-step code row part k j i =
     (compound_at code row (length code) (flag_of (get_or part j 0)) i) (λ p. sweep_at code row part k (j + 1) p)
 
 -- ---- the loop of `sweep_rest`
-pub record Sweeping (code : List ℕ) (row : Path) (state₀ : List ℕ) (above own width at first limit : ℕ) (state : List ℕ) (to i left : ℕ) : Type 0 where
-  pub whole : part_sets state own width to (sweep_at code row (part state₀ above width) left (to + 1) i)
-      ≡ part_sets state₀ own width at (sweep_at code row (part state₀ above width) limit (at + 1) first)
-  pub same : part state above width ≡ part state₀ above width
-  pub long : length state ≡ length state₀
-  pub room : own + width ≤ length state
-  pub apart : Apart above own width
+pub record Sweeping (code : List ℕ) (row : Path) (above own₀ : List ℕ) (at first limit : ℕ) (own : List ℕ) (to i left : ℕ) : Type 0 where
+  pub whole : sets own to (sweep_at code row above left (to + 1) i) ≡ sets own₀ at (sweep_at code row above limit (at + 1) first)
   pub few-flags : to + left < flags_limit
 
--- before the first compound the state is as it was lent
-pub sweep-begin : (code : List ℕ) (row : Path) (state : List ℕ) (parts : Parts) (at first limit : ℕ) (element : Option Handed) → SweepLent state parts at limit element
-    → Sweeping code row state parts.above parts.own parts.width at first limit state at first limit
-sweep-begin code row state parts at first limit element l =
-    record { whole = refl; same = refl; long = refl; room = l.room; apart = l.apart; few-flags = l.few-flags }
-
-module _ (code : List ℕ) (row : Path) (state₀ : List ℕ) (above own width at first limit : ℕ) (state : List ℕ) (to i left : ℕ)
-    (v : Sweeping code row state₀ above own width at first limit state to i left) where
+module _ (code : List ℕ) (row : Path) (above own₀ : List ℕ) (at first limit : ℕ) (own : List ℕ) (to i left : ℕ) (v : Sweeping code row above own₀ at first limit own to i left) where
   -- what is left in the end
   abbrev Left : List ℕ → Type 0
-  Left s = s ≡ part_sets state₀ own width at (sweep_at code row (part state₀ above width) limit (at + 1) first)
+  Left s = s ≡ sets own₀ at (sweep_at code row above limit (at + 1) first)
 
   -- where no compound is left, the flags of all are stored
-  pub sweep-end : left ≤ 0 → Left state
+  pub sweep-end : left ≤ 0 → Left own
   sweep-end h =
       let d : 0 ≡ left = omega arith in
-      let e : state ≡ part_sets state own width to (sweep_at code row (part state₀ above width) 0 (to + 1) i) = unfold part_sets sweep_at in refl in
-      e ∙ ap (λ (n : ℕ). part_sets state own width to (sweep_at code row (part state₀ above width) n (to + 1) i)) d ∙ v.whole
+      let e : own ≡ sets own to (sweep_at code row above 0 (to + 1) i) = unfold sweep_at in refl in
+      e ∙ ap (λ (n : ℕ). sets own to (sweep_at code row above n (to + 1) i)) d ∙ v.whole
 
-  module _ (h : 0 < left) (flags : List ℕ) (ep : flags ≡ part state above width) (s : Swept) (es : s ≡ swept_one code row flags (to + 1) i)
-      (b : ℕ) (eb : b ≡ flag s.ends) (s₁ : List ℕ) (e₁ : s₁ ≡ part_set state own width to b) where
+  module _ (h : 0 < left) (s : Swept) (es : s ≡ swept_one code row above (to + 1) i) (b : ℕ) (eb : b ≡ flag s.ends) (own₁ : List ℕ) (e₁ : own₁ ≡ set own to b) where
     -- one flag stored, and what is swept behind it, come to the whole
-    swept : Left (part_sets s₁ own width (to + 1) (swept_behind code row (part state₀ above width) (left - 1) (to + 1) s))
+    swept : Left (sets own₁ (to + 1) (swept_behind code row above (left - 1) (to + 1) s))
     swept =
-        let q = part state₀ above width in
         let d : suc (left - 1) ≡ left = omega arith in
-        let o : s ≡ swept_one code row q (to + 1) i = es ∙ ap (λ (x : List ℕ). swept_one code row x (to + 1) i) (ep ∙ v.same) in
-        ap (λ (x : List ℕ). part_sets x own width (to + 1) (swept_behind code row q (left - 1) (to + 1) s)) (e₁ ∙ ap (part_set state own width to) eb)
-        ∙ sym (stored-first (flag s.ends) (swept_behind code row q (left - 1) (to + 1) s) state own width to)
-        ∙ ap (λ (x : Swept). part_sets state own width to (flag x.ends ∷ swept_behind code row q (left - 1) (to + 1) x)) o
-        ∙ ap (part_sets state own width to) (sym (sweep-step code row q (left - 1) (to + 1) i))
-        ∙ ap (λ (n : ℕ). part_sets state own width to (sweep_at code row q n (to + 1) i)) d
+        let one : sets own₁ (to + 1) (swept_behind code row above (left - 1) (to + 1) s) ≡ sets own to (flag s.ends ∷ swept_behind code row above (left - 1) (to + 1) s) = rw (e₁, eb, add-one to) in
+        one
+        ∙ ap (λ (x : Swept). sets own to (flag x.ends ∷ swept_behind code row above (left - 1) (to + 1) x)) es
+        ∙ ap (sets own to) (sym (sweep-step code row above (left - 1) (to + 1) i))
+        ∙ ap (λ (n : ℕ). sets own to (sweep_at code row above n (to + 1) i)) d
         ∙ v.whole
 
     -- it is the leftmost
-    pub sweep-mark : s.marked ≡ true → (s₂ : List ℕ) → s₂ ≡ part_sets s₁ own width (to + 1) (mark_bytes s.tests) → Left s₂
-    sweep-mark m s₂ e₂ =
-        let w : mark_bytes s.tests ≡ swept_behind code row (part state₀ above width) (left - 1) (to + 1) s = unfold swept_behind pick in rw m in
-        e₂ ∙ ap (part_sets s₁ own width (to + 1)) w ∙ swept
+    pub sweep-mark : s.marked ≡ true → (own₂ : List ℕ) → own₂ ≡ sets own₁ (to + 1) (mark_bytes s.tests) → Left own₂
+    sweep-mark m own₂ e₂ =
+        let w : mark_bytes s.tests ≡ swept_behind code row above (left - 1) (to + 1) s = unfold swept_behind pick in rw m in
+        e₂ ∙ ap (sets own₁ (to + 1)) w ∙ swept
 
     -- behind a compound that is not the leftmost the loop goes on, at its left neighbour
-    pub sweep-more : s.marked ≡ false → Sweeping code row state₀ above own width at first limit s₁ (to + 1) s.place (left - 1)
+    pub sweep-more : s.marked ≡ false → Sweeping code row above own₀ at first limit own₁ (to + 1) s.place (left - 1)
     sweep-more m =
-        let w : sweep_at code row (part state₀ above width) (left - 1) (to + 1 + 1) s.place ≡ swept_behind code row (part state₀ above width) (left - 1) (to + 1) s = unfold swept_behind pick in rw m in
-        let l : length s₁ ≡ length state = ap length e₁ ∙ length-part-set state own width to b in
-        record {
-          whole = ap (part_sets s₁ own width (to + 1)) w ∙ swept;
-          same = ap (λ (x : List ℕ). part x above width) e₁ ∙ part-above state above own width to b v.apart ∙ v.same;
-          long = l ∙ v.long;
-          room = omega (arith, l, v.room);
-          apart = v.apart;
-          few-flags = omega (arith, v.few-flags);
-        }
+        let w : sweep_at code row above (left - 1) (to + 1 + 1) s.place ≡ swept_behind code row above (left - 1) (to + 1) s = unfold swept_behind pick in rw m in
+        record { whole = ap (sets own₁ (to + 1)) w ∙ swept; few-flags = omega (arith, v.few-flags) }

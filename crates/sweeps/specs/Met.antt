@@ -1,5 +1,6 @@
 -- What a component in compiled bytes is for a row, as the code meets it.
-use Rattle.std.specs.Prelude.{ℕ, ◌≡◌, ◌≤◌, Bool, List, [], ◌∷◌, Option, Some, None}
+use Rattle.std.specs.Prelude.{ℕ, ◌≡◌, Bool, List, [], ◌∷◌, Option, Some, None}
+use Rattle.std.specs.Borrow.{Bor}
 use Rattle.combinators.specs.Choice.{pick, and, is}
 use Rattle.syntax.specs.RuleLayout.{star_kind, child_kind}
 use Rattle.page.specs.Path.{Element, Path}
@@ -27,17 +28,9 @@ unfoldable pub handed : Handed → Element
 handed e = handed_element e.name.now e.attributes.now e.text.now e.place
 
 -- the path of an element alone, or the empty one of the document
-unfoldable pub row_alone : Option Handed → Path
-row_alone (Some e) = handed e ∷ []
+unfoldable pub row_alone : Option (Bor Handed) → Path
+row_alone (Some e) = handed e.now ∷ []
 row_alone None = []
-
--- no row of an accepted page has a greater place
-abbrev pub place_limit : ℕ
-place_limit = 65536
-
-abbrev pub Near : Option Handed → Type 0
-Near (Some e) = e.place ≤ place_limit
-Near None = Unit
 
 -- ---- a component that ends at n, where `ok` says whether the tests so far pass
 unfoldable pub met_of : Path → Bool → ℕ → Piece → Met

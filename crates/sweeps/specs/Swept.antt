@@ -1,14 +1,10 @@
--- One compound of a segment at a row, by its flag; and what is asked for to sweep the others.
-use Rattle.std.specs.Prelude.{ℕ, ◌+◌, ◌≤◌, ◌<◌, true, false, List, leb, length, get_or, Option}
+-- One compound of a segment at a row, by its flag.
+use Rattle.std.specs.Prelude.{ℕ, ◌+◌, true, false, List, leb, length, get_or}
 use Rattle.combinators.specs.Choice.{pick}
 use Rattle.syntax.specs.Layout.{flag_of}
 use Rattle.page.specs.Path.{Path}
 use Rattle.segments.specs.Sweep.{tests_pass, Ended, compound_at, without_tests, mark_bytes, marked_tests, sweep_at}
-use Rattle.sweeps.specs.Met.{Near}
-use Rattle.segments.specs.Parts.{Apart, flags_limit}
 use Rattle.sweeps.specs.declared.sweeping.Swept.{Swept}
-use Rattle.sweeps.specs.declared.sweeping.Parts.{Parts}
-use Rattle.sweeps.specs.declared.elements.Handed.{Handed}
 
 -- the leftmost compound, of so many tests from i on
 abbrev pub swept_mark : List ℕ → Path → ℕ → ℕ → Swept
@@ -23,10 +19,3 @@ swept_one code row part j i =
 -- the bytes behind its flag: the mark of the leftmost, or those of at most k others
 unfoldable pub swept_behind : List ℕ → Path → List ℕ → ℕ → ℕ → Swept → List ℕ
 swept_behind code row part k j s = pick s.marked (mark_bytes s.tests) (sweep_at code row part k (j + 1) s.place)
-
--- the parent's part and the own stand apart, and the own has room; at most `left` flags are stored from `at` on
-pub record SweepLent (state : List ℕ) (parts : Parts) (at left : ℕ) (element : Option Handed) : Type 0 where
-  pub room : parts.own + parts.width ≤ length state
-  pub apart : Apart parts.above parts.own parts.width
-  pub few-flags : at + left < flags_limit
-  pub few : Near element

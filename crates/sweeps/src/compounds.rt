@@ -1,8 +1,9 @@
-// Compounds and segments of a selector in compiled bytes. Nothing is asked of the bytes or of the places: a fault ends the walk.
+// Compounds and segments of a selector in compiled bytes. Nothing is asked of the bytes or of the places: a fault ends the walk. The walks are handed the whole bytes and a place,
+// since the places that a part keeps count from the start of the bytes. (One `match` over what is met and its pattern was tried: where arms join, the proof is not told what the pattern says.)
 ghost use Rattle.std.specs.Prelude.{◌≡◌, ◌≤◌};
 ghost use Rattle.segments.specs.Sweep.{tests_pass, compound_at};
 ghost use Rattle.segments.specs.Before.{beginning, segment_before};
-ghost use Rattle.sweeps.specs.Met.{row_alone, Near};
+ghost use Rattle.sweeps.specs.Met.{row_alone};
 
 use crate::elements::Handed;
 use crate::pieces::{Met, pass_met, read_met};
@@ -22,7 +23,7 @@ pub struct Segment {
     pub tests: usize,
 }
 
-// A segment of which nothing is counted yet.
+// A segment of which nothing is counted yet. The fields are its own: other structs with zeros in them share that shape alone.
 fn beginning(start: usize) -> Segment
     ensures { result ≡ record { start = start; steps = 0; tests = 0 } }
 {
@@ -33,9 +34,8 @@ fn beginning(start: usize) -> Segment
     }
 }
 
-// Whether `count` tests from `at` on pass.
-pub fn tests_pass(compiled: &[u8], at: usize, count: usize, element: Option<Handed<'_>>) -> bool
-    requires { Near element }
+// Whether `count` tests from `at` on pass. A loop, no `all`: a test begins where the one before ended, as it was read.
+pub fn tests_pass(compiled: &[u8], at: usize, count: usize, element: Option<&Handed<'_>>) -> bool
     ensures { result ≡ tests_pass compiled.now (row_alone element.entry) count at }
 {
     let mut next = at;
@@ -43,28 +43,26 @@ pub fn tests_pass(compiled: &[u8], at: usize, count: usize, element: Option<Hand
         let Some(met) = read_met(compiled, next, true, element) else {
             return false;
         };
-        match met {
-            Met::Test(behind, passes) => {
-                if !passes {
-                    return false;
-                }
-                next = behind;
-            }
-            _ => return false,
+        let Met::Test(behind, passes) = met else {
+            return false;
+        };
+        if !passes {
+            return false;
         }
+        next = behind;
     }
     true
 }
 
-// The compound from `at` on, of at most `limit` components; `may` says whether it may end here.
+// The compound from `at` on, of at most `limit` components; `may` says whether it may end here. An arm returns: a step ends the compound, with the place that
+// it holds.
 pub fn compound_at(
     compiled: &[u8],
     at: usize,
     limit: usize,
     may: bool,
-    element: Option<Handed<'_>>,
+    element: Option<&Handed<'_>>,
 ) -> Compound
-    requires { Near element }
     ensures { record { ends = result.ends; place = result.place } ≡ compound_at compiled.now (row_alone element.entry) limit may at }
 {
     let mut place = at;

@@ -1,9 +1,9 @@
 // Bytes and numbers of two bytes in a part of the state. What lies behind the part reads as 0, and is not written.
-ghost use Rattle.std.specs.Prelude.{◌≡◌, ◌∷◌, ◌+◌, ◌≤◌, ◌<◌, length, replicate};
+ghost use Rattle.std.specs.Prelude.{◌≡◌, ◌∷◌, ◌+◌, ◌≤◌, ◌<◌, ◌^◌, length, replicate, set};
 ghost use Rattle.std.proofs.lemmas.List.Edits.{sets};
 ghost use Rattle.segments.specs.Sweep.{pair_at, pair_bytes, with_tests, mark_bytes, marked_tests};
 ghost use Rattle.segments.specs.Before.{fresh_bytes};
-ghost use Rattle.segments.specs.Parts.{part_set, part_sets, flags_limit, pair_limit};
+ghost use Rattle.segments.specs.Parts.{flags_limit, pair_limit};
 
 use combinators::bytes::peek;
 
@@ -48,93 +48,74 @@ pub fn marked_tests(part: &[u8], j: usize) -> usize
 }
 
 // Stores a byte.
-pub fn put_byte(state: &mut [u8], own: usize, width: usize, at: usize, byte: u8)
-    requires { own + width ≤ length state.old }
-    ensures { state.new ≡ part_set state.old own width at byte }
+pub fn put_byte(part: &mut [u8], at: usize, byte: u8)
+    ensures { part.new ≡ set part.old at byte }
 {
-    if at < width {
-        state[own + at] = byte;
+    if at < part.len() {
+        part[at] = byte;
     }
 }
 
-// Stores a number where both bytes have room, the lower byte first; one too large for two bytes wraps.
-pub fn put_pair_there(state: &mut [u8], at: usize, n: usize)
-    requires { at + 1 < length state.old }
-    ensures { state.new ≡ sets state.old at (pair_bytes n) }
+// Stores the number `n`, which is no length, where both bytes have room, the lower byte first; one too large for two bytes wraps.
+pub fn put_pair_there(part: &mut [u8], at: usize, n: usize)
+    requires { at + 1 < length part.old }
+    ensures { part.new ≡ sets part.old at (pair_bytes n) }
 {
-    state[at] = (n % BYTE_VALUES) as u8;
-    state[at + 1] = (n / BYTE_VALUES % BYTE_VALUES) as u8;
+    part[at] = (n % BYTE_VALUES) as u8;
+    part[at + 1] = (n / BYTE_VALUES % BYTE_VALUES) as u8;
 }
 
-// Stores a number in the part. Its end is tested once where both bytes have room.
-pub fn put_pair(state: &mut [u8], own: usize, width: usize, at: usize, n: usize)
-    requires width_in_bounds { own + width ≤ length state.old }
-    requires at_le_flags_limit { at ≤ flags_limit }
-    ensures { state.new ≡ part_sets state.old own width at (pair_bytes n) }
+// Stores the number `n`. The end is tested once where both bytes have room.
+pub fn put_pair(part: &mut [u8], at: usize, n: usize)
+    requires { at ≤ flags_limit }
+    ensures { part.new ≡ sets part.old at (pair_bytes n) }
 {
-    if at + 1 < width {
-        put_pair_there(state, own + at, n);
+    if at + 1 < part.len() {
+        put_pair_there(part, at, n);
         return;
     }
-    put_byte(state, own, width, at, (n % BYTE_VALUES) as u8);
-    put_byte(
-        state,
-        own,
-        width,
-        at + 1,
-        (n / BYTE_VALUES % BYTE_VALUES) as u8,
-    );
+    put_byte(part, at, (n % BYTE_VALUES) as u8);
+    put_byte(part, at + 1, (n / BYTE_VALUES % BYTE_VALUES) as u8);
 }
 
 // Stores the mark of a leftmost compound of so many tests.
-pub fn put_mark(state: &mut [u8], own: usize, width: usize, at: usize, tests: usize)
-    requires width_in_bounds { own + width ≤ length state.old }
-    requires at_lt_flags_limit { at < flags_limit }
-    ensures { state.new ≡ part_sets state.old own width at (mark_bytes tests) }
+pub fn put_mark(part: &mut [u8], at: usize, tests: usize)
+    requires { at < flags_limit }
+    ensures { part.new ≡ sets part.old at (mark_bytes tests) }
 {
     if tests == 0 {
-        put_byte(state, own, width, at, WITHOUT_TESTS);
+        put_byte(part, at, WITHOUT_TESTS);
         return;
     }
-    put_byte(state, own, width, at, WITH_TESTS);
-    put_pair(state, own, width, at + 1, tests);
+    put_byte(part, at, WITH_TESTS);
+    put_pair(part, at + 1, tests);
 }
 
 // Stores the mark of one that has tests, where its three bytes have room.
-pub fn put_mark_there(state: &mut [u8], at: usize, tests: usize)
-    requires { at + 2 < length state.old }
-    ensures { state.new ≡ sets state.old at (with_tests ∷ pair_bytes tests) }
+pub fn put_mark_there(part: &mut [u8], at: usize, tests: usize)
+    requires { at + 2 < length part.old }
+    ensures { part.new ≡ sets part.old at (with_tests ∷ pair_bytes tests) }
 {
-    state[at] = WITH_TESTS;
-    state[at + 1] = (tests % BYTE_VALUES) as u8;
-    state[at + 2] = (tests / BYTE_VALUES % BYTE_VALUES) as u8;
+    part[at] = WITH_TESTS;
+    part[at + 1] = (tests % BYTE_VALUES) as u8;
+    part[at + 2] = (tests / BYTE_VALUES % BYTE_VALUES) as u8;
 }
 
-// Stores so many zeros.
-fn put_zeros(state: &mut [u8], own: usize, width: usize, at: usize, count: usize)
-    requires width_in_bounds { own + width ≤ length state.old }
-    requires count_bound { at + count < flags_limit }
-    ensures { state.new ≡ part_sets state.old own width at (replicate count 0) }
+// Stores so many zeros. A loop, no `fill`: some of them may lie behind the part, and a slice for the others would have to be cut first.
+pub fn put_zeros(part: &mut [u8], at: usize, count: usize)
+    requires { at + count < 2 ^ 64 }
+    ensures { part.new ≡ sets part.old at (replicate count 0) }
 {
     for j in at..at + count {
-        put_byte(state, own, width, j, 0);
+        put_byte(part, j, 0);
     }
 }
 
 // Stores the flags of a segment of which nothing has begun.
-pub fn put_fresh(
-    state: &mut [u8],
-    own: usize,
-    width: usize,
-    at: usize,
-    start: usize,
-    steps: usize,
-    tests: usize,
-)
-    requires width_in_bounds { own + width ≤ length state.old }
-    requires steps_bound { at + steps < flags_limit }
-    ensures { state.new ≡ part_sets state.old own width at (fresh_bytes (record { start = start; steps = steps; tests = tests })) }
+pub fn put_fresh(part: &mut [u8], at: usize, start: usize, steps: usize, tests: usize)
+    requires { at + steps < flags_limit }
+    ensures { part.new ≡ sets part.old at (fresh_bytes (record { start = start; steps = steps; tests = tests })) }
 {
-    put_zeros(state, own, width, at, steps);
-    put_mark(state, own, width, at + steps, tests);
+    put_zeros(part, at, steps);
+    put_mark(part, at + steps, tests);
 }

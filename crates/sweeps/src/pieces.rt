@@ -4,18 +4,20 @@ ghost use Rattle.syntax.specs.Signed.{signed_of};
 ghost use Rattle.matching.specs.Nth.{nth_matches};
 ghost use Rattle.compiled.specs.Component.{named_of};
 ghost use Rattle.segments.specs.Segments.{tested};
-ghost use Rattle.sweeps.specs.Met.{handed, row_alone, place_limit, Near, mark_met, met_at, NamedAt, Nameless};
+ghost use Rattle.sweeps.specs.Place.{place_limit};
+ghost use Rattle.sweeps.specs.Met.{handed, row_alone, mark_met, met_at, NamedAt, Nameless};
 
 use crate::elements::Handed;
 use combinators::texts::{part_of, same_text};
 use compiled::components::{MARK_SIZE, TO_TEXT, Written, read_component, short_size};
 use compiled::texts::Span;
-use matching::elements::{attribute_is, has_attribute, has_class, has_id};
+use matching::elements::Attributes;
 use matching::nth::{nth, signed_of};
 use page::rows::ATTRIBUTE_WIDTH;
 use syntax::rows::{CHILD, CLASS, ELEMENT, HASH, STAR};
 
-// What a component is for a row, each with the place behind it: a test, with whether the tests up to it pass; a child step; a descendant step.
+// What a component is for a row, each with the place behind it: a test, with whether the tests up to it pass; a child step; a descendant step. Each holds
+// something: for bytes at fault there is the `None` of an `Option`.
 #[derive(Clone, Copy, PartialEq, Eq)]
 pub enum Met {
     Test(usize, bool),
@@ -31,17 +33,22 @@ pub struct NameAt {
     pub text: Span,
 }
 
-// Whether an element passes a component of one text, which is told with its kind.
-fn name_passes(kind: u32, asked: &[u8], element: Handed<'_>) -> bool
-    ensures { result ≡ tested (handed element.entry ∷ []) (named_of kind asked.now) }
+// Whether an element passes a component of one text, which is told with its kind. Kinds are numbers of the bytes: a `match` on one ends with an arm for any
+// other, here and in `mark_met`.
+fn name_passes(kind: u32, asked: &[u8], element: &Handed<'_>) -> bool
+    ensures { result ≡ tested (handed element.now ∷ []) (named_of kind asked.now) }
 {
-    let attributes = element.attributes;
-    let count = attributes.len() / ATTRIBUTE_WIDTH;
+    let attributes = Attributes {
+        rows: element.attributes,
+        text: element.text,
+        at: 0,
+        count: element.attributes.len() / ATTRIBUTE_WIDTH,
+    };
     match kind {
         ELEMENT => same_text(element.name, asked),
-        CLASS => has_class(attributes, element.text, 0, count, asked),
-        HASH => has_id(attributes, element.text, 0, count, asked),
-        _ => has_attribute(attributes, element.text, 0, count, asked),
+        CLASS => attributes.has_class(asked),
+        HASH => attributes.has_id(asked),
+        _ => attributes.has_attribute(asked),
     }
 }
 
@@ -79,7 +86,8 @@ fn pass_long(compiled: &[u8], at: usize, ok: bool) -> Option<Met>
     }
 }
 
-// The same. Of a short component, as most are, the size and the first byte tell it.
+// The same. Of a short component, as most are, the size and the first byte tell it. Bytes, place and `ok` are no struct:
+// only `read_met` and this one hand them on.
 pub fn pass_met(compiled: &[u8], at: usize, ok: bool) -> Option<Met>
     ensures { result ≡ met_at compiled.now [] ok at }
 {
@@ -120,10 +128,9 @@ fn name_at(compiled: &[u8], at: usize) -> Option<NameAt>
 }
 
 // The component at `at`, which has not one text, for an element that has passed so far.
-fn test_other(compiled: &[u8], at: usize, element: Handed<'_>) -> Option<Met>
-    requires place_le_place_limit { element.place ≤ place_limit }
-    requires nameless { Nameless compiled.now at }
-    ensures { result ≡ met_at compiled.now (handed element.entry ∷ []) true at }
+fn test_other(compiled: &[u8], at: usize, element: &Handed<'_>) -> Option<Met>
+    requires { Nameless compiled.now at }
+    ensures { result ≡ met_at compiled.now (handed element.now ∷ []) true at }
 {
     let Ok(component) = read_component(compiled, at) else {
         return None;
@@ -138,18 +145,21 @@ fn test_other(compiled: &[u8], at: usize, element: Handed<'_>) -> Option<Met>
         Written::Names(first, second) => {
             let word = part_of(compiled, first.start, first.size);
             let value = part_of(compiled, second.start, second.size);
-            let attributes = element.attributes;
-            let count = attributes.len() / ATTRIBUTE_WIDTH;
-            let passes = attribute_is(attributes, element.text, 0, count, word, value);
+            let attributes = Attributes {
+                rows: element.attributes,
+                text: element.text,
+                at: 0,
+                count: element.attributes.len() / ATTRIBUTE_WIDTH,
+            };
+            let passes = attributes.attribute_is(word, value);
             Some(Met::Test(next, passes))
         }
     }
 }
 
 // The component at `at` for an element that has passed so far. Most have one text.
-fn test_met(compiled: &[u8], at: usize, element: Handed<'_>) -> Option<Met>
-    requires { element.place ≤ place_limit }
-    ensures { result ≡ met_at compiled.now (handed element.entry ∷ []) true at }
+fn test_met(compiled: &[u8], at: usize, element: &Handed<'_>) -> Option<Met>
+    ensures { result ≡ met_at compiled.now (handed element.now ∷ []) true at }
 {
     match name_at(compiled, at) {
         Some(found) => {
@@ -162,8 +172,7 @@ fn test_met(compiled: &[u8], at: usize, element: Handed<'_>) -> Option<Met>
 }
 
 // The component at `at` for an element, or for the document. Where the tests so far have failed, a test need not be carried out.
-pub fn read_met(compiled: &[u8], at: usize, ok: bool, element: Option<Handed<'_>>) -> Option<Met>
-    requires { Near element }
+pub fn read_met(compiled: &[u8], at: usize, ok: bool, element: Option<&Handed<'_>>) -> Option<Met>
     ensures { result ≡ met_at compiled.now (row_alone element.entry) ok at }
 {
     match element {

@@ -1,16 +1,15 @@
 // A segment at a row, by the flags in the part of its parent; those that the children are told go to the own part.
 ghost use Rattle.std.specs.Prelude.{◌≡◌, ◌+◌, ◌<◌};
-ghost use Rattle.combinators.specs.Part.{part};
+ghost use Rattle.std.proofs.lemmas.List.Edits.{sets};
 ghost use Rattle.segments.specs.Sweep.{sweep_at};
-ghost use Rattle.sweeps.specs.Met.{row_alone, Near};
-ghost use Rattle.segments.specs.Parts.{part_sets, flags_limit};
-ghost use Rattle.sweeps.specs.Swept.{swept_one, SweepLent};
+ghost use Rattle.sweeps.specs.Met.{row_alone};
+ghost use Rattle.segments.specs.Parts.{flags_limit};
+ghost use Rattle.sweeps.specs.Swept.{swept_one};
 
 use crate::compounds::{compound_at, tests_pass};
 use crate::elements::Handed;
 use crate::parts::{WITHOUT_TESTS, marked_tests, put_byte, put_mark};
 use combinators::bytes::peek;
-use combinators::texts::part_of;
 
 // The flag of a compound that may end here.
 const MAY_END: u8 = 1;
@@ -24,24 +23,15 @@ pub struct Swept {
     pub place: usize,
 }
 
-// Where in the state the parent's part and the own begin, and how many bytes each has.
-#[derive(Clone, Copy, PartialEq, Eq)]
-pub struct Parts {
-    pub above: usize,
-    pub own: usize,
-    pub width: usize,
-}
-
 // The compound whose flag is at `j` of the parent's part, and whose components stand from `at` on.
 pub fn sweep_one(
     compiled: &[u8],
     flags: &[u8],
     j: usize,
     at: usize,
-    element: Option<Handed<'_>>,
+    element: Option<&Handed<'_>>,
 ) -> Swept
-    requires j_lt_flags_limit { j < flags_limit }
-    requires near { Near element }
+    requires { j < flags_limit }
     ensures { result ≡ swept_one compiled.now (row_alone element.entry) flags.now j at }
 {
     let byte = peek(flags, j);
@@ -68,26 +58,23 @@ pub fn sweep_one(
 // whether they end here, and the mark of the leftmost.
 pub fn sweep_rest(
     compiled: &[u8],
-    state: &mut [u8],
-    parts: Parts,
+    above: &[u8],
+    own: &mut [u8],
     at: usize,
     first: usize,
     limit: usize,
-    element: Option<Handed<'_>>,
+    element: Option<&Handed<'_>>,
 )
-    requires { SweepLent state.old parts at limit element }
-    ensures { state.new ≡ part_sets state.old parts.own parts.width at
-        (sweep_at compiled.now (row_alone element.entry) (part state.old parts.above parts.width) limit (at + 1) first) }
+    requires { at + limit < flags_limit }
+    ensures { own.new ≡ sets own.old at (sweep_at compiled.now (row_alone element.entry) above.now limit (at + 1) first) }
 {
-    let Parts { above, own, width } = parts;
     let mut to = at;
     let mut next = first;
     for _ in 0..limit {
-        let flags = part_of(state, above, width);
-        let swept = sweep_one(compiled, flags, to + 1, next, element);
-        put_byte(state, own, width, to, u8::from(swept.ends));
+        let swept = sweep_one(compiled, above, to + 1, next, element);
+        put_byte(own, to, u8::from(swept.ends));
         if swept.marked {
-            put_mark(state, own, width, to + 1, swept.tests);
+            put_mark(own, to + 1, swept.tests);
             return;
         }
         next = swept.place;

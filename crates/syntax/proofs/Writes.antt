@@ -1,34 +1,15 @@
--- The numbers that are emitted one behind the other are the row; and a head that is written last stands before what was written behind its place.
+-- A head that is written last stands before what was written behind its place.
 use mathlib.Core.Path.{◌≡◌, sym, ◌∙◌}
 use mathlib.Core.List.{List, [], ◌∷◌, ◌++◌, reverse}
 use Prim.Native.Nat.{ℕ, ◌+◌}
 use native.Mathlib.Omega.{arith}
 use lib.ListN.{length}
 use lib.Seq.{sets}
-use Rattle.combinators.specs.Store.{emits}
-use Rattle.combinators.proofs.Emitted.{then, sets-emitted}
 use Rattle.combinators.proofs.Wiped.{sets-append, sets-apart}
 use Rattle.syntax.specs.Layout.{declaration_rows}
 use Rattle.syntax.specs.RuleLayout.{component_rows, selector_head, pseudo_number, selector_row, selector_rows, selector_texts, rule_head, rule_row}
 use Rattle.syntax.specs.Selector.{Selector, RuleSet}
 
-module _ (l : List ℕ) (at a b : ℕ) (l₁ l₂ : List ℕ) (f₁ f₂ : ℕ)
-    (p : record { bytes = l₁; fill = f₁ } ≡ emits (record { bytes = l; fill = at }) (a ∷ []))
-    (q : record { bytes = l₂; fill = f₂ } ≡ emits (record { bytes = l₁; fill = f₁ }) (b ∷ [])) where
-  -- two numbers that are emitted stand side by side
-  pub two-left : l₂ ≡ sets l at (a ∷ b ∷ [])
-  two-left = sets-emitted l l₂ _ at f₂ (then _ _ _ _ _ p q)
-
-  module _ (c : ℕ) (l₃ : List ℕ) (f₃ : ℕ) (r : record { bytes = l₃; fill = f₃ } ≡ emits (record { bytes = l₂; fill = f₂ }) (c ∷ [])) where
-    -- three numbers that are emitted stand side by side
-    pub three-left : l₃ ≡ sets l at (a ∷ b ∷ c ∷ [])
-    three-left = sets-emitted l l₃ _ at f₃ (then _ _ _ _ _ (then _ _ _ _ _ p q) r)
-
-    -- four numbers that are emitted stand side by side
-    pub four-left : (d : ℕ) (l₄ : List ℕ) (f₄ : ℕ) → record { bytes = l₄; fill = f₄ } ≡ emits (record { bytes = l₃; fill = f₃ }) (d ∷ []) → l₄ ≡ sets l at (a ∷ b ∷ c ∷ d ∷ [])
-    four-left d l₄ f₄ s = sets-emitted l l₄ _ at f₄ (then _ _ _ _ _ (then _ _ _ _ _ (then _ _ _ _ _ p q) r) s)
-
--- ---- a head, written last
 -- a head written before what stands behind its place is as both written one behind the other
 headed : (l : List ℕ) (p : ℕ) (h xs : List ℕ) → sets (sets l (p + length h) xs) p h ≡ sets l p (h ++ xs)
 headed l p h xs = sets-apart l p (p + length h) h xs (omega arith) ∙ sym (sets-append l p h xs)

@@ -1,4 +1,5 @@
-// Rows of components, selectors, rules, declarations and styles: their columns, and the numbers for what stands in them.
+// Rows of components, selectors, rules, declarations and styles: their columns, and the numbers for what stands in them. Rows and compiled bytes are lent
+// and may hold any number: so kinds, flags, words, slots, origins and pseudo elements are numbers with names here, and no enums.
 ghost use Rattle.std.specs.Prelude.{◌≡◌};
 ghost use Rattle.syntax.specs.Layout.{flag};
 

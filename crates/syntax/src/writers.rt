@@ -1,10 +1,11 @@
 // Components, and what stands before the components of a selector and before the selectors of a rule, written to lent rows. Counts are
-// known last, so the writer of a selector or a rule passes over its head and writes it at the end.
+// known last, so the writer of a selector or a rule passes over its head and writes it at the end. A writer is told numbers one by one: the structs of
+// what was read are of crates above this one.
 ghost use Rattle.std.specs.Prelude.{◌≡◌, [], ◌∷◌, ◌^◌, ◌<◌};
 ghost use Rattle.std.proofs.lemmas.List.Edits.{sets};
 ghost use Rattle.syntax.specs.Writing.{ComponentFits, RuleHeadFits};
 
-use combinators::stores::emit_number;
+use combinators::stores::emit_all;
 
 // Writes the row of a component whose texts start at `fill` in the text store, from `place` on.
 pub fn put_component(
@@ -18,10 +19,11 @@ pub fn put_component(
     requires { ComponentFits first second fill }
     ensures { rules.new ≡ sets rules.old place (kind ∷ fill ∷ first ∷ second ∷ []) }
 {
-    let after_kind = emit_number(kind, rules, place);
-    let after_fill = emit_number(fill as u32, rules, after_kind);
-    let after_first = emit_number(first as u32, rules, after_fill);
-    emit_number(second as u32, rules, after_first);
+    emit_all(
+        &[kind, fill as u32, first as u32, second as u32],
+        rules,
+        place,
+    );
 }
 
 // Writes what stands before the `count` components of a selector, from `place` on.
@@ -29,8 +31,7 @@ pub fn put_selector_head(count: usize, pseudo: u32, rules: &mut [u32], place: us
     requires { count < 2 ^ 32 }
     ensures { rules.new ≡ sets rules.old place (count ∷ pseudo ∷ []) }
 {
-    let after_count = emit_number(count as u32, rules, place);
-    emit_number(pseudo, rules, after_count);
+    emit_all(&[count as u32, pseudo], rules, place);
 }
 
 // Writes what stands before the selectors of a rule that starts at the byte `start` of the text, from `place` on.
@@ -44,7 +45,9 @@ pub fn put_rule_head(
     requires { RuleHeadFits start selectors declarations }
     ensures { rules.new ≡ sets rules.old place (start ∷ selectors ∷ declarations ∷ []) }
 {
-    let after_start = emit_number(start as u32, rules, place);
-    let after_selectors = emit_number(selectors as u32, rules, after_start);
-    emit_number(declarations as u32, rules, after_selectors);
+    emit_all(
+        &[start as u32, selectors as u32, declarations as u32],
+        rules,
+        place,
+    );
 }

@@ -200,10 +200,6 @@ module _ (p : ℕ → Bool) (base : ℕ) (d : ℕ → ℕ) (most : ℕ) where
     pub value : numeral base d 0 t ≡ numeral base d v (drop i t)
     pub small : v ≤ most
 
-  -- before the first digit the sum is 0, and all digits are left
-  pub summing-begin : (t : List ℕ) → Summing t 0 0
-  summing-begin t = record { digits = refl; value = refl; small = omega arith }
-
   module _ (t : List ℕ) (v i : ℕ) (c : Summing t v i) where
     -- behind the last digit the sum is the number
     pub summing-done : ¬ (length t ≡ 0) → length t ≤ i → Some v ≡ number_answer (digits_in p base d most t)
@@ -244,10 +240,6 @@ module _ (v base : ℕ) (h : v ≤ 0xffffffff) (l : base ≤ 0xffffffff) where
   -- the product with the base fits 64 bits
   pub product-fits : v * base ≤ 0xffffffff * 0xffffffff
   product-fits = let m : v * base ≤ v * 0xffffffff = mul-le-mul_left v l in omega arith
-
-  -- and there is room for a digit
-  pub sum_fits : (w x : ℕ) → w ≡ hex_digit x → v * base + w ≤ 0xffffffffffffffff
-  sum_fits w x e = omega (arith, product-fits, digit-le x)
 
 -- ---- a '+' or none
 module _ (s : List ℕ) (r : Bool) (er : r ≡ is (get_or s 0 0) plus_sign) where

@@ -284,11 +284,6 @@ module _ (rows store : List ℕ) (n : ℕ) where
   unfolding colour_of
   count-one e x ex = ex ∙ ap (λ ks. colour_answer (colour_of ks)) (sym (ap (tokens_at rows store) e ∙ more rows store 0 0 [] (tokens_none _ store)))
 
-  -- a value of seven tokens is asked as `rgb`
-  pub count-rgb : n ≡ rgb_count → (x : Option ℕ) → x ≡ colour_answer (colour_of (tokens_at rows store rgb_count))
-      → x ≡ colour_answer (colour_of (tokens_at rows store n))
-  count-rgb e x ex = ex ∙ ap (λ k. colour_answer (colour_of (tokens_at rows store k))) (sym e)
-
   -- a value of any other count is no colour
   pub count-other : ¬ (n ≡ 1) → ¬ (n ≡ rgb_count) → None ≡ colour_answer (colour_of (tokens_at rows store n))
   count-other a b =

@@ -54,6 +54,8 @@ module _ (rows store : List ℕ) where
       mark-no-sign e = e ∙ and-gives-false _ _ (told _ _ _ ed e) ∙ sym mark-is
 
       -- behind it the name decides
-      pub mark-name : d ≡ true → (r : Bool) → r ≡ is_word (text "important") (token_here rows store (m + token_width)) → r ≡ is_important (tokens_at rows store n)
+      pub mark-name : d ≡ true → (r : Bool) → r ≡ is_word (text "important") (token_here rows store ((n - 1) * token_width)) → r ≡ is_important (tokens_at rows store n)
       unfolding is_mark
-      mark-name e r er = and-gives _ _ _ (told _ _ _ ed e) er ∙ sym mark-is
+      mark-name e r er =
+          let q : (n - 1) * token_width ≡ m + token_width = omega arith in
+          and-gives _ _ _ (told _ _ _ ed e) (er ∙ ap (λ p. is_word (text "important") (token_here rows store p)) q) ∙ sym mark-is

@@ -7,6 +7,8 @@ use native.Mathlib.Nat.{add-zero}
 use native.Mathlib.Omega.{arith}
 use lib.ListN.{length, get_or, take, drop, length-drop, length-append}
 use lib.Seq.{sets, drop-drop, get_or-drop}
+use Rattle.combinators.specs.Lent.{SameStores}
+use Rattle.combinators.specs.declared.lent.Stores.{Stores}
 use Rattle.combinators.specs.Ascii.{reverse_solidus}
 use Rattle.combinators.specs.Choice.{pick}
 use Rattle.combinators.specs.Parsed.{Parsed, ok, err, on_parsed}
@@ -34,7 +36,7 @@ use Rattle.values.specs.declared.statements.Unbalanced.{Unbalanced}
 use Rattle.values.proofs.Nesting.{length-coded, no_text, unpushed, depth_le}
 
 -- ---- what is left of a statement leaves, where n tokens with t bytes of text were read and d brackets are awaited
-unfoldable pub leaves : Statement → Store → ℕ → List ℕ → ℕ → List ℕ → ℕ → ℕ → Left
+unfoldable pub leaves : Statement → Store ℕ → ℕ → List ℕ → ℕ → List ℕ → ℕ → ℕ → Left
 leaves r o n b d st fill t =
     record {
       answer = pick r.balanced (Ok (record { taken = r.taken; count = n + length r.tokens; text = t + length (texts_of r.tokens) })) (Err (record { taken = r.taken; count = n + length r.tokens; text = t + length (texts_of r.tokens) }));
@@ -51,7 +53,7 @@ leaves_all r rows b st fill =
     let e₂ : 0 + length (texts_of r.tokens) ≡ length (texts_of r.tokens) = omega arith in
     rw (e₁, e₂, add-zero fill, emits-bytes (rows_of fill r.tokens) rows 0)
 
-module _ (o : Store) (n : ℕ) (b : List ℕ) (d : ℕ) (st : List ℕ) (fill t : ℕ) where
+module _ (o : Store ℕ) (n : ℕ) (b : List ℕ) (d : ℕ) (st : List ℕ) (fill t : ℕ) where
   -- a statement that ends here leaves the stores as they are
   leaves-stop : (at : ℕ) → leaves (stop at true) o n b d st fill t ≡ record { answer = Ok (record { taken = at; count = n; text = t }); rows = o.bytes; brackets = b; store = st }
   unfolding leaves stop pick rows_many texts_many brackets_after
@@ -179,6 +181,12 @@ pub record Running (s : List ℕ) (include : Bool) (rows₀ brackets₀ store₀
   pub brackets-long : length brackets ≡ length brackets₀
   pub store_long : length store ≡ length store₀
 
+-- the reader, with the stores that it was lent and as they are
+pub record Lending (s : List ℕ) (include : Bool) (stores₀ : Stores) (fill : ℕ) (stores : Stores) (taken count place depth text : ℕ) : Type 0 where
+  pub same : SameStores stores₀ stores
+  pub rules : stores.rules.now ≡ stores₀.rules.now
+  pub running : Running s include stores₀.tokens.now stores₀.brackets.now stores₀.texts.now fill stores.tokens.now stores.brackets.now stores.texts.now taken count place depth text
+
 -- before the first token nothing is taken, counted, awaited or written
 pub begin : (s : List ℕ) (include : Bool) (rows brackets store : List ℕ) (fill : ℕ)
     → Running s include rows brackets store fill rows brackets store 0 0 0 0 0
@@ -214,7 +222,7 @@ module _ {s : List ℕ} {include : Bool} {rows₀ brackets₀ store₀ : List �
   abbrev inner : List ℕ
   inner = awaited brackets d
 
-  abbrev written : Store
+  abbrev written : Store ℕ
   written = record { bytes = rows; fill = place }
 
   -- what a return leaves, and its bounds

@@ -7,7 +7,7 @@ use native.Mathlib.Omega.{arith}
 use lib.ListN.{length, take, drop, replicate, set, length-replicate}
 use lib.Seq.{sets, take-nil, take-set-le}
 use Rattle.combinators.specs.Choice.{pick}
-use Rattle.combinators.specs.Store.{wiped}
+use Rattle.combinators.specs.Store.{filled_part, wiped}
 use Rattle.combinators.specs.Part.{part}
 use Rattle.combinators.proofs.Rules.{pick-holds}
 use Rattle.combinators.proofs.Wiped.{sets-apart, wiped-over, wiped-add}
@@ -97,7 +97,7 @@ texts-begin (a ∷ b ∷ c ∷ ks) =
 -- zeros over a name of n bytes and what was stored behind it
 pub wiped-inner : (l : List ℕ) (f n m : ℕ) (xs : List ℕ) → length xs ≤ m → wiped f (n + m) (sets l (f + n) xs) ≡ wiped f (n + m) l
 wiped-inner l f n m xs h =
-    let zeros : (y : List ℕ) → wiped f n y ≡ sets y f (replicate n 0) = λ y. unfold wiped in refl in
+    let zeros : (y : List ℕ) → wiped f n y ≡ sets y f (replicate n 0) = λ y. unfold filled_part in refl in
     let e = length-replicate {A = ℕ} n 0 in
     let p : wiped f n (sets l (f + n) xs) ≡ sets (wiped f n l) (f + n) xs =
     zeros _ ∙ sets-apart l f (f + n) (replicate n 0) xs (omega arith) ∙ ap (λ y. sets y (f + n) xs) (sym (zeros l))

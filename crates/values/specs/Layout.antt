@@ -3,6 +3,7 @@ use Rattle.std.specs.Prelude.{ℕ, zero, suc, ◌+◌, ◌-◌, ◌*◌, ◌^◌
 use Rattle.std.proofs.lemmas.List.Edits.{sets}
 use Rattle.combinators.specs.Ascii.{right_parenthesis, reverse_solidus}
 use Rattle.combinators.specs.Choice.{pick, and, is}
+use Rattle.combinators.specs.declared.lent.Stores.{Stores}
 use Rattle.lexer.specs.Token.{function, number, close_round, coded, text_of}
 use Rattle.lexer.specs.TokenRow.{token_width, function_kind, number_kind, close_round_kind, columns_of, word, row_of, token_row}
 use Rattle.lexer.specs.declared.tokens.Token as lexer
@@ -126,6 +127,10 @@ pub record Left : Type 0 where
   pub brackets : List ℕ
   pub store : List ℕ
 
+-- by a call that is lent the stores: its answer, and what the three then hold
+abbrev pub leaving : Result declared-statement.Statement Unbalanced → Stores → Left
+leaving a stores = record { answer = a; rows = stores.tokens.now; brackets = stores.brackets.now; store = stores.texts.now }
+
 unfoldable pub left : Statement → List ℕ → List ℕ → List ℕ → ℕ → Left
 left r rows brackets store fill =
     record {
@@ -147,6 +152,9 @@ pub record ValueLeft : Type 0 where
   pub rows : List ℕ
   pub brackets : List ℕ
   pub store : List ℕ
+
+abbrev pub leaving_value : Result declared-value.Value Unbalanced → Stores → ValueLeft
+leaving_value a stores = record { answer = a; rows = stores.tokens.now; brackets = stores.brackets.now; store = stores.texts.now }
 
 unfoldable pub value_left : Statement → List ℕ → List ℕ → List ℕ → ℕ → ValueLeft
 value_left r rows brackets store fill =

@@ -96,7 +96,7 @@ pub fn parse_color(tokens: Tokens) -> Option<u32>
     }
 }
 
-// The number of the first token behind the last comma, which is 0 without one.
+// The number of the first token behind the last comma; without one the list begins at 0.
 fn behind_comma(tokens: Tokens) -> usize
     ensures value { result ≡ last_part tokens.entry.rows.now tokens.entry.count }
     ensures upper_bound { result ≤ tokens.entry.count }

@@ -30,6 +30,7 @@ const COLOURS: [(&str, u32); 17] = [
     ("yellow", 0xffff00),
 ];
 
+// Bases and limits of numbers; they number no kinds.
 pub const DECIMAL: u32 = 10;
 
 const HEXADECIMAL: u32 = 16;

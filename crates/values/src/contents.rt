@@ -7,7 +7,8 @@ ghost use Rattle.values.specs.ValueAnswer.{ContentRoom, content_answer};
 use crate::tokens::{Tokens, is_kind, text_at};
 use lexer::rows::{STRING, TOKEN_WIDTH};
 
-// The length of the strings that the tokens of a value are; none where one is no string.
+// The length of the strings that the tokens of a value are; none where one is no string. What is asked is no fact of all `Tokens`: it would be
+// owed wherever a part of them is taken, and only contents are added up.
 pub fn parse_content(tokens: Tokens) -> Option<usize>
     requires { ContentRoom tokens.rows.now tokens.store.now tokens.count }
     ensures { result ≡ content_answer (content_of (value_tokens tokens.entry)) }

@@ -37,20 +37,21 @@ fn number_is_zero(n: &[u8]) -> bool
     unsigned_is_zero(&t[k..])
 }
 
-// Whether the number of the token whose row starts at `at` is zero.
-fn token_is_zero(rows: &[u32], at: usize, store: &[u8]) -> bool
-    ensures { result ≡ number_zero (first_text rows.now store.now at) }
+// Whether the number of the first token is zero.
+fn token_is_zero(tokens: Tokens) -> bool
+    ensures { result ≡ number_zero (first_text tokens.entry.rows.now tokens.entry.store.now 0) }
 {
-    number_is_zero(text_at(rows, at, store))
+    number_is_zero(text_at(tokens.rows, 0, tokens.store))
 }
 
-// Whether the unit of the dimension whose row starts at `at` is one of a length's. It lies behind the number.
-fn has_unit(rows: &[u32], at: usize, store: &[u8]) -> bool
-    ensures { result ≡ any_of (second_text rows.now store.now at) units }
+// Whether the unit of the first token, a dimension, is one of a length's. It lies behind the number.
+fn has_unit(tokens: Tokens) -> bool
+    ensures { result ≡ any_of (second_text tokens.entry.rows.now tokens.entry.store.now 0) units }
 {
-    let start = number_at(rows, at, TOKEN_START) as usize;
-    let first = number_at(rows, at, TOKEN_FIRST) as usize;
-    let unit = part_of(store, start + first, place_at(rows, at, TOKEN_SECOND));
+    let Tokens { rows, store, .. } = tokens;
+    let start = number_at(rows, 0, TOKEN_START) as usize;
+    let first = number_at(rows, 0, TOKEN_FIRST) as usize;
+    let unit = part_of(store, start + first, place_at(rows, 0, TOKEN_SECOND));
     any_of(unit, &UNITS)
 }
 
@@ -61,13 +62,9 @@ pub fn parse_height(tokens: Tokens) -> Option<bool>
     if tokens.count != 1 {
         None
     } else if is_kind(tokens.rows, 0, DIMENSION) {
-        has_unit(tokens.rows, 0, tokens.store).then_some(token_is_zero(
-            tokens.rows,
-            0,
-            tokens.store,
-        ))
+        has_unit(tokens).then_some(token_is_zero(tokens))
     } else if is_kind(tokens.rows, 0, NUMBER) {
-        token_is_zero(tokens.rows, 0, tokens.store).then_some(true)
+        token_is_zero(tokens).then_some(true)
     } else {
         None
     }

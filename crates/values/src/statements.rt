@@ -1,10 +1,12 @@
-// Statements: tokens read to the end of a statement, into rows and a store of texts.
+// Statements: tokens read to the end of a statement, into rows and a store of texts. `fill` stands beside the stores: only texts go on behind others.
 ghost use Rattle.std.specs.Prelude.{◌≡◌, false, ◌-◌, ◌^◌, ◌≤◌, ◌<◌, length};
+ghost use Rattle.combinators.specs.Lent.{SameStores};
 ghost use Rattle.values.specs.Value.{is_important, bracket_by, closing, statement_of};
-ghost use Rattle.values.specs.Layout.{length_by, meant, awaited, step_to, deep, ending_by, Moved, Room, left, Bounds, value_left};
+ghost use Rattle.values.specs.Layout.{length_by, meant, awaited, step_to, deep, ending_by, Moved, Room, left, leaving, Bounds, value_left, leaving_value};
 ghost use Rattle.values.specs.Tokens.{value_tokens};
 
 use crate::tokens::{Tokens, is_delim, is_word};
+use combinators::lent::Stores;
 use lexer::rows::{TOKEN_WIDTH, put_token};
 use lexer::tokens::{Lexed, Token, parse_token};
 
@@ -138,19 +140,19 @@ fn step_at(k: Token, include_semicolon: bool, brackets: &mut [u8], d: usize) -> 
 }
 
 // Reads the tokens to the end of a statement: to a semicolon or a closing brace outside all brackets, or behind an outermost block
-// in braces. Their rows go to `rows` from 0 on, their texts to `store` from `fill` on; `brackets` holds the brackets awaited. The
+// in braces. Their rows go to the stores' tokens from 0 on, their texts to their texts from `fill` on; their brackets hold those awaited. The
 // entry points refuse stores below the least lengths (refusal 2), so `Room` holds wherever this is called.
 pub fn parse_to_end_of_statement(
     s: &[u8],
     include_semicolon: bool,
-    rows: &mut [u32],
-    brackets: &mut [u8],
-    store: &mut [u8],
+    stores: &mut Stores<'_>,
     fill: usize,
 ) -> Result<Statement, Unbalanced>
-    requires { Room (length s.now) fill rows.old brackets.old store.old }
-    ensures store_after { record { answer = result; rows = rows.new; brackets = brackets.new; store = store.new }
-        ≡ left (statement_of include_semicolon s.now) rows.old brackets.old store.old fill }
+    requires { Room (length s.now) fill stores.old.tokens.now stores.old.brackets.now stores.old.texts.now }
+    ensures same { SameStores stores.old stores.new }
+    ensures rules_unchanged { stores.new.rules.now ≡ stores.old.rules.now }
+    ensures work_after { leaving result stores.new
+        ≡ left (statement_of include_semicolon s.now) stores.old.tokens.now stores.old.brackets.now stores.old.texts.now fill }
     ensures bounds { Bounds s.now result }
 {
     let mut taken = 0;
@@ -158,15 +160,20 @@ pub fn parse_to_end_of_statement(
     let mut place = 0;
     let mut depth = 0;
     let mut text = 0;
-    while let Some(Lexed { start, end, token }) = parse_token(&s[taken..], store, fill + text) {
+    // each turn goes on behind the token that was read, and three of its four ways on end the statement
+    while let Some(Lexed { start, end, token }) = parse_token(
+        &s[taken..],
+        stores.texts,
+        fill + text,
+    ) {
         let byte = taken + start;
         let at = fill + text;
         let length = text_length(token);
-        match step_at(token, include_semicolon, brackets, depth) {
+        match step_at(token, include_semicolon, stores.brackets, depth) {
             Step::Before => return Ok(Statement { taken, count, text }),
             Step::Wrong => return Err(Unbalanced { taken, count, text }),
             Step::Behind => {
-                put_token(token, byte, at, rows, place);
+                put_token(token, byte, at, stores.tokens, place);
                 return Ok(Statement {
                     taken: taken + end,
                     count: count + 1,
@@ -174,7 +181,7 @@ pub fn parse_to_end_of_statement(
                 });
             }
             Step::Next(awaited) => {
-                place = put_token(token, byte, at, rows, place);
+                place = put_token(token, byte, at, stores.tokens, place);
                 taken += end;
                 count += 1;
                 text += length;
@@ -190,28 +197,22 @@ fn is_important(tokens: Tokens) -> bool
     ensures { result ≡ is_important (value_tokens tokens.entry) }
 {
     let Tokens { rows, count, store } = tokens;
-    if count < 2 {
-        return false;
-    }
-    let mark = (count - 2) * TOKEN_WIDTH;
-    is_delim(rows, mark, b'!') && is_word(rows, mark + TOKEN_WIDTH, store, "important")
+    count >= 2
+        && is_delim(rows, (count - 2) * TOKEN_WIDTH, b'!')
+        && is_word(rows, (count - 1) * TOKEN_WIDTH, store, "important")
 }
 
 // Reads a value, and leaves its tokens and texts as `parse_to_end_of_statement` does.
-pub fn parse_value(
-    s: &[u8],
-    rows: &mut [u32],
-    brackets: &mut [u8],
-    store: &mut [u8],
-    fill: usize,
-) -> Result<Value, Unbalanced>
-    requires { Room (length s.now) fill rows.old brackets.old store.old }
-    ensures { record { answer = result; rows = rows.new; brackets = brackets.new; store = store.new }
-        ≡ value_left (statement_of false s.now) rows.old brackets.old store.old fill }
+pub fn parse_value(s: &[u8], stores: &mut Stores<'_>, fill: usize) -> Result<Value, Unbalanced>
+    requires { Room (length s.now) fill stores.old.tokens.now stores.old.brackets.now stores.old.texts.now }
+    ensures same { SameStores stores.old stores.new }
+    ensures rules_unchanged { stores.new.rules.now ≡ stores.old.rules.now }
+    ensures work_after { leaving_value result stores.new
+        ≡ value_left (statement_of false s.now) stores.old.tokens.now stores.old.brackets.now stores.old.texts.now fill }
 {
-    let Statement { taken, count, text } = parse_to_end_of_statement(
-        s, false, rows, brackets, store, fill,
-    )?;
+    let Statement { taken, count, text } = parse_to_end_of_statement(s, false, stores, fill)?;
+    let rows = &mut *stores.tokens;
+    let store = &mut *stores.texts;
     let important = is_important(Tokens { rows, count, store });
     Ok(Value {
         taken,

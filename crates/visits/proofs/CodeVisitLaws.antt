@@ -2,15 +2,15 @@
 use Prim.Native.Nat.{ℕ, zero, suc, ◌+◌, ◌-◌, ◌≤◌, ◌<◌}
 use mathlib.Core.Path.{◌≡◌, refl, sym, ap, ◌∙◌}
 use mathlib.Core.Bool.{Bool, true, false}
-use mathlib.Core.List.{List, [], ◌∷◌, ◌++◌, append_assoc}
+use mathlib.Core.List.{List, [], ◌∷◌, ◌++◌}
 use native.Mathlib.Omega.{arith}
-use lib.ListN.{length, get_or, length-take, drop}
+use lib.ListN.{length, get_or, replicate, length-replicate}
 use lib.Seq.{sets}
 use Rattle.combinators.specs.Choice.{pick, is}
-use Rattle.combinators.specs.Part.{part}
 use Rattle.syntax.specs.Layout.{flag, flag_of}
 use Rattle.syntax.specs.Style.{agent_origin}
 use Rattle.combinators.proofs.Rules.{never, is-yes, is-no}
+use Rattle.combinators.proofs.Wiped.{sets-append}
 use Rattle.page.specs.Path.{Path}
 use Rattle.compiled.specs.Answer.{read_answer}
 use Rattle.compiled.specs.Decoded.{Decoded, read, fault, on_decoded}
@@ -23,108 +23,85 @@ use Rattle.compiled.proofs.Answers.{answer_read, answer-fault}
 use Rattle.segments.specs.Sweep.{pair_at, pair_bytes, tests_pass, with_tests, mark_bytes, sweep_at}
 use Rattle.segments.specs.Before.{Segment, beginning, segment_before, fresh_bytes}
 use Rattle.segments.specs.Visits.{to_next, to_awaited, to_flags, block_bytes, Visited, awaits, ended_by, ended_at, decided, visit_at}
-use Rattle.segments.specs.Parts.{part_sets, Apart, pair_limit}
+use Rattle.segments.specs.Pass.{block_set}
+use Rattle.segments.specs.Parts.{pair_limit}
 use Rattle.sweeps.specs.Swept.{swept_mark, swept_one, swept_behind}
-use Rattle.visits.specs.Visiting.{to_tests, to_end, block_stored, behind_first, swept_visit, next_awaited, awaited_visit}
+use Rattle.visits.specs.Visiting.{to_tests, behind_first, swept_visit, next_awaited, awaited_visit}
 use Rattle.sweeps.specs.declared.sweeping.Swept.{Swept}
 use Rattle.visits.specs.declared.visiting.Awaited.{Awaited}
 use Rattle.visits.specs.declared.visiting.Awaited.TheVariants as segment
-use Rattle.sweeps.proofs.CodePartLaws.{tests-some, stored-then, stored-within, part-above-all}
+use Rattle.sweeps.proofs.CodePartLaws.{tests-some}
 use Rattle.sweeps.proofs.CodeSweepLaws.{one-mark, sweep-step}
 
--- a number takes two bytes
-length-pair : (n : ℕ) → length (pair_bytes n) ≡ 2
-unfolding pair_bytes
-length-pair n = refl
-
--- two numbers, those of the next selector and of the awaited segment, take four bytes
-length-places : (a b : ℕ) → length (pair_bytes a ++ pair_bytes b) ≡ 4
-unfolding pair_bytes
-length-places a b = refl
-
-module _ (s₀ s₁ s₂ : List ℕ) (own width p next awaited : ℕ) where
+module _ (s₀ s₁ s₂ : List ℕ) (p next awaited : ℕ) where
   -- ---- the return of `put_places`
   -- the place of the next selector and the awaited place, stored in turn, are both of them stored at once
-  pub places-stored : s₁ ≡ part_sets s₀ own width (p + to_next) (pair_bytes next) → s₂ ≡ part_sets s₁ own width (p + to_awaited) (pair_bytes awaited)
-      → s₂ ≡ part_sets s₀ own width (p + to_next) (pair_bytes next ++ pair_bytes awaited)
-  places-stored e f =
-      let d : p + to_awaited ≡ p + to_next + length (pair_bytes next) = (let l = length-pair next in omega arith) in
-      f ∙ ap (λ (s : List ℕ). part_sets s own width (p + to_awaited) (pair_bytes awaited)) e
-      ∙ ap (λ (n : ℕ). part_sets (part_sets s₀ own width (p + to_next) (pair_bytes next)) own width n (pair_bytes awaited)) d
-      ∙ sym (stored-then (pair_bytes next) (pair_bytes awaited) s₀ own width (p + to_next))
+  pub places-stored : s₁ ≡ sets s₀ (p + to_next) (pair_bytes next) → s₂ ≡ sets s₁ (p + to_awaited) (pair_bytes awaited) → s₂ ≡ sets s₀ (p + to_next) (pair_bytes next ++ pair_bytes awaited)
+  unfolding pair_bytes
+  places-stored e f = let a : p + to_awaited ≡ suc (suc (p + to_next)) = omega arith in f ∙ rw (e, a)
 
   -- both places stored, then the flags behind them, are the block stored whole
-  pub block-stored : (flags : List ℕ) → s₁ ≡ part_sets s₀ own width (p + to_next) (pair_bytes next ++ pair_bytes awaited) → s₂ ≡ part_sets s₁ own width (p + to_flags) flags
-      → s₂ ≡ part_sets s₀ own width (p + to_next) (block_bytes next awaited flags)
-  unfolding block_bytes
-  block-stored flags e f =
-      let places = pair_bytes next ++ pair_bytes awaited in
-      let d : p + to_flags ≡ p + to_next + length places = (let l = length-places next awaited in omega arith) in
-      f ∙ ap (λ (s : List ℕ). part_sets s own width (p + to_flags) flags) e
-      ∙ ap (λ (n : ℕ). part_sets (part_sets s₀ own width (p + to_next) places) own width n flags) d
-      ∙ sym (stored-then places flags s₀ own width (p + to_next))
-      ∙ ap (part_sets s₀ own width (p + to_next)) (append_assoc (pair_bytes next) (pair_bytes awaited) flags)
+  pub block-stored : (flags : List ℕ) → s₁ ≡ sets s₀ (p + to_next) (pair_bytes next ++ pair_bytes awaited) → s₂ ≡ sets s₁ (p + to_flags) flags
+      → s₂ ≡ sets s₀ (p + to_next) (block_bytes next awaited flags)
+  unfolding block_bytes pair_bytes
+  block-stored flags e f = let a : p + to_flags ≡ suc (suc (suc (suc (p + to_next)))) = omega arith in f ∙ rw (e, a)
 
 -- ---- the return of `put_marked`
--- next, awaited and the mark with its tests, stored in turn, are the block
-pub marked-stored : (s₀ s₁ s₂ s₃ : List ℕ) (at next awaited tests : ℕ) → s₁ ≡ sets s₀ (at + to_next) (pair_bytes next) → s₂ ≡ sets s₁ (at + to_awaited) (pair_bytes awaited)
-    → s₃ ≡ sets s₂ (at + to_flags) (with_tests ∷ pair_bytes tests) → s₃ ≡ sets s₀ (at + to_next) (block_bytes next awaited (with_tests ∷ pair_bytes tests))
-unfolding pair_bytes block_bytes
-marked-stored s₀ s₁ s₂ s₃ at next awaited tests e₁ e₂ e₃ =
-    let a : at + to_awaited ≡ suc (suc (at + to_next)) = omega arith in
-    let f : at + to_flags ≡ suc (suc (suc (suc (at + to_next)))) = omega arith in
-    e₃ ∙ rw (e₂, e₁, a, f)
+-- next, awaited, zeros and the mark with its tests, stored in turn, are the block
+pub marked-stored : (s₀ s₁ s₂ s₃ s₄ : List ℕ) (at next awaited steps tests : ℕ) → s₁ ≡ sets s₀ (at + to_next) (pair_bytes next) → s₂ ≡ sets s₁ (at + to_awaited) (pair_bytes awaited)
+    → s₃ ≡ sets s₂ (at + to_flags) (replicate steps 0) → s₄ ≡ sets s₃ (at + to_flags + steps) (with_tests ∷ pair_bytes tests)
+    → s₄ ≡ sets s₀ (at + to_next) (block_bytes next awaited (replicate steps 0 ++ (with_tests ∷ pair_bytes tests)))
+marked-stored s₀ s₁ s₂ s₃ s₄ at next awaited steps tests e₁ e₂ e₃ e₄ =
+    let zeros : List ℕ = replicate steps 0 in
+    let mark : List ℕ = with_tests ∷ pair_bytes tests in
+    block-stored s₀ s₂ s₄ at next awaited _ (places-stored s₀ s₁ s₂ at next awaited e₁ e₂)
+    (e₄ ∙ ap (λ (s : List ℕ). sets s (at + to_flags + steps) mark) e₃
+    ∙ ap (λ (n : ℕ). sets (sets s₂ (at + to_flags) zeros) (at + to_flags + n) mark) (sym (length-replicate steps 0))
+    ∙ sym (sets-append s₂ (at + to_flags) zeros mark))
 
 -- ---- the return of `put_awaits`
 -- both places and the flags of a segment that is awaited from its start, stored in turn, are its block
-pub awaits-stored : (s₀ s₁ s₂ : List ℕ) (own width p next : ℕ) (s : Segment) (start steps tests : ℕ) → record { start = start; steps = steps; tests = tests } ≡ s
-    → s₁ ≡ part_sets s₀ own width (p + to_next) (pair_bytes next ++ pair_bytes start)
-    → s₂ ≡ part_sets s₁ own width (p + to_flags) (fresh_bytes (record { start = start; steps = steps; tests = tests }))
-    → s₂ ≡ block_stored s₀ own width (awaits s) next p
-unfolding block_stored awaits
-awaits-stored s₀ s₁ s₂ own width p next s start steps tests e f g =
+pub awaits-stored : (s₀ s₁ s₂ : List ℕ) (p next : ℕ) (s : Segment) (start steps tests : ℕ) → record { start = start; steps = steps; tests = tests } ≡ s
+    → s₁ ≡ sets s₀ (p + to_next) (pair_bytes next ++ pair_bytes start)
+    → s₂ ≡ sets s₁ (p + to_flags) (fresh_bytes (record { start = start; steps = steps; tests = tests }))
+    → s₂ ≡ block_set (awaits s) next p s₀
+unfolding block_set awaits
+awaits-stored s₀ s₁ s₂ p next s start steps tests e f g =
     let w : Segment = record { start = start; steps = steps; tests = tests } in
-    block-stored s₀ s₁ s₂ own width p next start (fresh_bytes w) f g
-    ∙ ap (λ (x : Segment). part_sets s₀ own width (p + to_next) (block_bytes next x.start (fresh_bytes x))) e
+    block-stored s₀ s₁ s₂ p next start (fresh_bytes w) f g ∙ ap (λ (x : Segment). sets s₀ (p + to_next) (block_bytes next x.start (fresh_bytes x))) e
 
 -- ---- the returns of `put_stays`
-module _ (code : List ℕ) (row : Path) (s₀ s₁ s₂ : List ℕ) (above own width p next awaited : ℕ) (one : Swept)
-    (e : s₁ ≡ part_sets s₀ own width (p + to_next) (pair_bytes next ++ pair_bytes awaited)) where
+module _ (code : List ℕ) (row : Path) (above s₀ s₁ s₂ : List ℕ) (p next awaited : ℕ) (one : Swept)
+    (e : s₁ ≡ sets s₀ (p + to_next) (pair_bytes next ++ pair_bytes awaited)) where
   -- what is stored: both places and the flags behind the first compound
   abbrev Stays : Type 0
-  Stays = s₂ ≡ part_sets s₀ own width (p + to_next) (block_bytes next awaited (behind_first code row (part s₀ above width) p one))
+  Stays = s₂ ≡ sets s₀ (p + to_next) (block_bytes next awaited (behind_first code row above p one))
 
   -- where the first compound is the leftmost, its mark is what is stored
-  pub stays-marked : one.marked ≡ true → s₂ ≡ part_sets s₁ own width (p + to_flags) (mark_bytes one.tests) → Stays
+  pub stays-marked : one.marked ≡ true → s₂ ≡ sets s₁ (p + to_flags) (mark_bytes one.tests) → Stays
   stays-marked m f =
-      let w : mark_bytes one.tests ≡ behind_first code row (part s₀ above width) p one = unfold behind_first swept_behind pick in rw m in
-      block-stored s₀ s₁ s₂ own width p next awaited _ e (f ∙ ap (part_sets s₁ own width (p + to_flags)) w)
+      let w : mark_bytes one.tests ≡ behind_first code row above p one = unfold behind_first swept_behind pick in rw m in
+      block-stored s₀ s₁ s₂ p next awaited _ e (f ∙ ap (sets s₁ (p + to_flags)) w)
 
   -- where it is not the leftmost, the flags of the compounds left of it are stored
-  pub stays-others : Apart above own width → one.marked ≡ false
-      → s₂ ≡ part_sets s₁ own width (p + to_flags) (sweep_at code row (part s₁ above width) (length code - 1) (p + to_flags + 1) one.place) → Stays
-  stays-others h m f =
-      let o : part s₁ above width ≡ part s₀ above width =
-      ap (λ (x : List ℕ). part x above width) e ∙ part-above-all (pair_bytes next ++ pair_bytes awaited) s₀ above own width (p + to_next) h in
-      let w : sweep_at code row (part s₀ above width) (length code - 1) (p + to_flags + 1) one.place ≡ behind_first code row (part s₀ above width) p one =
-      unfold behind_first swept_behind pick in rw m in
-      block-stored s₀ s₁ s₂ own width p next awaited _ e
-      (f ∙ ap (λ (x : List ℕ). part_sets s₁ own width (p + to_flags) (sweep_at code row x (length code - 1) (p + to_flags + 1) one.place)) o
-      ∙ ap (part_sets s₁ own width (p + to_flags)) w)
+  pub stays-others : one.marked ≡ false → (limit : ℕ) → limit ≡ length code - 1 → s₂ ≡ sets s₁ (p + to_flags) (sweep_at code row above limit (p + to_flags + 1) one.place) → Stays
+  stays-others m limit el f =
+      let w : sweep_at code row above (length code - 1) (p + to_flags + 1) one.place ≡ behind_first code row above p one = unfold behind_first swept_behind pick in rw m in
+      block-stored s₀ s₁ s₂ p next awaited _ e (f ∙ ap (λ (n : ℕ). sets s₁ (p + to_flags) (sweep_at code row above n (p + to_flags + 1) one.place)) el ∙ ap (sets s₁ (p + to_flags)) w)
 
 -- ---- what is told of a visit: whether the selector matches, and the block that is stored
-module _ (s₀ : List ℕ) (own width next p : ℕ) where
+module _ (s₀ : List ℕ) (next p : ℕ) where
   abbrev pub Told : Visited → Bool → List ℕ → Type 0
-  Told v b s₁ = (b ≡ v.matched) × (s₁ ≡ block_stored s₀ own width v next p)
+  Told v b s₁ = (b ≡ v.matched) × (s₁ ≡ block_set v next p s₀)
 
   -- of one that is another
   told-as : (v w : Visited) → v ≡ w → (b : Bool) (s₁ : List ℕ) → Told w b s₁ → Told v b s₁
-  told-as v w e b s₁ t = (t.0 ∙ ap (λ (x : Visited). x.matched) (sym e), t.1 ∙ ap (λ (x : Visited). block_stored s₀ own width x next p) (sym e))
+  told-as v w e b s₁ t = rw e t
 
   -- of one whose segment is awaited as before
-  told-stays : (b : Bool) (awaited : ℕ) (flags s₁ : List ℕ) → s₁ ≡ part_sets s₀ own width (p + to_next) (block_bytes next awaited flags)
+  told-stays : (b : Bool) (awaited : ℕ) (flags s₁ : List ℕ) → s₁ ≡ sets s₀ (p + to_next) (block_bytes next awaited flags)
       → Told (record { matched = b; awaited = awaited; flags = flags }) b s₁
-  unfolding block_stored
+  unfolding block_set
   told-stays b awaited flags s₁ e = (refl, e)
 
 -- ---- the returns of `next_awaited`
@@ -175,27 +152,27 @@ module _ (code flags : List ℕ) (p awaited : ℕ) where
   decided-next true = by-head (head_at code agent_origin p)
   decided-next false = unfold awaited_visit in refl
 
-module _ (code : List ℕ) (row : Path) (s₀ : List ℕ) (above own width p next awaited : ℕ) (one : Swept) (r : Awaited) (er : r ≡ next_awaited code p awaited one.ends) (s₁ : List ℕ) where
-  -- what is told: whether the selector matches, and the state with its block
+module _ (code : List ℕ) (row : Path) (above s₀ : List ℕ) (p next awaited : ℕ) (one : Swept) (r : Awaited) (er : r ≡ next_awaited code p awaited one.ends) (s₁ : List ℕ) where
+  -- what is told: whether the selector matches, and the part with its block
   abbrev Sweeps : Bool → Type 0
-  Sweeps b = Told s₀ own width next p (swept_visit code row (part s₀ above width) p awaited one) b s₁
+  Sweeps b = Told s₀ next p (swept_visit code row above p awaited one) b s₁
 
   -- of what is awaited
-  sweeps-as : (w : Visited) → awaited_visit code awaited (behind_first code row (part s₀ above width) p one) r ≡ w → (b : Bool) → Told s₀ own width next p w b s₁ → Sweeps b
+  sweeps-as : (w : Visited) → awaited_visit code awaited (behind_first code row above p one) r ≡ w → (b : Bool) → Told s₀ next p w b s₁ → Sweeps b
   unfolding swept_visit
   sweeps-as w e b t =
-      let flags = behind_first code row (part s₀ above width) p one in
-      told-as s₀ own width next p _ w (decided-next code flags p awaited one.ends ∙ ap (awaited_visit code awaited flags) (sym er) ∙ e) b s₁ t
+      let flags = behind_first code row above p one in
+      told-as s₀ next p _ w (decided-next code flags p awaited one.ends ∙ ap (awaited_visit code awaited flags) (sym er) ∙ e) b s₁ t
 
   -- where the same segment is awaited on, its flags are stored
-  pub swept_same : (b : Bool) → r ≡ segment.Same b → s₁ ≡ part_sets s₀ own width (p + to_next) (block_bytes next awaited (behind_first code row (part s₀ above width) p one)) → Sweeps b
+  pub swept_same : (b : Bool) → r ≡ segment.Same b → s₁ ≡ sets s₀ (p + to_next) (block_bytes next awaited (behind_first code row above p one)) → Sweeps b
   swept_same b q s =
-      let flags = behind_first code row (part s₀ above width) p one in
-      sweeps-as (record { matched = b; awaited = awaited; flags = flags }) (unfold awaited_visit in rw q) b (told-stays s₀ own width next p b awaited flags s₁ s)
+      let flags = behind_first code row above p one in
+      sweeps-as (record { matched = b; awaited = awaited; flags = flags }) (unfold awaited_visit in rw q) b (told-stays s₀ next p b awaited flags s₁ s)
 
   -- where the segment before it is awaited, its fresh flags are stored
   pub swept-before : (count first : ℕ) → r ≡ segment.Before count first
-      → s₁ ≡ block_stored s₀ own width (awaits (segment_before code awaited count (beginning first) first)) next p → Sweeps false
+      → s₁ ≡ block_set (awaits (segment_before code awaited count (beginning first) first)) next p s₀ → Sweeps false
   swept-before count first q s = sweeps-as (awaits (segment_before code awaited count (beginning first) first)) (unfold awaited_visit in rw q) false (unfold awaits in refl, s)
 
 -- ---- the returns of `visit_marked`
@@ -205,87 +182,63 @@ unfolding tests_pass mark_bytes
 some_tests code row zero i e = never (sym e)
 some_tests code row (suc t) i e = refl
 
-module _ (code : List ℕ) (row : Path) (s₀ : List ℕ) (above own width p next awaited tests : ℕ) (ends : Bool) (ee : ends ≡ tests_pass code row tests awaited) (s₁ : List ℕ) where
-  -- what is told of a segment of one compound with its mark: whether the selector matches, and the state with its block
+module _ (code : List ℕ) (row : Path) (above s₀ : List ℕ) (p next awaited tests : ℕ) (ends : Bool) (ee : ends ≡ tests_pass code row tests awaited) (s₁ : List ℕ) where
+  -- what is told of a segment of one compound with its mark: whether the selector matches, and the part with its block
   abbrev Marked : Bool → Type 0
-  Marked b = Told s₀ own width next p (swept_visit code row (part s₀ above width) p awaited (swept_mark code row tests awaited)) b s₁
-
-  -- what is told where the tests were run is told of the mark
-  pub marked-ends : (b : Bool) → Told s₀ own width next p (swept_visit code row (part s₀ above width) p awaited (record { marked = true; ends = ends; tests = tests; place = awaited })) b s₁ → Marked b
-  marked-ends b t = rw (← ee) t
+  Marked b = Told s₀ next p (swept_visit code row above p awaited (swept_mark code row tests awaited)) b s₁
 
   -- they do not, and the block stays
-  pub marked-stays : ends ≡ false → p + to_end ≤ width → s₁ ≡ sets s₀ (own + p + to_next) (block_bytes next awaited (with_tests ∷ pair_bytes tests)) → Marked false
-  marked-stays f h e =
+  pub marked-stays : ends ≡ false → s₁ ≡ sets s₀ (p + to_next) (block_bytes next awaited (with_tests ∷ pair_bytes tests)) → Marked false
+  marked-stays f e =
       let one : Swept = swept_mark code row tests awaited in
       let no : tests_pass code row tests awaited ≡ false = sym ee ∙ f in
-      let at : own + p + to_next ≡ own + (p + to_next) = omega arith in
-      let bytes = block_bytes next awaited (with_tests ∷ pair_bytes tests) in
-      let l : length bytes ≡ 7 = unfold block_bytes pair_bytes in refl in
-      let w : mark_bytes tests ≡ behind_first code row (part s₀ above width) p one = unfold behind_first swept_behind pick in refl in
-      swept_same code row s₀ above own width p next awaited one (next_awaited code p awaited one.ends) refl s₁ false (sym (awaited-stays code p awaited one.ends no))
-      (e ∙ ap (λ (n : ℕ). sets s₀ n bytes) at ∙ stored-within bytes s₀ own width (p + to_next) (omega (arith, l, h))
-      ∙ ap (λ (x : List ℕ). part_sets s₀ own width (p + to_next) (block_bytes next awaited x)) (some_tests code row tests awaited no ∙ w))
+      let w : mark_bytes tests ≡ behind_first code row above p one = unfold behind_first swept_behind pick in refl in
+      swept_same code row above s₀ p next awaited one (next_awaited code p awaited one.ends) refl s₁ false (sym (awaited-stays code p awaited one.ends no))
+      (e ∙ ap (λ (x : List ℕ). sets s₀ (p + to_next) (block_bytes next awaited x)) (some_tests code row tests awaited no ∙ w))
 
 -- ---- the returns of `visit_any` and `visit`
--- a part is no longer than was asked for
-part-le : (store : List ℕ) (a n : ℕ) → length (part store a n) ≤ n
-unfolding part
-part-le store a n = omega (arith, length-take n (drop a store))
-
--- so a block that it holds has room in the own one
-pub holds-end : (s₀ flags : List ℕ) (above width p : ℕ) → flags ≡ part s₀ above width → p + to_end ≤ length flags → p + to_end ≤ width
-holds-end s₀ flags above width p e h = let l : length flags ≡ length (part s₀ above width) = ap length e in omega (arith, l, h, part-le s₀ above width)
-
-module _ (code : List ℕ) (row : Path) (s₀ : List ℕ) (above own width p : ℕ) (flags : List ℕ) (ef : flags ≡ part s₀ above width)
-    (next : ℕ) (en : (next ≡ pair_at flags (p + to_next)) × (next < pair_limit)) (awaited : ℕ) (ea : awaited ≡ pair_at flags (p + to_awaited)) (s₁ : List ℕ) where
+module _ (code : List ℕ) (row : Path) (above s₀ : List ℕ) (p next : ℕ) (en : next ≡ pair_at above (p + to_next)) (awaited : ℕ) (ea : awaited ≡ pair_at above (p + to_awaited)) (s₁ : List ℕ) where
   -- what is to be told
   abbrev Visits : Bool → Type 0
   Visits b =
-      let following = pair_at (part s₀ above width) (p + to_next) in
-      let v : Visited = visit_at code row (part s₀ above width) p in
-      (b ≡ v.matched) × ((s₁ ≡ block_stored s₀ own width v following p) × ((next ≡ following) × (next < pair_limit)))
+      let v : Visited = visit_at code row above p in
+      (b ≡ v.matched) × (s₁ ≡ block_set v (pair_at above (p + to_next)) p s₀)
 
   -- by another, which it is
-  visits-as : (w : Visited) → decided code p awaited (sweep_at code row flags (length code) (p + to_flags) awaited) ≡ w → (b : Bool) → Told s₀ own width next p w b s₁ → Visits b
+  visits-as : (w : Visited) → decided code p awaited (sweep_at code row above (length code) (p + to_flags) awaited) ≡ w → (b : Bool) → Told s₀ next p w b s₁ → Visits b
   visits-as w e b t =
-      let o : visit_at code row (part s₀ above width) p ≡ w = unfold visit_at in rw (← ef, ← ea) e in
-      let n : next ≡ pair_at (part s₀ above width) (p + to_next) = en.0 ∙ ap (λ (x : List ℕ). pair_at x (p + to_next)) ef in
-      let told : Told s₀ own width (pair_at (part s₀ above width) (p + to_next)) p (visit_at code row (part s₀ above width) p) b s₁ =
-      told-as s₀ own width (pair_at (part s₀ above width) (p + to_next)) p (visit_at code row (part s₀ above width) p) w o b s₁
-      (t.0, t.1 ∙ ap (λ (x : ℕ). block_stored s₀ own width w x p) n) in
-      (told.0, (told.1, (n, en.1)))
+      let o : visit_at code row above p ≡ w = unfold visit_at in rw (← ea) e in
+      rw (o, ← en) t
 
   -- where there are no bytes, no selector matches and no flag is stored
-  pub visit-none : length code ≤ 0 → s₁ ≡ part_sets s₀ own width (p + to_next) (pair_bytes next ++ pair_bytes awaited) → Visits false
+  pub visit-none : length code ≤ 0 → s₁ ≡ sets s₀ (p + to_next) (pair_bytes next ++ pair_bytes awaited) → Visits false
   visit-none h e =
       let d : length code ≡ 0 = omega arith in
-      let w : decided code p awaited (sweep_at code row flags 0 (p + to_flags) awaited) ≡ record { matched = false; awaited = awaited; flags = [] } =
+      let w : decided code p awaited (sweep_at code row above 0 (p + to_flags) awaited) ≡ record { matched = false; awaited = awaited; flags = [] } =
       unfold decided sweep_at flag_of is pick in refl in
-      visits-as (record { matched = false; awaited = awaited; flags = [] }) (ap (λ (n : ℕ). decided code p awaited (sweep_at code row flags n (p + to_flags) awaited)) d ∙ w) false
-      (told-stays s₀ own width next p false awaited [] s₁ (block-stored s₀ s₁ s₁ own width p next awaited [] e (unfold part_sets in refl)))
+      visits-as (record { matched = false; awaited = awaited; flags = [] }) (ap (λ (n : ℕ). decided code p awaited (sweep_at code row above n (p + to_flags) awaited)) d ∙ w) false
+      (told-stays s₀ next p false awaited [] s₁ (block-stored s₀ s₁ s₁ p next awaited [] e refl))
 
-  module _ (h : 0 < length code) (one : Swept) (eo : one ≡ swept_one code row flags (p + to_flags) awaited) where
+  module _ (h : 0 < length code) (one : Swept) (eo : one ≡ swept_one code row above (p + to_flags) awaited) where
     -- the visit by the sweep of the whole segment is the visit by its first compound and those behind it
-    visit-first : decided code p awaited (sweep_at code row flags (length code) (p + to_flags) awaited) ≡ swept_visit code row (part s₀ above width) p awaited one
+    visit-first : decided code p awaited (sweep_at code row above (length code) (p + to_flags) awaited) ≡ swept_visit code row above p awaited one
     unfolding swept_visit behind_first
     visit-first =
         let k = length code - 1 in
         let d : length code ≡ suc k = omega arith in
-        ap (λ (n : ℕ). decided code p awaited (sweep_at code row flags n (p + to_flags) awaited)) d
-        ∙ ap (decided code p awaited) (sweep-step code row flags k (p + to_flags) awaited)
-        ∙ ap (λ (x : Swept). decided code p awaited (flag x.ends ∷ swept_behind code row flags k (p + to_flags) x)) (sym eo)
-        ∙ ap (λ (x : List ℕ). decided code p awaited (flag one.ends ∷ swept_behind code row x k (p + to_flags) one)) ef
+        ap (λ (n : ℕ). decided code p awaited (sweep_at code row above n (p + to_flags) awaited)) d
+        ∙ ap (decided code p awaited) (sweep-step code row above k (p + to_flags) awaited)
+        ∙ ap (λ (x : Swept). decided code p awaited (flag x.ends ∷ swept_behind code row above k (p + to_flags) x)) (sym eo)
 
     -- so it is told
-    pub visit-by : (b : Bool) → Told s₀ own width next p (swept_visit code row (part s₀ above width) p awaited one) b s₁ → Visits b
-    visit-by b t = visits-as (swept_visit code row (part s₀ above width) p awaited one) visit-first b t
+    pub visit-by : (b : Bool) → Told s₀ next p (swept_visit code row above p awaited one) b s₁ → Visits b
+    visit-by b t = visits-as (swept_visit code row above p awaited one) visit-first b t
 
   -- by the count of its mark
-  pub visit-mark : 0 < length code → get_or flags (p + to_flags) 0 ≡ with_tests → (tests : ℕ) → tests ≡ pair_at flags (p + to_tests)
-      → (b : Bool) → Told s₀ own width next p (swept_visit code row (part s₀ above width) p awaited (swept_mark code row tests awaited)) b s₁ → Visits b
+  pub visit-mark : 0 < length code → get_or above (p + to_flags) 0 ≡ with_tests → (tests : ℕ) → tests ≡ pair_at above (p + to_tests)
+      → (b : Bool) → Told s₀ next p (swept_visit code row above p awaited (swept_mark code row tests awaited)) b s₁ → Visits b
   visit-mark h m tests et b t =
       let d : p + to_tests ≡ p + to_flags + 1 = omega arith in
-      let n = tests-some flags (p + to_flags) (get_or flags (p + to_flags) 0) refl (λ e. absurd (omega (arith, e, m))) tests (et ∙ ap (pair_at flags) d) in
+      let n = tests-some above (p + to_flags) (get_or above (p + to_flags) 0) refl (λ e. absurd (omega (arith, e, m))) tests (et ∙ ap (pair_at above) d) in
       visit-by h (swept_mark code row tests awaited)
-      (one-mark code row flags (p + to_flags) awaited (get_or flags (p + to_flags) 0) refl (omega (arith, m)) tests n (tests_pass code row tests awaited) refl) b t
+      (one-mark code row above (p + to_flags) awaited (get_or above (p + to_flags) 0) refl (omega (arith, m)) tests n (tests_pass code row tests awaited) refl) b t

@@ -1,5 +1,4 @@
 pub mod CodeVisitLaws
-pub mod CodeBlockLaws
 pub mod CodePassLaws
 pub mod CodeDocumentLaws
 pub mod CodeStyledLaws

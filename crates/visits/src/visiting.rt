@@ -1,24 +1,22 @@
 // One selector at a row: by the block of its parent's part, the block of the own part, and whether it matches.
-ghost use Rattle.std.specs.Prelude.{◌≡◌, ◌∷◌, ◌++◌, ◌+◌, ◌≤◌, ◌<◌, length};
+ghost use Rattle.std.specs.Prelude.{◌≡◌, ◌∷◌, ◌++◌, ◌+◌, ◌≤◌, ◌<◌, length, replicate};
 ghost use Rattle.std.proofs.lemmas.List.Edits.{sets};
-ghost use Rattle.combinators.specs.Part.{part};
 ghost use Rattle.compiled.specs.Sheet.{compiled_limit};
-ghost use Rattle.segments.specs.Sweep.{pair_at, pair_bytes, with_tests};
+ghost use Rattle.segments.specs.Sweep.{pair_bytes, with_tests};
 ghost use Rattle.segments.specs.Before.{beginning, segment_before};
-ghost use Rattle.segments.specs.Visits.{to_next, awaits, block_bytes, visit_at};
-ghost use Rattle.sweeps.specs.Met.{row_alone};
-ghost use Rattle.segments.specs.Parts.{part_sets, pair_limit};
-ghost use Rattle.sweeps.specs.Swept.{swept_mark};
-ghost use Rattle.visits.specs.Visiting.{VisitLent, to_end, block_stored, behind_first, swept_visit, next_awaited};
+ghost use Rattle.segments.specs.Visits.{to_next, awaits, block_bytes};
+ghost use Rattle.segments.specs.Pass.{block_set};
+ghost use Rattle.segments.specs.Parts.{pair_limit};
+ghost use Rattle.visits.specs.Visiting.{to_end, visited, next_from, flags_behind, visited_by, visited_by_mark, next_awaited};
 
-use combinators::texts::part_of;
+use crate::rows::{Block, Row};
 use compiled::sheets::read_head;
 use sweeps::compounds::{segment_before, tests_pass};
-use sweeps::elements::Handed;
 use sweeps::parts::{
     WITH_TESTS, pair_at, pair_there, put_fresh, put_mark, put_mark_there, put_pair, put_pair_there,
+    put_zeros,
 };
-use sweeps::sweeping::{Parts, Swept, sweep_one, sweep_rest};
+use sweeps::sweeping::{Swept, sweep_one, sweep_rest};
 use syntax::rows::AGENT_ORIGIN;
 
 // From the place of a selector, to where its block has the place of the next selector, that of the segment that is awaited, and its flags.
@@ -48,193 +46,145 @@ pub struct VisitAnswer {
 }
 
 // Stores the two places that a block begins with.
-pub fn put_places(state: &mut [u8], own: usize, width: usize, p: usize, next: usize, awaited: usize)
-    requires width_in_bounds { own + width ≤ length state.old }
-    requires p_le_compiled_limit { p ≤ compiled_limit }
-    ensures { state.new ≡ part_sets state.old own width (p + to_next) (pair_bytes next ++ pair_bytes awaited) }
+pub fn put_places(own: &mut [u8], block: Block)
+    ensures { own.new ≡ sets own.old (block.place + to_next) (pair_bytes block.next ++ pair_bytes block.awaited) }
 {
-    put_pair(state, own, width, p + TO_NEXT, next);
-    put_pair(state, own, width, p + TO_AWAITED, awaited);
+    put_pair(own, block.place + TO_NEXT, block.next);
+    put_pair(own, block.place + TO_AWAITED, block.awaited);
 }
 
-// Stores the whole block of a selector whose first compound is the leftmost and has tests; `at` is the place of the selector in the state, which has room.
-pub fn put_marked(state: &mut [u8], at: usize, next: usize, awaited: usize, tests: usize)
-    requires { at + to_end ≤ length state.old }
-    ensures { state.new ≡ sets state.old (at + to_next) (block_bytes next awaited (with_tests ∷ pair_bytes tests)) }
+// Stores the whole block of a selector whose leftmost compound has tests, behind `STEPS` others which may not end here, in a part that has room for it.
+pub fn put_marked<const STEPS: usize>(own: &mut [u8], block: Block, tests: usize)
+    requires { block.place + to_end + STEPS ≤ length own.old }
+    ensures { own.new ≡ sets own.old (block.place + to_next) (block_bytes block.next block.awaited (replicate STEPS 0 ++ (with_tests ∷ pair_bytes tests))) }
 {
-    put_pair_there(state, at + TO_NEXT, next);
-    put_pair_there(state, at + TO_AWAITED, awaited);
-    put_mark_there(state, at + TO_FLAGS, tests);
+    let flags = block.place + TO_FLAGS;
+    put_pair_there(own, block.place + TO_NEXT, block.next);
+    put_pair_there(own, block.place + TO_AWAITED, block.awaited);
+    put_zeros(own, flags, STEPS);
+    put_mark_there(own, flags + STEPS, tests);
 }
 
-// Stores the block of a selector of which the segment before the one at `awaited` is awaited next.
-pub fn put_awaits(
-    compiled: &[u8],
-    state: &mut [u8],
-    own: usize,
-    width: usize,
-    p: usize,
-    next: usize,
-    awaited: usize,
-    count: u32,
-    first: usize,
-)
-    requires width_in_bounds { own + width ≤ length state.old }
-    requires p_le_compiled_limit { p ≤ compiled_limit }
-    ensures { state.new ≡ block_stored state.old own width (awaits (segment_before compiled.now awaited count (beginning first) first)) next p }
+// Stores the block of a selector of which the segment before the one of `block` is awaited next; `count` components stand in the bytes from `first` on.
+pub fn put_awaits(compiled: &[u8], own: &mut [u8], block: Block, count: u32, first: usize)
+    ensures { own.new ≡ block_set (awaits (segment_before compiled.now block.awaited count (beginning first) first)) block.next block.place own.old }
 {
+    let Block {
+        place,
+        next,
+        awaited,
+    } = block;
     let s = segment_before(compiled, awaited, count, first);
-    put_places(state, own, width, p, next, s.start);
-    put_fresh(state, own, width, p + TO_FLAGS, s.start, s.steps, s.tests);
+    put_places(
+        own,
+        Block {
+            place,
+            next,
+            awaited: s.start,
+        },
+    );
+    put_fresh(own, place + TO_FLAGS, s.start, s.steps, s.tests);
 }
 
 // Stores the block of a selector whose segment is awaited as before; `one` is its first compound.
-fn put_stays(
-    compiled: &[u8],
-    state: &mut [u8],
-    parts: Parts,
-    p: usize,
-    next: usize,
-    awaited: usize,
-    one: Swept,
-    element: Option<Handed<'_>>,
-)
-    requires visit_lent { VisitLent compiled.now state.old parts p element }
-    requires compiled_nonzero { 0 < length compiled.now }
-    ensures { state.new ≡ part_sets state.old parts.own parts.width (p + to_next) (block_bytes next awaited
-        (behind_first compiled.now (row_alone element.entry) (part state.old parts.above parts.width) p one)) }
+fn put_stays(row: &Row<'_>, own: &mut [u8], block: Block, one: Swept)
+    ensures { own.new ≡ sets own.old (block.place + to_next) (block_bytes block.next block.awaited (flags_behind row.now block one)) }
 {
-    put_places(state, parts.own, parts.width, p, next, awaited);
+    put_places(own, block);
+    let at = block.place + TO_FLAGS;
     if one.marked {
-        put_mark(state, parts.own, parts.width, p + TO_FLAGS, one.tests);
+        put_mark(own, at, one.tests);
         return;
     }
+    let limit = row.compiled.len().saturating_sub(1);
     sweep_rest(
-        compiled,
-        state,
-        parts,
-        p + TO_FLAGS,
+        row.compiled,
+        row.above,
+        own,
+        at,
         one.place,
-        compiled.len() - 1,
-        element,
+        limit,
+        row.element,
     );
 }
 
-// The segment that is awaited behind the row, by whether the one at `awaited` ends there: the last one matches and stays, behind another the one before it is awaited.
-fn next_awaited(compiled: &[u8], p: usize, awaited: usize, ends: bool) -> Awaited
-    ensures { result ≡ next_awaited compiled.now p awaited ends }
+// The segment that is awaited behind the row, by whether the one of `block` ends there: the last one matches and stays, behind another the one before it is awaited.
+fn next_awaited(compiled: &[u8], block: Block, ends: bool) -> Awaited
+    ensures { result ≡ next_awaited compiled.now block.place block.awaited ends }
 {
     if !ends {
         return Awaited::Same(false);
     }
-    let Ok(head) = read_head(compiled, p, AGENT_ORIGIN) else {
+    let Ok(head) = read_head(compiled, block.place, AGENT_ORIGIN) else {
         return Awaited::Same(false);
     };
-    if awaited == head.next {
+    if block.awaited == head.next {
         Awaited::Same(true)
     } else {
         Awaited::Before(head.value.count, head.next)
     }
 }
 
-// A selector by its first compound `one`: whether it matches; its block goes to the own part.
-fn visit_swept(
-    compiled: &[u8],
-    state: &mut [u8],
-    parts: Parts,
-    p: usize,
-    next: usize,
-    awaited: usize,
-    one: Swept,
-    element: Option<Handed<'_>>,
-) -> bool
-    requires visit_lent { VisitLent compiled.now state.old parts p element }
-    requires compiled_nonzero { 0 < length compiled.now }
-    ensures value { result ≡ (swept_visit compiled.now (row_alone element.entry) (part state.old parts.above parts.width) p awaited one).matched }
-    ensures state_after { state.new ≡ block_stored state.old parts.own parts.width
-        (swept_visit compiled.now (row_alone element.entry) (part state.old parts.above parts.width) p awaited one) next p }
+// A selector by its first compound `one`: whether it matches; its block goes to the own part. That is written while row and block are read, and each selector
+// of a row has another block, so the three are no struct.
+fn visit_swept(row: &Row<'_>, own: &mut [u8], block: Block, one: Swept) -> bool
+    ensures value { result ≡ (visited_by row.now block one).matched }
+    ensures own_after { own.new ≡ block_set (visited_by row.now block one) block.next block.place own.old }
 {
-    match next_awaited(compiled, p, awaited, one.ends) {
+    match next_awaited(row.compiled, block, one.ends) {
         Awaited::Same(matched) => {
-            put_stays(compiled, state, parts, p, next, awaited, one, element);
+            put_stays(row, own, block, one);
             matched
         }
         Awaited::Before(count, first) => {
-            put_awaits(
-                compiled,
-                state,
-                parts.own,
-                parts.width,
-                p,
-                next,
-                awaited,
-                count,
-                first,
-            );
+            put_awaits(row.compiled, own, block, count, first);
             false
         }
     }
 }
 
-// A selector whose first compound is the leftmost and has tests, in a part that holds its whole block: most often they do not pass, and the block stays as it is.
-fn visit_marked(
-    compiled: &[u8],
-    state: &mut [u8],
-    parts: Parts,
-    p: usize,
-    next: usize,
-    awaited: usize,
-    tests: usize,
-    element: Option<Handed<'_>>,
-) -> bool
-    requires visit_lent { VisitLent compiled.now state.old parts p element }
-    requires compiled_nonzero { 0 < length compiled.now }
-    requires to_end_bound { p + to_end ≤ parts.width }
-    ensures value { result ≡ (swept_visit compiled.now (row_alone element.entry) (part state.old parts.above parts.width) p awaited
-        (swept_mark compiled.now (row_alone element.entry) tests awaited)).matched }
-    ensures state_after { state.new ≡ block_stored state.old parts.own parts.width
-        (swept_visit compiled.now (row_alone element.entry) (part state.old parts.above parts.width) p awaited
-        (swept_mark compiled.now (row_alone element.entry) tests awaited)) next p }
+// A selector whose first compound is the leftmost and has tests, where the own part has room for its whole block: most often they do not pass, and the block stays as it is.
+fn visit_marked(row: &Row<'_>, own: &mut [u8], block: Block, tests: usize) -> bool
+    requires { block.place + to_end ≤ length own.old }
+    ensures value { result ≡ (visited_by_mark row.now block tests).matched }
+    ensures own_after { own.new ≡ block_set (visited_by_mark row.now block tests) block.next block.place own.old }
 {
-    let ends = tests_pass(compiled, awaited, tests, element);
+    let ends = tests_pass(row.compiled, block.awaited, tests, row.element);
+    // (No condition joined by `&&`: on either way the block is stored first.)
     if ends {
         let one = Swept {
             marked: true,
             ends,
             tests,
-            place: awaited,
+            place: block.awaited,
         };
-        return visit_swept(compiled, state, parts, p, next, awaited, one, element);
+        return visit_swept(row, own, block, one);
     }
-    put_marked(state, parts.own + p, next, awaited, tests);
+    put_marked::<0>(own, block, tests);
     false
 }
 
 // The selector at `p`, at a row, by whatever its block is: also one that the part does not hold whole.
-fn visit_any(
-    compiled: &[u8],
-    state: &mut [u8],
-    parts: Parts,
-    p: usize,
-    element: Option<Handed<'_>>,
-) -> VisitAnswer
-    requires { VisitLent compiled.now state.old parts p element }
-    ensures matched_value { result.matched ≡ (visit_at compiled.now (row_alone element.entry) (part state.old parts.above parts.width) p).matched }
-    ensures state_after { state.new ≡ block_stored state.old parts.own parts.width
-        (visit_at compiled.now (row_alone element.entry) (part state.old parts.above parts.width) p)
-        (pair_at (part state.old parts.above parts.width) (p + to_next)) p }
-    ensures next_value { result.next ≡ pair_at (part state.old parts.above parts.width) (p + to_next) }
+fn visit_any(row: &Row<'_>, own: &mut [u8], p: usize) -> VisitAnswer
+    requires { p ≤ compiled_limit }
+    ensures matched_value { result.matched ≡ (visited row.now p).matched }
+    ensures own_after { own.new ≡ block_set (visited row.now p) (next_from row.now p) p own.old }
+    ensures next_value { result.next ≡ next_from row.now p }
     ensures next_lt_pair_limit { result.next < pair_limit }
 {
-    let flags = part_of(state, parts.above, parts.width);
-    let next = pair_at(flags, p + TO_NEXT);
-    let awaited = pair_at(flags, p + TO_AWAITED);
-    if compiled.len() > 0 {
-        let one = sweep_one(compiled, flags, p + TO_FLAGS, awaited, element);
-        let matched = visit_swept(compiled, state, parts, p, next, awaited, one, element);
+    let next = pair_at(row.above, p + TO_NEXT);
+    let awaited = pair_at(row.above, p + TO_AWAITED);
+    let block = Block {
+        place: p,
+        next,
+        awaited,
+    };
+    if row.compiled.len() > 0 {
+        let one = sweep_one(row.compiled, row.above, p + TO_FLAGS, awaited, row.element);
+        let matched = visit_swept(row, own, block, one);
         return VisitAnswer { matched, next };
     }
-    put_places(state, parts.own, parts.width, p, next, awaited);
+    put_places(own, block);
     VisitAnswer {
         matched: false,
         next,
@@ -242,28 +192,26 @@ fn visit_any(
 }
 
 // The selector at `p`, at a row: whether it matches; its block goes to the own part, by that of the parent's part. The end of the part is tested once for a block with a mark.
-pub fn visit(
-    compiled: &[u8],
-    state: &mut [u8],
-    parts: Parts,
-    p: usize,
-    element: Option<Handed<'_>>,
-) -> VisitAnswer
-    requires { VisitLent compiled.now state.old parts p element }
-    ensures matched_value { result.matched ≡ (visit_at compiled.now (row_alone element.entry) (part state.old parts.above parts.width) p).matched }
-    ensures state_after { state.new ≡ block_stored state.old parts.own parts.width
-        (visit_at compiled.now (row_alone element.entry) (part state.old parts.above parts.width) p)
-        (pair_at (part state.old parts.above parts.width) (p + to_next)) p }
-    ensures next_value { result.next ≡ pair_at (part state.old parts.above parts.width) (p + to_next) }
+pub fn visit(row: &Row<'_>, own: &mut [u8], p: usize) -> VisitAnswer
+    requires room { length row.now.above.now ≤ length own.old }
+    requires near { p ≤ compiled_limit }
+    ensures matched_value { result.matched ≡ (visited row.now p).matched }
+    ensures own_after { own.new ≡ block_set (visited row.now p) (next_from row.now p) p own.old }
+    ensures next_value { result.next ≡ next_from row.now p }
     ensures next_lt_pair_limit { result.next < pair_limit }
 {
-    let flags = part_of(state, parts.above, parts.width);
-    if compiled.len() > 0 && p + TO_END <= flags.len() && flags[p + TO_FLAGS] == WITH_TESTS {
-        let next = pair_there(flags, p + TO_NEXT);
-        let awaited = pair_there(flags, p + TO_AWAITED);
-        let tests = pair_there(flags, p + TO_TESTS);
-        let matched = visit_marked(compiled, state, parts, p, next, awaited, tests, element);
+    let above = row.above;
+    if row.compiled.len() > 0 && p + TO_END <= above.len() && above[p + TO_FLAGS] == WITH_TESTS {
+        let next = pair_there(above, p + TO_NEXT);
+        let awaited = pair_there(above, p + TO_AWAITED);
+        let tests = pair_there(above, p + TO_TESTS);
+        let block = Block {
+            place: p,
+            next,
+            awaited,
+        };
+        let matched = visit_marked(row, own, block, tests);
         return VisitAnswer { matched, next };
     }
-    visit_any(compiled, state, parts, p, element)
+    visit_any(row, own, p)
 }

@@ -1,9 +1,11 @@
 -- What `compile` leaves, with its answer in numbers; however a call ends, no more bytes are counted than the buffer has.
+use Rattle.styles.specs.Lent.{sheets_in}
+use Rattle.agreement.specs.Calls.{compile_lent}
 use Rattle.agreement.proofs.Returning as laws
-use borrow.Author.Rules.{rules}
 use Rattle.agreement.proofs.three_calls.compile_sheets.Goals as goal
 
-pub returns : goal.returns
-returns c = let t : goal.returns-raw c = let a = c.args in
-    laws.compiled-within (record { agent = a.sheets.agent.now; user = a.sheets.user.now; author = a.sheets.author.now })
-    (record { compiled = a.compiled.now; texts = a.texts.now; rules = a.rules.now; tokens = a.tokens.now; brackets = a.brackets.now }) c.compile.ensures c.numbers_of.ensures in record { brackets_after = t.0; bytes_in_bounds = t.1 }
+pub returns-clause-left : goal.returns-clause-left
+returns-clause-left c = (laws.compiled-within (sheets_in c.args.sheets) (compile_lent c.args.compiled.now c.args.stores.now) c.compile.ensures.buffers_after c.numbers_of.ensures).0
+
+pub returns-clause-bytes_in_bounds : goal.returns-clause-bytes_in_bounds
+returns-clause-bytes_in_bounds c = (laws.compiled-within (sheets_in c.args.sheets) (compile_lent c.args.compiled.now c.args.stores.now) c.compile.ensures.buffers_after c.numbers_of.ensures).1

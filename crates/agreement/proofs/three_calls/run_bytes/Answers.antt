@@ -3,8 +3,5 @@ use mathlib.Core.Path.{sym}
 use lib.Seq.{length-take-le}
 use Rattle.agreement.proofs.three_calls.run_bytes.Goals as goal
 
-pub slice_bounds-run-end : goal.slice_bounds-run-end
-slice_bounds-run-end c = sym (length-take-le _ _ c.requires)
-
-pub returns : goal.returns
-returns c = c.run.ensures
+pub slice_bounds-input-end : goal.slice_bounds-input-end
+slice_bounds-input-end c = sym (length-take-le _ _ c.requires)

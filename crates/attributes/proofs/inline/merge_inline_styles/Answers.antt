@@ -1,6 +1,6 @@
 -- Each turn merges the first row that is left; when none is left, all are merged.
 use Rattle.cascade.specs.Specificity.{inline_specificity}
-use Rattle.attributes.proofs.InlineLaws.{merging-begin, row-shiftable, merging-next, merging-end}
+use Rattle.attributes.proofs.InlineLaws.{row-shiftable, merging-next, merging-end}
 use Rattle.attributes.proofs.inline.merge_inline_styles.Goals as goal
 
 pub inline_style-style-requires : goal.inline_style-style-requires

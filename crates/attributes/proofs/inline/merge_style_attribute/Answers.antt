@@ -4,10 +4,21 @@ use native.Mathlib.Omega.{arith}
 use Rattle.attributes.proofs.inline.merge_style_attribute.Goals as goal
 
 pub merge_inline_styles-requires : goal.merge_inline_styles-requires
-merge_inline_styles-requires c = record { row_room = c.requires.row_room; inline_rows = laws.style-rows _ _ c.args.value.now _ _ _ _ c.requires.value_room c.parse_style_attribute-read.ensures }
+merge_inline_styles-requires c = laws.style-rows _ _ c.args.value.now _ _ _ _ c.requires c.parse_style_attribute-read.ensures.stores_after
 
 pub overflow_add-result : goal.overflow_add-result
-overflow_add-result c = omega (arith, laws.fill-fits _ _ c.args.value.now _ _ _ _ c.requires.value_room c.parse_style_attribute-read.ensures)
+overflow_add-result c = omega (arith, laws.fill-fits _ _ c.args.value.now _ _ _ _ c.requires c.parse_style_attribute-read.ensures.stores_after)
 
-pub returns : goal.returns
-returns c = record { out_after = laws.style-merged _ _ c.args.value.now _ _ _ _ c.requires.value_room c.parse_style_attribute-read.ensures _ _ _ c.merge_inline_styles.ensures; value = laws.fill-behind _ _ c.args.value.now _ _ _ _ c.requires.value_room c.parse_style_attribute-read.ensures; texts_after = laws.contents-lie _ _ c.args.value.now _ _ _ _ c.requires.value_room c.parse_style_attribute-read.ensures }
+pub returns-clause-out_after : goal.returns-clause-out_after
+returns-clause-out_after c = laws.style-merged _ _ c.args.value.now _ _ _ _ c.requires c.parse_style_attribute-read.ensures.stores_after _ _ _ c.merge_inline_styles.ensures
+
+pub returns-clause-value : goal.returns-clause-value
+returns-clause-value c = laws.fill-behind _ _ c.args.value.now _ _ _ _ c.requires c.parse_style_attribute-read.ensures.stores_after
+
+pub returns-clause-texts_after : goal.returns-clause-texts_after
+returns-clause-texts_after c = laws.contents-lie _ _ c.args.value.now _ _ _ _ c.requires c.parse_style_attribute-read.ensures.stores_after
+
+pub returns-clause-lengths : goal.returns-clause-lengths
+returns-clause-lengths c =
+    let e = laws.style-long c.args.value.now _ _ _ _ _ c.parse_style_attribute-read.ensures.stores_after in
+    record { rules = e.0; tokens = e.1; brackets = e.2; texts = e.3 }

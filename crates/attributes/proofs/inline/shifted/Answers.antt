@@ -1,6 +1,5 @@
 -- A content's start is counted from `base` on, any other value stays.
 use Rattle.attributes.proofs.InlineLaws.{shifted-content, shifted-other}
-use native.Mathlib.Omega.{arith}
 use Rattle.attributes.proofs.inline.shifted.Goals as goal
 
 pub returns-then-style-eq-CONTENT_SLOT : goal.returns-then-style-eq-CONTENT_SLOT

@@ -1,20 +1,27 @@
 -- The name decides what the attribute says behind the author's rules: its styles, in the crate's cascade also its colour, or nothing.
 use Rattle.attributes.proofs.AttributeLaws as laws
 use Rattle.cascade.specs.Specificity.{inline_specificity}
+use Rattle.styles.proofs.KeptStores.{stores-stay, lengths-stay}
 use Rattle.attributes.proofs.merging.merge_late.Goals as goal
 
 pub merge_style_attribute-requires : goal.merge_style_attribute-requires
-merge_style_attribute-requires c = record { row_room = c.requires.row_room; value_room = laws.style-room _ _ _ _ _ _ _ _ c.attribute_value-value.ensures c.requires.value_room }
+merge_style_attribute-requires c = laws.style-room _ _ _ _ _ _ _ _ c.attribute_value-value.ensures c.requires
 
 pub returns-then-same_text : goal.returns-then-same_text
-returns-then-same_text c = let t : goal.returns-then-same_text-raw c = laws.late-style _ _ _ _ _ c.attribute_name-name.ensures c.attribute_value-value.ensures _ c.same_text.ensures _ _ _ _ _ c.if-same_text.true _ _ _ c.merge_style_attribute.ensures.out_after c.merge_style_attribute.ensures.value c.merge_style_attribute.ensures.texts_after in record { out_after = t.0; value = t.1.0; texts_after = t.1.1 }
+returns-then-same_text c =
+    let t = laws.late-style _ _ _ _ _ c.attribute_name-name.ensures c.attribute_value-value.ensures _ c.same_text.ensures c.args.cascade c.args.base c.args.fill c.args.out.now c.args.stores.now.texts.now c.if-same_text.true _ _ _ c.merge_style_attribute.ensures.out_after c.merge_style_attribute.ensures.value c.merge_style_attribute.ensures.texts_after in
+    record { out_after = t.0; value = t.1.0; texts_after = t.1.1; lengths = c.merge_style_attribute.ensures.lengths; same = c.merge_style_attribute.ensures.same }
 
 pub merge_colour_attribute-requires : goal.merge_colour_attribute-requires
-merge_colour_attribute-requires c = record { row_room = c.requires.row_room; room = laws.colour-room _ _ _ _ _ _ _ _ c.attribute_value-value.ensures c.requires.value_room }
+merge_colour_attribute-requires c = laws.colour-room _ _ _ _ _ _ _ _ c.attribute_value-value.ensures c.requires
 
 pub returns-in-Crate : goal.returns-in-Crate
 unfolding inline_specificity
-returns-in-Crate c = let t : goal.returns-in-Crate-raw c = laws.late-colour _ _ _ _ _ c.attribute_name-name.ensures c.attribute_value-value.ensures _ c.same_text.ensures _ _ _ _ _ c.if-same_text.false c.in-Crate.is _ _ c.merge_colour_attribute.ensures.out_after c.merge_colour_attribute.ensures.texts_unchanged in record { out_after = t.0; value = t.1.0; texts_after = t.1.1 }
+returns-in-Crate c =
+    let t = laws.late-colour _ _ _ _ _ c.attribute_name-name.ensures c.attribute_value-value.ensures _ c.same_text.ensures c.args.cascade c.args.base c.args.fill c.args.out.now c.args.stores.now.texts.now c.if-same_text.false c.in-Crate.is _ _ c.merge_colour_attribute.ensures.out_after c.merge_colour_attribute.ensures.texts_unchanged in
+    record { out_after = t.0; value = t.1.0; texts_after = t.1.1; lengths = c.merge_colour_attribute.ensures.lengths; same = c.merge_colour_attribute.ensures.same }
 
 pub returns-in-Book : goal.returns-in-Book
-returns-in-Book c = let t : goal.returns-in-Book-raw c = laws.late-nothing _ _ _ _ _ c.attribute_name-name.ensures c.attribute_value-value.ensures _ c.same_text.ensures _ _ _ _ _ c.if-same_text.false c.in-Book.is in record { out_after = t.0; value = t.1.0; texts_after = t.1.1 }
+returns-in-Book c =
+    let t = laws.late-nothing _ _ _ _ _ c.attribute_name-name.ensures c.attribute_value-value.ensures _ c.same_text.ensures c.args.cascade c.args.base c.args.fill c.args.out.now c.args.stores.now.texts.now c.if-same_text.false c.in-Book.is in
+    record { out_after = t.0; value = t.1.0; texts_after = t.1.1; lengths = lengths-stay _; same = stores-stay _ }

@@ -11,7 +11,7 @@ pub returns-then-components-count : goal.returns-then-components-count
 returns-then-components-count c = c.refused-then-components-count.ensures ∙ results.too_few c.args.components.now c.args.count c.args.texts.now c.args.nodes.now c.args.attributes.now c.args.text.now c.args.row c.if-count-gt-COMPONENT_LIMIT.false c.if-components-count.true
 
 pub match_row-requires : goal.match_row-requires
-match_row-requires c = record { count_le_component_limit = c.if-count-gt-COMPONENT_LIMIT.false; text_value = results.accepts c.args.components.now c.args.count c.args.texts.now c.args.nodes.now c.args.attributes.now c.args.text.now c.args.row c.if-count-gt-COMPONENT_LIMIT.false c.if-components-count.false (pages.page-passed c.in-Ok.is c.check_page.ensures) refl }
+match_row-requires c = record { left_le_component_limit = c.if-count-gt-COMPONENT_LIMIT.false; accepted = results.accepts c.args.components.now c.args.count c.args.texts.now c.args.nodes.now c.args.attributes.now c.args.text.now c.args.row c.if-count-gt-COMPONENT_LIMIT.false c.if-components-count.false (pages.page-passed c.in-Ok.is c.check_page.ensures) refl }
 
 pub returns-in-Ok : goal.returns-in-Ok
 returns-in-Ok c = results.on-page c.args.components.now c.args.count c.args.texts.now c.args.nodes.now c.args.attributes.now c.args.text.now c.args.row c.if-count-gt-COMPONENT_LIMIT.false c.if-components-count.false (pages.page-passed c.in-Ok.is c.check_page.ensures) refl c.match_row.ensures

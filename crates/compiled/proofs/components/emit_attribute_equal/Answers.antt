@@ -2,5 +2,5 @@
 use Rattle.compiled.proofs.Written as laws
 use Rattle.compiled.proofs.components.emit_attribute_equal.Goals as goal
 
-pub returns : goal.returns
-returns c = laws.three _ _ _ _ _ _ _ c.emit_number-behind_kind.ensures c.emit_text_part-behind_name.ensures c.emit_text_part.ensures
+pub returns-clause-written : goal.returns-clause-written
+returns-clause-written c = laws.three _ _ _ _ _ _ _ c.emit_number.ensures.written c.emit_text_part.ensures.written c.emit_text_part-2.ensures.written

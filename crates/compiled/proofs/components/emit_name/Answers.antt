@@ -2,5 +2,5 @@
 use Rattle.combinators.proofs.Emitted.{then}
 use Rattle.compiled.proofs.components.emit_name.Goals as goal
 
-pub returns : goal.returns
-returns c = then _ _ _ _ _ c.emit_number-behind.ensures c.emit_text_part.ensures
+pub returns-clause-written : goal.returns-clause-written
+returns-clause-written c = then _ _ _ _ _ c.emit_number.ensures.written c.emit_text_part.ensures.written

@@ -2,5 +2,5 @@
 use Rattle.compiled.proofs.Written as laws
 use Rattle.compiled.proofs.components.emit_nth.Goals as goal
 
-pub returns : goal.returns
-returns c = laws.three _ _ _ _ _ _ _ c.emit_number-behind_kind.ensures c.emit_number-behind_a.ensures c.emit_number.ensures
+pub returns-clause-written : goal.returns-clause-written
+returns-clause-written c = laws.three _ _ _ _ _ _ _ c.emit_number.ensures.written c.emit_number-2.ensures.written c.emit_number-3.ensures.written

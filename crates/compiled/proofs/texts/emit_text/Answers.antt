@@ -2,5 +2,5 @@
 use Rattle.compiled.proofs.TextCode as laws
 use Rattle.compiled.proofs.texts.emit_text.Goals as goal
 
-pub returns : goal.returns
-returns c = laws.text-emitted _ _ _ _ c.emit_number-behind.ensures c.emit_part.ensures
+pub returns-clause-written : goal.returns-clause-written
+returns-clause-written c = laws.text-emitted _ _ _ _ c.emit_number.ensures.written c.emit_all.ensures.written

@@ -5,6 +5,3 @@ use Rattle.compiled.proofs.texts.emit_text_part.Goals as goal
 
 pub emit_text-requires : goal.emit_text-requires
 emit_text-requires c = laws.part-short _ _ _ _ c.part_of.ensures (search rules)
-
-pub returns : goal.returns
-returns c = laws.part-written _ _ _ _ _ _ c.part_of.ensures c.emit_text.ensures

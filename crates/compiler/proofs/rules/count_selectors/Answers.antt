@@ -1,14 +1,7 @@
 -- What is counted, with what is left from the place on, is the whole; there are few enough to be added.
 use native.Mathlib.Omega.{arith}
 use Rattle.compiler.proofs.RuleWriting as laws
-use borrow.Author.Rules.{rules}
 use Rattle.compiler.proofs.rules.count_selectors.Goals as goal
-
-pub loop-init : goal.loop-init
-loop-init c = laws.counting-all _ _ _
-
-pub overflow_add-total : goal.overflow_add-total
-overflow_add-total c = search (rules, laws.counting-fits _ _ _ _ _ _ c.loop.invariant (omega arith) _ c.count_rule.ensures c.requires)
 
 pub loop-preserved : goal.loop-preserved
 loop-preserved c = laws.counting-next _ _ _ _ _ _ c.loop.invariant (omega arith) _ c.count_rule.ensures c.skip_rule-place.result c.skip_rule-place.ensures

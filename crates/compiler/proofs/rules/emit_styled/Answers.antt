@@ -2,11 +2,11 @@
 use Rattle.compiler.proofs.RuleWriting as laws
 use Rattle.compiler.proofs.rules.emit_styled.Goals as goal
 
-pub returns-then-styles-eq0 : goal.returns-then-styles-eq0
-returns-then-styles-eq0 c = let a = c.args in
-    laws.styled-none a.rows.now a.at a.origin a.tokens.now a.styles a.texts.now c.if-styles-eq0.true _
+pub returns-then-given-eq0-clause-written : goal.returns-then-given-eq0-clause-written
+returns-then-given-eq0-clause-written c = let a = c.args in
+    laws.styled-none a.rows.numbers.now a.at a.given.origin a.given.styles.numbers.now a.given.count a.given.styles.texts.now a.rows.texts.now c.if-given-eq0.true _
 
-pub returns : goal.returns
-returns c = let a = c.args in
-    laws.styled-all a.rows.now a.at a.origin a.tokens.now a.styles a.texts.now c.if-styles-eq0.false _ c.number_at-selectors.ensures c.forward-first.result
-    c.forward-first.ensures.rows_value _ _ c.emit_selectors.ensures
+pub returns-clause-written : goal.returns-clause-written
+returns-clause-written c = let a = c.args in
+    laws.styled-all a.rows.numbers.now a.at a.given.origin a.given.styles.numbers.now a.given.count a.given.styles.texts.now a.rows.texts.now c.if-given-eq0.false _ c.number_at-selectors.ensures c.forward-first.result
+    c.forward-first.ensures.rows_value _ _ c.emit_selectors.ensures.written

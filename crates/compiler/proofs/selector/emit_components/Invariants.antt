@@ -1,7 +1,8 @@
 -- The components that are left are written from the last on, which is the order of the bytes.
 use Prim.Native.Nat.{◌-◌}
+use Rattle.combinators.specs.Writer.{written, SameStore}
 use Rattle.compiler.proofs.SelectorWriting as laws
 use Rattle.compiler.proofs.selector.emit_components.Given as goal
 
 abbrev pub invariant-loop-i : goal.invariant-loop-i
-invariant-loop-i l = laws.Returning l.rows l.at l.count l.texts l.initial.store l.fill (l.count - l.i) l.store l.f
+invariant-loop-i l = record { kept : SameStore l.initial.writer l.writer; work : laws.Returning l.rows.numbers.now l.at l.count l.rows.texts.now (written l.initial.writer) (l.count - l.i) (written l.writer) }

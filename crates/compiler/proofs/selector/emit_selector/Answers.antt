@@ -2,7 +2,7 @@
 use Rattle.compiler.proofs.SelectorWriting as laws
 use Rattle.compiler.proofs.selector.emit_selector.Goals as goal
 
-pub returns : goal.returns
-returns c = let a = c.args in
-    laws.selector-written a.rows.now a.at _ _ _ c.emit_selector_head-behind_head.ensures _ c.forward-first.result c.number_at-components.ensures c.forward-first.ensures.rows_value _ _ _ c.emit_components-behind_components.ensures _
-    c.emit_styles.ensures
+pub returns-clause-written : goal.returns-clause-written
+returns-clause-written c = let a = c.args in
+    laws.selector-written a.rows.numbers.now a.at _ _ _ c.emit_selector_head.ensures.written _ c.forward-first.result c.number_at-components.ensures c.forward-first.ensures.rows_value _ _ _ c.emit_components.ensures.written _
+    c.emit_styles.ensures.written

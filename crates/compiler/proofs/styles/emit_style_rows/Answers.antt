@@ -1,22 +1,21 @@
 -- What is left to write from the place on is the rest of the whole; once the fill is past the store nothing more changes.
-use native.Mathlib.Omega.{arith}
+use Rattle.std.proofs.Common.{arith, ◌∙◌}
 use Rattle.compiler.proofs.StyleWriting.{behind-style}
 use Rattle.compiler.proofs.EmittingLaws as laws
 use Rattle.syntax.specs.Layout.{styles_at}
 use Rattle.compiler.proofs.styles.emit_style_rows.Goals as goal
 
-pub loop-init : goal.loop-init
-loop-init c = laws.emitting-all _ _ _ _ _ _ _
-
-pub returns-then-is_past : goal.returns-then-is_past
+pub returns-then-is_past-clause-written : goal.returns-then-is_past-clause-written
 unfolding styles_at
-returns-then-is_past c = laws.emitting-past _ _ _ _ _ _ _ _ _ _ _ c.loop.invariant (laws.past-known _ _ c.is_past.ensures c.if-is_past.true)
+returns-then-is_past-clause-written c = laws.emitting-past _ _ _ _ _ _ _ _ _ c.loop.invariant.work (laws.past-known _ _ c.is_past.ensures c.if-is_past.true)
 
 pub loop-preserved : goal.loop-preserved
-loop-preserved c = let a = c.args in
-    laws.emitting-next _ _ _ _ _ _ _ _ _ _ _ c.loop.invariant (omega arith) _ _ c.emit_style_at-f.ensures c.emit_style_at-f.auto.store _
-    (behind-style a.rows.now c.loop.place _ c.forward-place.result c.forward-place.ensures.rows_value)
+loop-preserved c = record {
+  kept = c.emit_style_at.ensures.same_store ∙ c.loop.invariant.kept;
+  work = laws.emitting-next _ _ _ _ _ _ _ _ _ c.loop.invariant.work (omega arith) _ c.emit_style_at.ensures.written _
+      (behind-style c.args.rows.numbers.now c.loop.place _ c.forward-place.result c.forward-place.ensures.rows_value);
+}
 
-pub returns : goal.returns
+pub returns-clause-written : goal.returns-clause-written
 unfolding styles_at
-returns c = laws.emitting-done _ _ _ _ _ _ _ _ _ _ _ c.loop.invariant (omega arith)
+returns-clause-written c = laws.emitting-done _ _ _ _ _ _ _ _ _ c.loop.invariant.work (omega arith)

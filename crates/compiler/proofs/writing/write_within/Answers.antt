@@ -8,14 +8,5 @@ slice_bounds-write_sheets-end c = laws.room_fits c.args.compiled.now c.room_of-r
 pub slice_bounds-write_sheets-end-2 : goal.slice_bounds-write_sheets-end-2
 slice_bounds-write_sheets-end-2 c = laws.room-long _ c.room_of-room.ensures
 
-pub write_sheets-requires : goal.write_sheets-requires
-write_sheets-requires c = c.requires
-
-pub shape_of-tokens : goal.shape_of-tokens
-shape_of-tokens c = c.write_sheets.auto.tokens
-
-pub shape_of-compiled : goal.shape_of-compiled
-shape_of-compiled c = laws.same_length c.args.compiled.now c.room_of-room.ensures c.write_sheets.new.compiled c.write_sheets.auto.compiled
-
 pub returns : goal.returns
 returns c = let t : goal.returns-raw c = (c.write_sheets.ensures.tokens_unchanged, laws.within _ c.room_of-room.ensures _ _ _ c.write_sheets.ensures.result_after) in record { tokens_unchanged = t.0; value = t.1.0; compiled_after = t.1.1 }

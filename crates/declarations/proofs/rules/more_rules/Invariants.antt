@@ -5,7 +5,7 @@ use Rattle.declarations.proofs.RuleTurns as laws
 use Rattle.declarations.proofs.rules.more_rules.Given as goal
 
 abbrev pub invariant-loop-w : goal.invariant-loop-w
-invariant-loop-w l = laws.Reading l.names l.at l.s l.from l.initial.rules l.place l.initial.tokens l.initial.brackets l.initial.store l.fill l.rules l.tokens l.brackets l.store l.taken l.count l.text
+invariant-loop-w l = laws.Going l.names l.at l.s l.from l.initial.stores l.place l.fill l.stores l.taken l.count l.text
 
 abbrev pub decreases-loop-w : goal.decreases-loop-w
 decreases-loop-w l = length l.s - l.taken

@@ -4,17 +4,17 @@ use native.Mathlib.Omega.{arith}
 use Rattle.declarations.proofs.RuleTurns as laws
 use Rattle.declarations.proofs.rules.parse_rules.Goals as goal
 
-pub returns-in_default : goal.returns-in_default
-returns-in_default c = laws.all_none c.args.names c.args.at c.args.s.now c.args.rules.now c.args.place c.args.tokens.now c.args.brackets.now c.args.store.now c.args.fill c.requires c.parse_declaration.ensures c.in_default.is refl
+pub returns-in_default-clause-stores_after : goal.returns-in_default-clause-stores_after
+returns-in_default-clause-stores_after c = laws.all_none c.args.names c.args.at c.args.s.now c.args.stores.now.rules.now c.args.place c.args.stores.now.tokens.now c.args.stores.now.brackets.now c.args.stores.now.texts.now c.args.fill c.requires c.parse_declaration.ensures.stores_after c.in_default.is refl
 
 pub overflow_add-fill : goal.overflow_add-fill
-overflow_add-fill c = omega (arith, laws.behind-fits c.args.names c.args.at c.args.s.now c.args.rules.now c.args.place c.args.tokens.now c.args.brackets.now c.args.store.now c.args.fill c.requires c.parse_declaration.ensures c.in-Some.is)
+overflow_add-fill c = omega (arith, laws.behind-fits c.args.names c.args.at c.args.s.now c.args.stores.now.rules.now c.args.place c.args.stores.now.tokens.now c.args.stores.now.brackets.now c.args.stores.now.texts.now c.args.fill c.requires c.parse_declaration.ensures.stores_after c.in-Some.is)
 
 pub more_rules-more-requires : goal.more_rules-more-requires
-more_rules-more-requires c = laws.behind-room c.args.names c.args.at c.args.s.now c.args.rules.now c.args.place c.args.tokens.now c.args.brackets.now c.args.store.now c.args.fill c.requires c.parse_declaration.ensures c.in-Some.is c.parse_declaration.auto.rules c.parse_declaration.auto.tokens c.parse_declaration.auto.brackets c.parse_declaration.auto.store
+more_rules-more-requires c = laws.behind-room c.args.names c.args.at c.args.s.now c.args.stores.now.rules.now c.args.place c.args.stores.now.tokens.now c.args.stores.now.brackets.now c.args.stores.now.texts.now c.args.fill c.requires c.parse_declaration.ensures.stores_after c.in-Some.is
 
 pub overflow_add-result-2 : goal.overflow_add-result-2
-overflow_add-result-2 c = omega (arith, laws.text-fits c.args.names c.args.at c.args.s.now c.args.rules.now c.args.place c.args.tokens.now c.args.brackets.now c.args.store.now c.args.fill c.requires c.parse_declaration.ensures c.in-Some.is c.more_rules-more.ensures.store_after c.more_rules-more.ensures.more_read)
+overflow_add-result-2 c = omega (arith, laws.text-fits c.args.names c.args.at c.args.s.now c.args.stores.now.rules.now c.args.place c.args.stores.now.tokens.now c.args.stores.now.brackets.now c.args.stores.now.texts.now c.args.fill c.requires c.parse_declaration.ensures.stores_after c.in-Some.is c.more_rules-more.ensures.stores_after c.more_rules-more.ensures.more_read)
 
-pub returns : goal.returns
-returns c = laws.all_left c.args.names c.args.at c.args.s.now c.args.rules.now c.args.place c.args.tokens.now c.args.brackets.now c.args.store.now c.args.fill c.requires c.parse_declaration.ensures c.in-Some.is c.more_rules-more.ensures.store_after c.more_rules-more.ensures.more_read refl
+pub returns-clause-stores_after : goal.returns-clause-stores_after
+returns-clause-stores_after c = laws.all_left c.args.names c.args.at c.args.s.now c.args.stores.now.rules.now c.args.place c.args.stores.now.tokens.now c.args.stores.now.brackets.now c.args.stores.now.texts.now c.args.fill c.requires c.parse_declaration.ensures.stores_after c.in-Some.is c.more_rules-more.ensures.stores_after c.more_rules-more.ensures.more_read refl

@@ -8,5 +8,5 @@ keep_text-requires c = laws.put-keeping c.args.names c.args.important c.requires
 pub put_declaration-requires : goal.put_declaration-requires
 put_declaration-requires c = laws.put-narrow c.args.names c.args.important c.requires c.part_of.ensures c.decl_of-read.ensures c.named-decl.ensures
 
-pub returns : goal.returns
-returns c = rw c.text_length.ensures (laws.put-done c.args.names c.args.important c.requires c.part_of.ensures c.decl_of-read.ensures c.named-decl.ensures c.keep_text.ensures c.put_declaration.ensures)
+pub returns-clause-put : goal.returns-clause-put
+returns-clause-put c = rw c.text_length.ensures (laws.put-done c.args.names c.args.important c.requires c.part_of.ensures c.decl_of-read.ensures c.named-decl.ensures c.keep_text.ensures c.put_declaration.ensures)

@@ -1,6 +1,8 @@
--- Only where no test held is it told.
+-- Only where all tests held is it told.
+use native.Mathlib.Omega.{arith}
+use Rattle.std.proofs.lemmas.Bool.Decides.{nat_tests}
 use Rattle.hints.proofs.HintLaws as laws
 use Rattle.hints.proofs.hints.begins_none.Goals as goal
 
-pub returns : goal.returns
-returns c = λ _. laws.begins-none _ _ c.requires c.if-starts-eq-ANY_BYTE.false c.if-starts-byte.false c.if-starts-byte-2.false
+pub returns-then-starts-byte : goal.returns-then-starts-byte
+returns-then-starts-byte c = λ t. laws.begins-none _ _ c.requires (λ z. grind (arith, nat_tests)) (λ z. grind (arith, nat_tests)) (λ z. grind (arith, nat_tests))

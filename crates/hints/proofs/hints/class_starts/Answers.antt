@@ -2,9 +2,6 @@
 use Rattle.hints.proofs.StartLaws as laws
 use Rattle.hints.proofs.hints.class_starts.Goals as goal
 
-pub loop-row-init : goal.loop-row-init
-loop-row-init c = laws.gather-begin _ _ _ _ _
-
 pub loop-row-preserved : goal.loop-row-preserved
 loop-row-preserved c = laws.gather-more _ _ _ _ _ _ c.loop-row.invariant c.loop-row-test.true _ c.with_classes-starts.ensures.keeps c.with_classes-starts.ensures.by_index
 

@@ -4,4 +4,4 @@ use Rattle.hints.proofs.CodeSkipLaws as laws
 use Rattle.hints.proofs.skipping.skip_failing.Given as goal
 
 abbrev pub invariant-loop-done : goal.invariant-loop-done
-invariant-loop-done l = laws.Skipping l.compiled l.hint l.parts.above l.parts.own l.parts.width l.initial.state l.first l.count l.state l.p (l.count - l.done)
+invariant-loop-done l = laws.Skipping l.row.compiled.now l.hint l.row.above.now l.initial.own l.first l.count l.own l.p (l.count - l.done)

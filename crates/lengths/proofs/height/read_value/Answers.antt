@@ -2,5 +2,5 @@
 use Rattle.lengths.proofs.HeightLengthLaws as laws
 use Rattle.lengths.proofs.height.read_value.Goals as goal
 
-pub returns : goal.returns
-returns c = laws.value_read c.args.s.now c.args.rules.now c.args.tokens.now c.args.brackets.now c.args.texts.now _ c.length_of-answer.ensures.value c.clear_stores.ensures.rules_after c.clear_stores.ensures.tokens_after c.clear_stores.ensures.brackets_after c.clear_stores.ensures.texts_after c.length_of-answer.auto.texts
+pub returns-clause-stores_after : goal.returns-clause-stores_after
+returns-clause-stores_after c = laws.value_read c.args.s.now c.args.stores.now.rules.now c.args.stores.now.tokens.now c.args.stores.now.brackets.now c.args.stores.now.texts.now _ c.length_of-answer.ensures.value c.clear.ensures.rules_after c.clear.ensures.tokens_after c.clear.ensures.brackets_after c.clear.ensures.texts_after c.length_of-answer.auto.texts

@@ -1,16 +1,13 @@
 -- White space, and what is read behind it: none where nothing is.
-use Rattle.combinators.proofs.Repeating.{bounded}
+use Rattle.std.proofs.Common.{arith}
 use Rattle.lengths.specs.Number.{signed, number}
 use Rattle.lexer.proofs.Digits.{followed-none, followed-some}
-use Rattle.lengths.proofs.NumberLaws.{number-le}
 use Rattle.lengths.proofs.numbers.parse_number.Goals as goal
 
-pub returns-then-n-eq0 : goal.returns-then-n-eq0
+pub returns-in-0-clause-value : goal.returns-in-0-clause-value
 unfolding number
-returns-then-n-eq0 c = let t : goal.returns-then-n-eq0-raw c = bounded number number-le c.args.s.now _
-    (followed-none signed _ _ _ _ c.skip_optional_whitespace-w.ensures.value c.parse_signed-n.ensures.value c.if-n-eq0.true) in record { value = t.0; upper_bound = t.1 }
+returns-in-0-clause-value c = followed-none signed _ _ _ _ c.skip_optional_whitespace-w.ensures.value c.parse_signed.ensures.value c.in-0.is
 
-pub returns : goal.returns
+pub returns-in_default-clause-value : goal.returns-in_default-clause-value
 unfolding number
-returns c = let t : goal.returns-raw c = bounded number number-le c.args.s.now _
-    (followed-some signed _ _ _ _ c.skip_optional_whitespace-w.ensures.value c.parse_signed-n.ensures.value c.if-n-eq0.false) in record { value = t.0; upper_bound = t.1 }
+returns-in_default-clause-value c = followed-some signed _ _ _ _ c.skip_optional_whitespace-w.ensures.value c.parse_signed.ensures.value (λ z. omega arith)

@@ -1,11 +1,12 @@
 -- At each turn what is left to read and to write has the result of the whole (`Chars`); the text is at most two bytes longer than `s`, so its length fits.
 use Prim.Native.Nat.{◌-◌}
 use lib.ListN.{length}
+use Rattle.combinators.specs.Writer.{written, SameStore}
 use Rattle.lexer.proofs.CharacterRuns as laws
 use Rattle.lexer.proofs.names.emit_nmchars.Given as goal
 
 abbrev pub invariant-loop-i : goal.invariant-loop-i
-invariant-loop-i l = laws.Chars l.s l.initial.store l.fill l.store l.f l.i l.n
+invariant-loop-i l = record { same : SameStore l.initial.writer l.writer; work : laws.Chars l.s (written l.initial.writer) (written l.writer) l.i l.n }
 
 abbrev pub decreases-loop-i : goal.decreases-loop-i
 decreases-loop-i l = length l.s - l.i

@@ -2,11 +2,12 @@
 use Prim.Native.Nat.{◌-◌}
 use lib.ListN.{length}
 use Rattle.lexer.specs.Quoted.{quoted_taken, quoted_text}
+use Rattle.combinators.specs.Writer.{written, SameStore}
 use Rattle.lexer.proofs.Writing as writing
 use Rattle.lexer.proofs.strings.emit_string.Given as goal
 
 abbrev pub invariant-loop-i : goal.invariant-loop-i
-invariant-loop-i l = writing.Writing (quoted_taken l.quote) (quoted_text l.quote) l.s l.initial.store l.fill l.store l.f l.i l.n
+invariant-loop-i l = record { same : SameStore l.initial.writer l.writer; work : writing.Writing (quoted_taken l.quote) (quoted_text l.quote) l.s (written l.initial.writer) (written l.writer) l.i l.n }
 
 abbrev pub decreases-loop-i : goal.decreases-loop-i
 decreases-loop-i l = length l.s - l.i

@@ -3,14 +3,20 @@ use Rattle.matching.proofs.ClimbLaws as laws
 use native.Mathlib.Omega.{arith}
 use Rattle.matching.proofs.matcher.match_locally.Goals as goal
 
+pub loop-n-init : goal.loop-n-init
+loop-n-init c = laws.hand-begin _ _ _ _ _ _ _ c.args.element.rooted
+
+pub invariant_of-passes : goal.invariant_of-passes
+invariant_of-passes c = record { rooted = c.loop-n.invariant.rooted }
+
 pub returns-then-kind-eq-DESCENDANT : goal.returns-then-kind-eq-DESCENDANT
 returns-then-kind-eq-DESCENDANT c = laws.at-descendant _ _ _ _ _ _ _ _ _ c.loop-n.invariant c.loop-n-test.true _ c.kind_at-kind.ensures c.if-kind-eq-DESCENDANT.true
 
-pub returns-then-at-eq0 : goal.returns-then-at-eq0
-returns-then-at-eq0 c = laws.child-ends _ _ _ _ _ _ _ _ _ c.loop-n.invariant c.loop-n-test.true _ c.kind_at-kind.ensures c.if-kind-eq-CHILD.true c.if-at-eq0.true
+pub returns-then-row-eq0 : goal.returns-then-row-eq0
+returns-then-row-eq0 c = laws.child-ends _ _ _ _ _ _ _ _ _ c.loop-n.invariant c.loop-n-test.true _ c.kind_at-kind.ensures c.if-kind-eq-CHILD.true c.if-row-eq0.true
 
 pub loop-n-preserved-then-kind-eq-CHILD : goal.loop-n-preserved-then-kind-eq-CHILD
-loop-n-preserved-then-kind-eq-CHILD c = laws.hand-up _ _ _ _ _ _ _ _ _ c.loop-n.invariant c.loop-n-test.true _ c.kind_at-kind.ensures c.if-kind-eq-CHILD.true c.if-at-eq0.false _ c.parent_of-at.ensures.value
+loop-n-preserved-then-kind-eq-CHILD c = laws.hand-up _ _ _ _ _ _ _ _ _ c.loop-n.invariant c.loop-n-test.true _ c.kind_at-kind.ensures c.if-kind-eq-CHILD.true c.if-row-eq0.false _ c.parent_of-row.ensures.value
 
 pub loop-n-preserved : goal.loop-n-preserved
 loop-n-preserved c = laws.hand_on _ _ _ _ _ _ _ _ _ c.loop-n.invariant c.loop-n-test.true _ c.kind_at-kind.ensures c.if-kind-eq-CHILD.false c.if-kind-eq-DESCENDANT.false _ c.passes.ensures c.if-not-passes.false

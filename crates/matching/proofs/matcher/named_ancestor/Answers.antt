@@ -1,9 +1,29 @@
--- Rows of another name fail locally, so the first ancestor of the name is tried next, or the document, which has none.
+-- Ancestors of another name fail locally, so the first of the name is tried next; on the others nothing more is to come.
+use mathlib.Core.Path.{ap, ◌∙◌}
+use Rattle.combinators.specs.Word.{same_text}
+use Rattle.page.specs.Rows.{name_of}
 use Rattle.matching.proofs.ClimbLaws as laws
+use Rattle.matching.proofs.PathLaws.{parent-rooted, parent-before}
 use Rattle.matching.proofs.matcher.named_ancestor.Goals as goal
 
-pub loop-above-init : goal.loop-above-init
-loop-above-init c = laws.seek-begin _ _ _ _ _ _ c.requires.inner _ c.parent_of-above.ensures.value
+pub loop-row-init : goal.loop-row-init
+loop-row-init c = laws.seek-begin _ _ _ _ _ _ _ c.args.element.rooted
 
-pub loop-above-preserved : goal.loop-above-preserved
-loop-above-preserved c = laws.seek-on _ _ _ _ _ _ c.requires.name_at _ c.loop-above.invariant c.loop-above-test.true _ c.first_text-name.ensures _ c.is_called.ensures c.if-is_called.false _ c.parent_of-above-in-loop-above.ensures.value
+pub invariant_of-is_called : goal.invariant_of-is_called
+invariant_of-is_called c = record { rooted = parent-rooted _ _ c.loop-row.invariant.rooted c.loop-row-test.true _ c.parent_of-row.ensures.value }
+
+pub returns-then-is_called : goal.returns-then-is_called
+returns-then-is_called c = laws.seek-found _ _ _ _ _ _ _ _ c.loop-row.invariant c.loop-row-test.true _ c.parent_of-row.ensures.value
+
+pub loop-row-smaller : goal.loop-row-smaller
+loop-row-smaller c = parent-before _ _ c.loop-row.invariant.rooted c.loop-row-test.true _ c.parent_of-row.ensures.value
+
+pub loop-row-preserved : goal.loop-row-preserved
+loop-row-preserved c =
+    let r = parent-rooted _ _ c.loop-row.invariant.rooted c.loop-row-test.true _ c.parent_of-row.ensures.value in
+    laws.seek-on _ _ _ _ _ _ _ _ c.loop-row.invariant c.loop-row-test.true _ c.parent_of-row.ensures.value
+    (laws.other_name _ _ _ _ _ _ c.requires _ r
+    _ (c.is_called.ensures ∙ ap (same_text (name_of c.args.element.page.nodes.now c.args.element.page.text.now c.parent_of-row.result)) c.first_text-name.ensures) c.if-is_called.false)
+
+pub returns : goal.returns
+returns c = laws.seek-end _ _ _ _ _ _ _ _ c.loop-row.invariant c.loop-row-test.false

@@ -2,5 +2,5 @@
 use Rattle.matching.proofs.ClimbLaws as laws
 use Rattle.matching.proofs.matcher.next_ancestor.Goals as goal
 
-pub returns-else-n-gt0 : goal.returns-else-n-gt0
-returns-else-n-gt0 c = λ attributes. laws.next-parent _ _ _ attributes _ _ _ c.requires _ c.parent_of.ensures.value
+pub returns : goal.returns
+returns c = laws.next-parent _ _ _ _ _ _ _ c.args.element.rooted c.parent.result c.parent.ensures

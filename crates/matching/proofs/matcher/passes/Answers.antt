@@ -9,8 +9,8 @@ use Rattle.matching.proofs.matcher.passes.Goals as goal
 pub returns-then-kind-eq-STAR : goal.returns-then-kind-eq-STAR
 returns-then-kind-eq-STAR c = eq-eqb _ _ c.if-kind-eq-STAR.true ∙ search (rules, star-passes)
 
-pub returns-then-row-ne0 : goal.returns-then-row-ne0
-returns-then-row-ne0 c = search (rules, element-passes)
+pub returns-then-element-ne0 : goal.returns-then-element-ne0
+returns-then-element-ne0 c = search (rules, element-passes)
 
-pub returns-else-row-ne0 : goal.returns-else-row-ne0
-returns-else-row-ne0 c = ap not (eq-eqb _ _ c.if-row-ne0.false) ∙ search (rules, document-passes)
+pub returns-else-element-ne0 : goal.returns-else-element-ne0
+returns-else-element-ne0 c = ap not (eq-eqb _ _ c.if-element-ne0.false) ∙ search (rules, document-passes)

@@ -1,14 +1,22 @@
 -- The first row from which a descendant combinator is reached is the first from the row that is asked on.
 use Rattle.matching.proofs.NumberLaws as laws
-use mathlib.Core.List.{[]}
 use Rattle.matching.proofs.topmost.first_reaching.Goals as goal
 
-pub returns-in-Descendant : goal.returns-in-Descendant
-returns-in-Descendant c = laws.reach-found _ _ _ _ _ _ c.loop-at.invariant c.loop-at-test.true _ c.match_locally.ensures c.in-Descendant.is
+pub loop-row-init : goal.loop-row-init
+loop-row-init c = laws.reach-begin _ _ _ _ _ c.args.element.rooted
 
-pub loop-at-preserved : goal.loop-at-preserved
-loop-at-preserved c = laws.reach-on _ _ _ _ _ _ c.loop-at.invariant c.loop-at-test.true _ c.match_locally.ensures c.in-Ended.is _
-    (c.next_ancestor-at.ensures []).rooted (c.next_ancestor-at.ensures _).passed
+pub invariant_of-at : goal.invariant_of-at
+invariant_of-at c = record { rooted = c.loop-row.invariant.rooted }
+
+pub returns-in-Descendant : goal.returns-in-Descendant
+returns-in-Descendant c = (laws.reach-found _ _ _ _ _ _ c.loop-row.invariant _ c.match_locally.ensures c.in-Descendant.is, c.loop-row-test.true)
+
+pub returns-in_err-row : goal.returns-in_err-row
+returns-in_err-row c =
+    rw c.from_residual.ensures (laws.reach-none _ _ _ _ _ _ c.loop-row.invariant _ c.match_locally.ensures c.in_default.not-Descendant c.in_err-row.ensures.unreached)
+
+pub loop-row-preserved : goal.loop-row-preserved
+loop-row-preserved c = laws.reach-on _ _ _ _ _ _ c.loop-row.invariant _ c.match_locally.ensures c.in_default.not-Descendant _ c.in_ok-row.ensures.rooted c.in_ok-row.ensures.passed
 
 pub returns : goal.returns
-returns c = laws.reach-end _ _ _ _ _ _ c.loop-at.invariant c.loop-at-test.false
+returns c = laws.reach-end _ _ _ _ _ _ c.loop-row.invariant c.loop-row-test.false

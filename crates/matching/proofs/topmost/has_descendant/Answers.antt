@@ -11,6 +11,6 @@ use Rattle.matching.proofs.NumberLaws.{any-descendant}
 use Rattle.matching.proofs.topmost.has_descendant.Goals as goal
 
 pub returns : goal.returns
-returns c = λ store.
-    any_from_yields_List (λ i. eqb (component_number c.args.components.now i component_kind_at) descendant_kind) _ _ _ c.any.ensures.ran (YieldsList-from_range _ _ c.args.left refl (omega arith)) (λ x b q k. search rules)
+returns c =
+    any_from_yields_List (λ i. eqb (component_number c.args.selector.components.now i component_kind_at) descendant_kind) _ _ _ c.any.ensures.ran (YieldsList-from_range _ _ c.args.selector.left refl (omega arith)) (λ x b q k. search rules)
     ∙ any-descendant _ _ _

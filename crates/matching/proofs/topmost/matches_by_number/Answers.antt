@@ -4,5 +4,5 @@ use borrow.Author.Tests.{lt-leb}
 use Rattle.matching.proofs.NumberLaws as laws
 use Rattle.matching.proofs.topmost.matches_by_number.Goals as goal
 
-pub returns-else-top-row : goal.returns-else-top-row
-returns-else-top-row c = lt-leb _ _ c.if-top-row.false ∙ laws.numbered-none _ _ _ _ _ _ c.requires.right_number c.if-top-row.false
+pub returns-else-top-element : goal.returns-else-top-element
+returns-else-top-element c = lt-leb _ _ c.if-top-element.false ∙ laws.numbered-none _ _ _ _ _ _ c.requires c.if-top-element.false

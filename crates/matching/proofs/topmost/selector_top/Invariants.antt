@@ -2,5 +2,5 @@
 use Rattle.matching.proofs.BelowLaws as laws
 use Rattle.matching.proofs.topmost.selector_top.Given as goal
 
-abbrev pub invariant-loop-before : goal.invariant-loop-before
-invariant-loop-before l = laws.Topping l.store l.components l.nodes l.attributes l.text l.left l.row l.top l.before
+abbrev pub invariant-loop-left : goal.invariant-loop-left
+invariant-loop-left l = laws.Topping l.selector.store.now l.selector.components.now l.element.page.nodes.now l.element.page.attributes.now l.element.page.text.now l.selector.left l.element.row l.top l.left

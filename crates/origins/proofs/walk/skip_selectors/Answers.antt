@@ -1,12 +1,8 @@
 -- What is left from the place on is what lies behind the selectors that were passed.
-use mathlib.Core.Path.{refl}
 use native.Mathlib.Omega.{arith}
 use Rattle.syntax.specs.RuleLayout.{read_selector}
 use Rattle.origins.proofs.WalkLaws as laws
 use Rattle.origins.proofs.walk.skip_selectors.Goals as goal
-
-pub loop-init : goal.loop-init
-loop-init c = laws.passing-all read_selector c.args.rows.now c.args.count c.args.at
 
 pub loop-preserved : goal.loop-preserved
 loop-preserved c = let a = c.args in

@@ -3,4 +3,4 @@ use Rattle.page.proofs.RowLaws as laws
 use Rattle.page.proofs.rules.first_bad_row.Given as goal
 
 abbrev pub invariant-loop-row : goal.invariant-loop-row
-invariant-loop-row l = laws.Checking l.nodes l.attributes l.row-end l.row l.before.depth l.before.totals.first l.before.totals.start
+invariant-loop-row l = laws.Checking l.page.nodes.now l.page.attributes.now l.row-end l.row l.before.depth l.before.totals.first l.before.totals.start

@@ -9,5 +9,5 @@ use Rattle.page.proofs.texts.attribute_texts.Goals as goal
 
 pub returns : goal.returns
 returns c =
-    all_from_yields_List (attribute_text_right c.args.attributes.now c.args.text.now) _ _ _ c.all.ensures.ran (YieldsList-from_range _ _ _ refl (omega arith)) (λ x b q k. search rules)
+    all_from_yields_List (attribute_text_right c.args.page.attributes.now c.args.page.text.now) _ _ _ c.all.ensures.ran (YieldsList-from_range _ _ _ refl (omega arith)) (λ x b q k. search rules)
     ∙ laws.all-texts _ _ _ _

@@ -13,5 +13,5 @@ pub returns : goal.returns
 unfolding first_bad_text
 returns c =
     sym (option_map_id _)
-    ∙ find_from_yields_List (λ r. not (texts_right c.args.nodes.now c.args.attributes.now c.args.text.now r)) _ _ _ c.find.ensures.ran (YieldsList-from_range _ _ _ refl (omega (arith, c.node_count.ensures))) (λ x b q k. search rules)
+    ∙ find_from_yields_List (λ r. not (texts_right c.args.page.nodes.now c.args.page.attributes.now c.args.page.text.now r)) _ _ _ c.find.ensures.ran (YieldsList-from_range _ _ _ refl (omega (arith, c.node_count.ensures))) (λ x b q k. search rules)
     ∙ fault-found _ _ _

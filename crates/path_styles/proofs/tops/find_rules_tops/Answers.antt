@@ -8,7 +8,7 @@ pub loop-init : goal.loop-init
 loop-init c = laws.rules-begin _ _ _ _ _ _ _ _ _ _ c.requires.tops_room _ (omega arith)
 
 pub find_selectors_tops-requires : goal.find_selectors_tops-requires
-find_selectors_tops-requires c = record { rooted = c.requires.rooted; row_lt_number_bound = c.requires.row_lt_number_bound; tops_room = laws.rule-room _ _ _ _ _ _ _ _ _ _ _ _ _ _ c.loop.invariant (omega arith) _ c.number_at-selectors.ensures }
+find_selectors_tops-requires c = record { row_lt_number_bound = c.requires.row_lt_number_bound; tops_room = laws.rule-room _ _ _ _ _ _ _ _ _ _ _ _ _ _ c.loop.invariant (omega arith) _ c.number_at-selectors.ensures }
 
 pub overflow_add-to : goal.overflow_add-to
 overflow_add-to c = search (rules, (laws.rule-room _ _ _ _ _ _ _ _ _ _ _ _ _ _ c.loop.invariant (omega arith) _ c.number_at-selectors.ensures).room)

@@ -4,4 +4,4 @@ use Prim.Native.Nat.{◌-◌}
 use Rattle.path_styles.proofs.tops.find_selectors_tops.Given as goal
 
 abbrev pub invariant-loop : goal.invariant-loop
-invariant-loop l = laws.SelectorsStored l.page.nodes.now l.page.attributes.now l.page.text.now l.row l.texts l.rows l.selectors l.at l.initial.tokens l.place (l.selectors - l.counter) l.from l.to l.tokens
+invariant-loop l = laws.SelectorsStored l.element.page.nodes.now l.element.page.attributes.now l.element.page.text.now l.element.row l.texts l.rows l.selectors l.at l.initial.tokens l.place (l.selectors - l.counter) l.from l.to l.tokens

@@ -5,7 +5,7 @@ use Rattle.path_styles.proofs.tops.find_sheet_tops.Goals as goal
 
 pub find_rules_tops-requires : goal.find_rules_tops-requires
 unfolding sheet_selectors sheet_text
-find_rules_tops-requires c = record { rooted = c.requires.rooted; row_lt_number_bound = c.requires.row_lt_number_bound; tops_room = c.requires.tops_room }
+find_rules_tops-requires c = record { row_lt_number_bound = c.requires.row_lt_number_bound; tops_room = c.requires.tops_room }
 
 pub returns : goal.returns
 unfolding sheet_selectors sheet_text

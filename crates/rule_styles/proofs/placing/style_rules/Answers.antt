@@ -6,12 +6,12 @@ use Rattle.rule_styles.proofs.placing.style_rules.Goals as goal
 pub loop-init : goal.loop-init
 loop-init c = laws.styling-begin _ _ _ _ _ _ _ _ _ c.requires.rules_kept_room c.requires.contents_room _ (omega arith)
 
-pub style_rule-placed-requires : goal.style_rule-placed-requires
-style_rule-placed-requires c =
+pub style_rule-next-requires : goal.style_rule-next-requires
+style_rule-next-requires c =
     let t = laws.styling-room _ _ _ _ _ _ _ _ _ c.requires.rules_kept_room c.requires.contents_room _ _ _ _ _ _ c.loop.invariant (omega arith) in record { rule_kept_room = t.0; contents_room = t.1 }
 
 pub loop-preserved : goal.loop-preserved
-loop-preserved c = laws.styling-more _ _ _ _ _ _ _ _ _ c.requires.rules_kept_room c.requires.contents_room _ _ _ _ _ _ _ c.loop.invariant (omega arith) _ _ _ c.style_rule-placed.ensures.tokens_after c.style_rule-placed.ensures.texts_after c.style_rule-placed.ensures.value _ c.skip_rule-rows.ensures
+loop-preserved c = laws.styling-more _ _ _ _ _ _ _ _ _ c.requires.rules_kept_room c.requires.contents_room _ _ _ _ _ _ _ c.loop.invariant (omega arith) _ _ _ c.style_rule-next.ensures.tokens_after c.style_rule-next.ensures.texts_after c.style_rule-next.ensures.value _ c.skip_rule-rows.ensures
 
 pub shape_of-tokens : goal.shape_of-tokens
 shape_of-tokens c = c.loop.invariant.row-length

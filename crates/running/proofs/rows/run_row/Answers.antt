@@ -1,33 +1,30 @@
 -- The parent's row is copied to the place of the row, which the step then overwrites.
+use mathlib.Core.Path.{◌≡◌}
+use mathlib.Core.List.{◌++◌}
+use borrow.Author.Rules.{rules}
+use lib.ListN.{length, take, drop}
+use Rattle.cascade.specs.Row.{style_row_width}
 use Rattle.running.proofs.RowSteps as laws
 use Rattle.running.proofs.rows.run_row.Goals as goal
 
 pub place_parent-requires : goal.place_parent-requires
 place_parent-requires c = laws.place-room c.requires
 
-pub slice_bounds-step-end-2 : goal.slice_bounds-step-end-2
-slice_bounds-step-end-2 c = laws.attribute-rows-inside c.requires _ _ c.first_attribute-first.ensures.value c.attribute_count.ensures.value
+pub slice_bounds-handed-end-2 : goal.slice_bounds-handed-end-2
+slice_bounds-handed-end-2 c = laws.attribute-rows-inside c.requires _ _ c.first_attribute-first.ensures.value c.attribute_count.ensures.value
 
 pub step-requires : goal.step-requires
-step-requires c = laws.step-lent c.requires c.place_parent.ensures c.first_attribute-first.ensures.value c.attribute_count.ensures.value c.depth_of-depth.ensures
+step-requires c = laws.step-lent c.requires c.first_attribute-first.ensures.value c.attribute_count.ensures.value c.depth_of-depth.ensures
 
-pub shape_of-rows : goal.shape_of-rows
-shape_of-rows c = laws.row-long c.requires c.place_parent.ensures c.first_attribute-first.ensures.value c.attribute_count.ensures.value c.depth_of-depth.ensures c.args.settings _ _ _ _ c.step.auto.out c.step.ensures.texts_after c.step.ensures.upper_bound
+pub returns-clause-texts_after : goal.returns-clause-texts_after
+returns-clause-texts_after c =
+    let split = c.split_at_mut-own in
+    let lent : c.unwrap.result.now ≡ take style_row_width split.result.1.now = search rules in
+    let long : length (split.result.0.now ++ (c.step.new.out ++ drop style_row_width split.result.1.now)) ≡ length c.args.rows.now = search rules in
+    laws.row-run c.requires c.first_attribute-first.ensures.value c.attribute_count.ensures.value c.depth_of-depth.ensures c.place_parent.ensures split.ensures.front split.ensures.back lent c.args.input.settings _ _ _ _ c.step.ensures.texts_after c.step.ensures.upper_bound long
 
-pub shape_of-state : goal.shape_of-state
-shape_of-state c = c.step.auto.state
-
-pub shape_of-rules : goal.shape_of-rules
-shape_of-rules c = c.step.auto.rules
-
-pub shape_of-tokens : goal.shape_of-tokens
-shape_of-tokens c = c.step.auto.tokens
-
-pub shape_of-brackets : goal.shape_of-brackets
-shape_of-brackets c = c.step.auto.brackets
-
-pub shape_of-texts : goal.shape_of-texts
-shape_of-texts c = c.step.auto.texts
-
-pub returns : goal.returns
-returns c = record { texts_after = laws.row-run c.requires c.place_parent.ensures c.first_attribute-first.ensures.value c.attribute_count.ensures.value c.depth_of-depth.ensures c.args.settings _ _ _ _ c.step.auto.out c.step.ensures.texts_after c.step.ensures.upper_bound; upper_bound = c.step.ensures.upper_bound; upper_bound_2 = laws.row-filled c.requires c.place_parent.ensures c.first_attribute-first.ensures.value c.attribute_count.ensures.value c.depth_of-depth.ensures c.args.settings _ _ _ _ c.step.auto.out c.step.ensures.texts_after c.step.ensures.upper_bound }
+pub returns-clause-upper_bound_2 : goal.returns-clause-upper_bound_2
+returns-clause-upper_bound_2 c =
+    let split = c.split_at_mut-own in
+    let lent : c.unwrap.result.now ≡ take style_row_width split.result.1.now = search rules in
+    laws.row-filled c.requires c.first_attribute-first.ensures.value c.attribute_count.ensures.value c.depth_of-depth.ensures c.place_parent.ensures split.ensures.front split.ensures.back lent c.args.input.settings _ _ _ _ c.step.ensures.texts_after c.step.ensures.upper_bound

@@ -1,21 +1,16 @@
 -- The page is refused, the bytes are, or the page is styled.
-use mathlib.Core.Path.{refl, ap, sym, ◌∙◌}
-use Rattle.combinators.specs.declared.refusals.Refusal.{Refusal}
-use native.Mathlib.Omega.{arith}
+use Rattle.page.specs.Lent.{page_in}
 use Rattle.running.proofs.RunCalls as laws
 use Rattle.running.proofs.run.run_checked.Goals as goal
 
-pub check_sheet-requires : goal.check_sheet-requires
-check_sheet-requires c = omega (arith, c.requires.few)
+pub returns-in_err-check_page-clause-left : goal.returns-in_err-check_page-clause-left
+returns-in_err-check_page-clause-left c = let a = c.args in laws.page-refused a.rows.now a.stores.now.texts.now a.state.now a.stores.now.rules.now a.stores.now.tokens.now a.stores.now.brackets.now a.input.compiled.now a.input.settings (page_in a.input.page) c.check_page.ensures c.in_err-check_page.was _ c.from_residual.ensures.1
 
-pub returns-then-page-ne-NO_REFUSAL : goal.returns-then-page-ne-NO_REFUSAL
-returns-then-page-ne-NO_REFUSAL c = let a = c.args in laws.page-refused a.rows.now a.texts.now a.state.now a.rules.now a.tokens.now a.brackets.now a.compiled.now a.settings (record { nodes = a.nodes.now; attributes = a.attributes.now; text = a.text.now }) c.requires (c.refusal_of-page.ensures ∙ c.check_page.ensures) c.if-page-ne-NO_REFUSAL.true c.refused_run.ensures
+pub returns-in_err-check_sheet-clause-left : goal.returns-in_err-check_sheet-clause-left
+returns-in_err-check_sheet-clause-left c = let a = c.args in laws.bytes-refused a.rows.now a.stores.now.texts.now a.state.now a.stores.now.rules.now a.stores.now.tokens.now a.stores.now.brackets.now a.input.compiled.now a.input.settings (page_in a.input.page) c.check_page.ensures c.in_ok-check_page.was c.check_sheet.ensures.result_value c.in_err-check_sheet.was _ c.from_residual-in_err-check_sheet.ensures.1
 
 pub run_page-requires : goal.run_page-requires
-run_page-requires c = let a = c.args in laws.all-ready a.rows.now a.texts.now a.state.now a.rules.now a.tokens.now a.brackets.now a.compiled.now a.settings (record { nodes = a.nodes.now; attributes = a.attributes.now; text = a.text.now }) c.requires (c.refusal_of-page.ensures ∙ c.check_page.ensures) c.if-page-ne-NO_REFUSAL.false (laws.told-sheet _ _ c.check_sheet.ensures.result_value _ c.in-Ok.is) refl
+run_page-requires c = let a = c.args in laws.all-ready a.rows.now a.stores.now.texts.now a.state.now a.stores.now.rules.now a.stores.now.tokens.now a.stores.now.brackets.now a.input.compiled.now a.input.settings (page_in a.input.page) c.requires c.check_page.ensures c.in_ok-check_page.was c.check_sheet.ensures.result_value c.in_ok-check_sheet.was
 
-pub returns-in-Ok : goal.returns-in-Ok
-returns-in-Ok c = let a = c.args in laws.page-run a.rows.now a.texts.now a.state.now a.rules.now a.tokens.now a.brackets.now a.compiled.now a.settings (record { nodes = a.nodes.now; attributes = a.attributes.now; text = a.text.now }) c.requires (c.refusal_of-page.ensures ∙ c.check_page.ensures) c.if-page-ne-NO_REFUSAL.false (laws.told-sheet _ _ c.check_sheet.ensures.result_value _ c.in-Ok.is) refl c.run_page.ensures
-
-pub returns-in-Err : goal.returns-in-Err
-returns-in-Err c = let a = c.args in laws.bytes-refused a.rows.now a.texts.now a.state.now a.rules.now a.tokens.now a.brackets.now a.compiled.now a.settings (record { nodes = a.nodes.now; attributes = a.attributes.now; text = a.text.now }) c.requires (c.refusal_of-page.ensures ∙ c.check_page.ensures) c.if-page-ne-NO_REFUSAL.false (c.from.ensures ∙ laws.told-fault _ _ c.check_sheet.ensures.result_value _ c.in-Err.is) (λ z. let k = ap (λ (q : Refusal). q.number) (sym c.from.ensures) ∙ z in absurd (omega (arith, k))) c.refused_run-in-Err.ensures
+pub returns-clause-left : goal.returns-clause-left
+returns-clause-left c = let a = c.args in laws.page-run a.rows.now a.stores.now.texts.now a.state.now a.stores.now.rules.now a.stores.now.tokens.now a.stores.now.brackets.now a.input.compiled.now a.input.settings (page_in a.input.page) c.check_page.ensures c.in_ok-check_page.was c.check_sheet.ensures.result_value c.in_ok-check_sheet.was c.run_page.ensures.left

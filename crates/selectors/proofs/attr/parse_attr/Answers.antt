@@ -26,7 +26,7 @@ pub returns-then-byte_is-2 : goal.returns-then-byte_is-2
 returns-then-byte_is-2 c = let t : goal.returns-then-byte_is-2-raw c = laws.attr-equal _ _ _ _ c.byte_is.ensures c.if-not-byte_is.false _ _ (c.parse_ident.ensures.value, c.parse_ident.ensures.store_after) _ _ c.in-Some.is _ c.byte_is-2.ensures c.if-byte_is.false _ c.byte_is-3.ensures c.if-byte_is-2.true c.requires.zeros _ _ (c.parse_attr_equal.ensures.value, c.parse_attr_equal.ensures.store_after) in record { value = t.0; store_after = t.1 }
 
 pub returns : goal.returns
-returns c = let t : goal.returns-raw c = laws.attr-open _ _ _ _ c.byte_is.ensures c.if-not-byte_is.false _ _ (c.parse_ident.ensures.value, c.parse_ident.ensures.store_after) _ _ c.in-Some.is _ c.byte_is-2.ensures c.if-byte_is.false _ c.byte_is-3.ensures c.if-byte_is-2.false c.requires.zeros _ c.wipe_bytes.ensures in record { value = t.0; store_after = t.1 }
+returns c = let t : goal.returns-raw c = laws.attr-open _ _ _ _ c.byte_is.ensures c.if-not-byte_is.false _ _ (c.parse_ident.ensures.value, c.parse_ident.ensures.store_after) _ _ c.in-Some.is _ c.byte_is-2.ensures c.if-byte_is.false _ c.byte_is-3.ensures c.if-byte_is-2.false c.requires.zeros _ c.fill_part.ensures in record { value = t.0; store_after = t.1 }
 
 pub returns-in_default : goal.returns-in_default
 returns-in_default c = let t : goal.returns-in_default-raw c = laws.attr-unnamed _ _ _ _ c.byte_is.ensures c.if-not-byte_is.false _ _ (c.parse_ident.ensures.value, c.parse_ident.ensures.store_after) c.in_default.is in record { value = t.0; store_after = t.1 }

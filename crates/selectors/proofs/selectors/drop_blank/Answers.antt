@@ -9,8 +9,5 @@ returns-then-count-eq0 c = let t = laws.dropped-none _ _ _ c.if-count-eq0.true i
 pub returns-then-number_at-ne-DESCENDANT : goal.returns-then-number_at-ne-DESCENDANT
 returns-then-number_at-ne-DESCENDANT c = let t : goal.returns-then-number_at-ne-DESCENDANT-raw c = laws.dropped-not _ _ _ c.if-count-eq0.false _ c.number_at.ensures c.if-number_at-ne-DESCENDANT.true in record { value = t.0; rules_after = t.1 }
 
-pub shape_of-rules : goal.shape_of-rules
-shape_of-rules c = c.wipe_numbers.auto.store
-
 pub returns : goal.returns
-returns c = let t : goal.returns-raw c = laws.dropped-blank _ _ _ c.if-count-eq0.false _ _ c.number_at.ensures c.if-number_at-ne-DESCENDANT.false c.wipe_numbers.ensures in record { value = t.0; rules_after = t.1 }
+returns c = let t : goal.returns-raw c = laws.dropped-blank _ _ _ c.if-count-eq0.false _ _ c.number_at.ensures c.if-number_at-ne-DESCENDANT.false c.fill_part.ensures in record { value = t.0; rules_after = t.1 }

@@ -5,7 +5,7 @@ use Rattle.sheets.proofs.StatementTurns as laws
 use Rattle.sheets.proofs.statements.parse_stylesheet.Given as goal
 
 abbrev pub invariant-loop-taken : goal.invariant-loop-taken
-invariant-loop-taken l = laws.Reading-on l.s l.initial.rules l.initial.tokens l.initial.brackets l.initial.store l.rules l.tokens l.brackets l.store l.taken l.count l.numbers l.text
+invariant-loop-taken l = laws.Going-on l.s l.initial.stores l.stores l.taken l.count l.numbers l.text
 
 abbrev pub decreases-loop-taken : goal.decreases-loop-taken
 decreases-loop-taken l = length l.s - l.taken

@@ -10,7 +10,7 @@ pub returns-then-count-eq1 : goal.returns-then-count-eq1
 returns-then-count-eq1 c = laws.style-alone _ _ _ c.read_number.ensures.value _ c.in-Ok.is c.if-count-eq1.true _ _ _ _ _ c.merge_one.ensures
 
 pub merge_counted-requires : goal.merge_counted-requires
-merge_counted-requires c = record { row_room = c.requires.row_room; counted_lent = laws.counted-lent _ _ _ c.read_number.ensures.value _ c.in-Ok.is _ c.skip_styles.ensures (sym c.is_ok.ensures.value ∙ c.if-is_ok.true) c.requires.compiled_len_bound }
+merge_counted-requires c = laws.counted-lent _ _ _ c.read_number.ensures.value _ c.in-Ok.is _ c.skip_styles.ensures (sym c.is_ok.ensures.value ∙ c.if-is_ok.true) c.requires
 
 pub returns-then-is_ok : goal.returns-then-is_ok
 returns-then-is_ok c = laws.styles-merged _ _ _ c.read_number.ensures.value _ c.in-Ok.is _ _ _ _ _ c.merge_counted.ensures

@@ -1,18 +1,20 @@
--- What is told stands in the next part and leaves the own one, which the pass then writes.
+-- What is told stands in the next part, by which the own one is then written.
+use mathlib.Core.Path.{ap, ◌∙◌}
+use Rattle.segments.specs.Down.{pass_at}
 use Rattle.stepping.proofs.PassingLaws as laws
 use Rattle.stepping.proofs.passing.pass_document.Goals as goal
 
 pub tell_document-requires : goal.tell_document-requires
-tell_document-requires c = laws.tell-lent _ _ c.requires _ _ (laws.selectors-there _ c.requires.sheet _ c.read_number.ensures.value _ c.in-Ok.is)
+tell_document-requires c = record { few_bytes = c.requires.few_bytes; reads = laws.selectors-there _ c.requires.sheet _ c.read_number.ensures.value _ c.in-Ok.is }
 
 pub first_styled-first-requires : goal.first_styled-first-requires
 first_styled-first-requires c = laws.selectors-there _ c.requires.sheet _ c.read_number.ensures.value _ c.in-Ok.is
 
-pub pass_blocks-requires : goal.pass_blocks-requires
-pass_blocks-requires c = laws.document-lent _ _ c.requires _ _ _ c.tell_document.ensures _ c.first_styled-first.ensures.upper_bound
-
 pub returns : goal.returns
-returns c = laws.document-is _ _ c.requires _ _ _ c.tell_document.ensures _ c.read_number.ensures.value c.in-Ok.is _ c.first_styled-first.ensures.value _ c.pass_blocks.ensures
+returns c =
+    let sheet = laws.passes-all _ c.requires.sheet _ c.read_number.ensures.value _ c.in-Ok.is _ c.first_styled-first.ensures.value in
+    let told = c.tell_document.ensures ∙ laws.tells-all _ c.requires.sheet _ c.read_number.ensures.value _ c.in-Ok.is _ in
+    record { next_after = told; own_after = c.pass_told.ensures ∙ ap (λ r. r.part) (sheet _ _ _) ∙ ap (λ x. (pass_at c.args.compiled.now _ x c.args.own.now).part) told }
 
 pub returns-in_default : goal.returns-in_default
-returns-in_default c = absurd (laws.count-there _ c.requires.sheet _ c.read_number.ensures.value _ c.in_default.is)
+returns-in_default c = let t : goal.returns-in_default-raw c = absurd (laws.count-there _ c.requires.sheet _ c.read_number.ensures.value _ c.in_default.is) in record { next_after = t.0; own_after = t.1 }

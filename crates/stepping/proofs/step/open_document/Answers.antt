@@ -1,9 +1,11 @@
--- The blocks of the part are stored, then the count before them; no style was merged.
+-- The parts of the document and of its child stand side by side in the state.
+use mathlib.Core.Path.{◌∙◌}
 use Rattle.stepping.proofs.StepLaws as laws
 use Rattle.stepping.proofs.step.open_document.Goals as goal
 
-pub pass_document-requires : goal.pass_document-requires
-pass_document-requires c = laws.document-lent _ _ _ c.requires
-
 pub returns : goal.returns
-returns c = let t : goal.returns-raw c = laws.document-opened _ _ _ c.requires _ _ _ c.pass_document.ensures c.put_pair.ensures c.clear_row.ensures in record { out_after = t.0; state_after = t.1 }
+returns c = record {
+  out_after = laws.emptied _ _ c.told-out c.clear_row.ensures;
+  state_after = laws.document-opened _ _ c.requires _ _ _ _ _ c.split_at_mut-own.ensures.front c.split_at_mut-own.ensures.back c.pass_document.ensures.next_after c.pass_document.ensures.own_after c.put_pair.ensures
+      (c.put_pair.auto.part ∙ c.pass_document.auto.own) c.pass_document.auto.next;
+}

@@ -5,5 +5,5 @@ use Rattle.sweeps.proofs.pieces.test_met.Goals as goal
 pub returns-in-Some : goal.returns-in-Some
 returns-in-Some c = laws.named-tested _ _ _ _ c.name_at.ensures _ c.in-Some.is _ c.part_of-word.ensures _ c.name_passes-passes.ensures
 
-pub test_other-requires-clause-nameless : goal.test_other-requires-clause-nameless
-test_other-requires-clause-nameless c = laws.nameless _ _ _ c.name_at.ensures c.in-None.is
+pub test_other-requires : goal.test_other-requires
+test_other-requires c = laws.nameless _ _ _ c.name_at.ensures c.in-None.is

@@ -10,7 +10,7 @@ pub returns-in-Mark : goal.returns-in-Mark
 returns-in-Mark c = laws.mark-read _ _ _ _ _ c.read_component.ensures.value _ c.in-Ok.is _ c.in-Mark.is _ c.mark_met.ensures
 
 pub returns-in-Name : goal.returns-in-Name
-returns-in-Name c = absurd (laws.name-absent _ (handed c.args.element) _ _ c.read_component.ensures.value _ c.in-Ok.is c.requires.nameless _ _ c.in-Name.is)
+returns-in-Name c = absurd (laws.name-absent _ (handed c.args.element.now) _ _ c.read_component.ensures.value _ c.in-Ok.is c.requires _ _ c.in-Name.is)
 
 pub returns-in-Numbers : goal.returns-in-Numbers
 unfolding handed handed_element

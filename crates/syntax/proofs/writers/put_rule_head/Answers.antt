@@ -1,6 +1,6 @@
--- The three numbers are emitted one behind the other.
-use Rattle.syntax.proofs.Writes as laws
+-- The three numbers are emitted from the place on.
+use Rattle.combinators.proofs.Emitted.{sets-emitted}
 use Rattle.syntax.proofs.writers.put_rule_head.Goals as goal
 
 pub returns : goal.returns
-returns c = laws.three-left _ _ _ _ _ _ _ _ c.emit_number-after_start.ensures c.emit_number-after_selectors.ensures _ _ _ c.emit_number.ensures
+returns c = sets-emitted _ _ _ _ _ c.emit_all.ensures

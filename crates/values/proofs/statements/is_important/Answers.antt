@@ -1,16 +1,23 @@
 -- The last two tokens are an exclamation mark and the name `important`.
+use mathlib.Core.Path.{sym, ◌∙◌}
+use borrow.Author.Tests.{leb-true}
+use native.Mathlib.Omega.{arith}
 use Rattle.characters.specs.Literal.{text}
 use Rattle.characters.specs.Utf8.{utf8, continuation}
 use Rattle.combinators.specs.Choice.{pick}
 use Rattle.values.proofs.Marks as laws
 use Rattle.values.proofs.statements.is_important.Goals as goal
-
-pub returns-then-count-lt2 : goal.returns-then-count-lt2
-returns-then-count-lt2 c = laws.mark-few _ _ _ c.if-count-lt2.true
+use Rattle.values.proofs.statements.is_important.Goals.{then-count-ge2, else-count-ge2}
 
 pub returns-then-is_delim : goal.returns-then-is_delim
 unfolding text utf8 continuation pick
-returns-then-is_delim c = laws.mark-name _ _ _ c.if-count-lt2.false _ (c.is_delim.ensures _) c.if-is_delim.true _ c.is_word.ensures
+returns-then-is_delim c = elim c.if-count-ge2.branch [
+  | then-count-ge2 w ↦ laws.mark-name _ _ _ w.if-count-ge2.true _ (w.is_delim.ensures _) (sym w.value-is ∙ c.if-is_delim.true) _ c.is_word.ensures
+  | else-count-ge2 w ↦ absurd (omega (arith, leb-true 2 _ (sym w.value-is ∙ c.if-is_delim.true), w.if-count-ge2.false))
+]
 
 pub returns-else-is_delim : goal.returns-else-is_delim
-returns-else-is_delim c = laws.mark-no-sign _ _ _ c.if-count-lt2.false _ (c.is_delim.ensures _) c.if-is_delim.false
+returns-else-is_delim c = elim c.if-count-ge2.branch [
+  | then-count-ge2 w ↦ w.value-is ∙ laws.mark-no-sign _ _ _ w.if-count-ge2.true _ (w.is_delim.ensures _) (sym w.value-is ∙ c.if-is_delim.false)
+  | else-count-ge2 w ↦ c.if-is_delim.false ∙ laws.mark-few _ _ _ w.if-count-ge2.false
+]

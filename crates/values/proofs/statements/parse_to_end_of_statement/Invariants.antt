@@ -6,7 +6,7 @@ use Rattle.values.proofs.Turns as laws
 use Rattle.values.proofs.statements.parse_to_end_of_statement.Given as goal
 
 abbrev pub invariant-loop-start : goal.invariant-loop-start
-invariant-loop-start l = laws.Running l.s l.include_semicolon l.initial.rows l.initial.brackets l.initial.store l.fill l.rows l.brackets l.store l.taken l.count l.place l.depth l.text
+invariant-loop-start l = laws.Lending l.s l.include_semicolon l.initial.stores l.fill l.stores l.taken l.count l.place l.depth l.text
 
 abbrev pub decreases-loop-start : goal.decreases-loop-start
 decreases-loop-start l = length l.s - l.taken

@@ -3,7 +3,7 @@ use Rattle.visits.proofs.CodeTellLaws as laws
 use Rattle.visits.proofs.document.put_styled.Goals as goal
 
 pub returns-then-has_style : goal.returns-then-has_style
-returns-then-has_style c = laws.styled-put _ _ _ _ _ _ _ _ c.has_style.ensures c.if-has_style.true _ c.first_styled-next.ensures.value _ c.put_leftmost.ensures
+returns-then-has_style c = laws.styled-put _ _ _ _ _ _ c.has_style.ensures c.if-has_style.true _ c.first_styled-next.ensures.value _ c.put_leftmost.ensures
 
 pub returns-else-has_style : goal.returns-else-has_style
-returns-else-has_style c = laws.styled-bare _ _ _ _ _ _ _ _ c.has_style.ensures c.if-has_style.false
+returns-else-has_style c = laws.styled-bare _ _ _ _ _ _ c.has_style.ensures c.if-has_style.false

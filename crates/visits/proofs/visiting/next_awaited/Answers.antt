@@ -8,8 +8,8 @@ returns-then-not-ends c = laws.awaited-stays _ _ _ _ c.if-not-ends.true
 pub returns-in_default : goal.returns-in_default
 returns-in_default c = laws.awaited-fault _ _ _ _ c.if-not-ends.false _ c.read_head.ensures.value _ c.in_default.is
 
-pub returns-then-awaited-head : goal.returns-then-awaited-head
-returns-then-awaited-head c = laws.awaited-last _ _ _ _ c.if-not-ends.false _ c.read_head.ensures.value _ c.in-Ok.is c.if-awaited-head.true
+pub returns-then-block-head : goal.returns-then-block-head
+returns-then-block-head c = laws.awaited-last _ _ _ _ c.if-not-ends.false _ c.read_head.ensures.value _ c.in-Ok.is c.if-block-head.true
 
-pub returns-else-awaited-head : goal.returns-else-awaited-head
-returns-else-awaited-head c = laws.awaited-before _ _ _ _ c.if-not-ends.false _ c.read_head.ensures.value _ c.in-Ok.is c.if-awaited-head.false
+pub returns-else-block-head : goal.returns-else-block-head
+returns-else-block-head c = laws.awaited-before _ _ _ _ c.if-not-ends.false _ c.read_head.ensures.value _ c.in-Ok.is c.if-block-head.false

@@ -1,0 +1,40 @@
+-- The tests and child combinators lead to the result, or to a descendant combinator; then the ancestors that are tried have the result of all on the row.
+use mathlib.Core.Path.{sym, ◌∙◌}
+use Rattle.matching.proofs.ClimbLaws as laws
+use Rattle.matching.proofs.matcher.+matching.Goals as goal
+
+pub match_recursively-returns-in-Ended : goal.match_recursively-returns-in-Ended
+match_recursively-returns-in-Ended t c = laws.climb-ends _ _ _ _ _ _ _ c.args.element.now.rooted _ c.match_locally.ensures c.in-Ended.is
+
+pub match_recursively-match_on_ancestors-requires : goal.match_recursively-match_on_ancestors-requires
+match_recursively-match_on_ancestors-requires t c =
+    let d = laws.climb-descends _ _ _ _ _ _ _ c.args.element.now.rooted _ c.match_locally.ensures c.in-Descendant.is in
+    (laws.fewer-left _ _ _ _ _ _ _ _ _ d t c.decreases, d.rooted)
+
+pub match_recursively-returns-in-Descendant : goal.match_recursively-returns-in-Descendant
+match_recursively-returns-in-Descendant t c =
+    let d = laws.climb-descends _ _ _ _ _ _ _ c.args.element.now.rooted _ c.match_locally.ensures c.in-Descendant.is in
+    c.match_on_ancestors.ensures ∙ sym d.same
+
+pub match_on_ancestors-loop-row-init : goal.match_on_ancestors-loop-row-init
+match_on_ancestors-loop-row-init t c = laws.try-begin _ _ _ _ _ _ _ c.requires
+
+pub match_on_ancestors-invariant_of-next_ancestor : goal.match_on_ancestors-invariant_of-next_ancestor
+match_on_ancestors-invariant_of-next_ancestor t c = record { rooted = c.loop-row.invariant.rooted }
+
+pub match_on_ancestors-match_recursively-requires : goal.match_on_ancestors-match_recursively-requires
+match_on_ancestors-match_recursively-requires t c = (laws.falls _ _ _ _ _ _ _ _ c.loop-row.invariant _ c.in-Some.ensures t c.decreases, tt)
+
+pub match_on_ancestors-loop-row-smaller : goal.match_on_ancestors-loop-row-smaller
+match_on_ancestors-loop-row-smaller t c = c.in-Some.ensures.higher
+
+pub match_on_ancestors-returns-in_default-match_recursively : goal.match_on_ancestors-returns-in_default-match_recursively
+match_on_ancestors-returns-in_default-match_recursively t c =
+    laws.ancestor-decides _ _ _ _ _ _ _ _ c.loop-row.invariant _ c.in-Some.ensures _ c.match_recursively.ensures c.in_default-match_recursively.not-FailsLocally
+
+pub match_on_ancestors-loop-row-preserved : goal.match_on_ancestors-loop-row-preserved
+match_on_ancestors-loop-row-preserved t c =
+    laws.ancestor-passed-over _ _ _ _ _ _ _ _ c.loop-row.invariant _ c.in-Some.ensures _ c.match_recursively.ensures c.in-FailsLocally.is
+
+pub match_on_ancestors-returns : goal.match_on_ancestors-returns
+match_on_ancestors-returns t c = laws.none_above _ _ _ _ _ _ _ _ c.loop-row.invariant c.in_default.ensures

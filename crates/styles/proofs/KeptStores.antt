@@ -1,0 +1,20 @@
+-- Stores that stay the same, in no call, in one and in the next.
+use mathlib.Core.Path.{refl, ◌∙◌}
+use Rattle.combinators.specs.declared.lent.Stores.{Stores}
+use Rattle.combinators.specs.Lent.{SameStores, SameLengths}
+
+-- the same slices where nothing is called
+pub stores-stay : (a : Stores) → SameStores a a
+stores-stay a = record { rules = refl; tokens = refl; brackets = refl; texts = refl }
+
+-- of the same lengths
+pub lengths-stay : (a : Stores) → SameLengths a a
+lengths-stay a = record { rules = refl; tokens = refl; brackets = refl; texts = refl }
+
+-- the same slices after both
+pub stores-kept : (a b c : Stores) → SameStores a b → SameStores b c → SameStores a c
+stores-kept a b c x y = record { rules = y.rules ∙ x.rules; tokens = y.tokens ∙ x.tokens; brackets = y.brackets ∙ x.brackets; texts = y.texts ∙ x.texts }
+
+-- of the same lengths after both
+pub lengths-kept : (a b c : Stores) → SameLengths a b → SameLengths b c → SameLengths a c
+lengths-kept a b c x y = record { rules = y.rules ∙ x.rules; tokens = y.tokens ∙ x.tokens; brackets = y.brackets ∙ x.brackets; texts = y.texts ∙ x.texts }
