@@ -538,6 +538,9 @@ class Scope:
         self.names, self.modules = {}, {}
         for path, name, local in file.uses:
             module = module_of(path)
+            # what a derive makes stands in no source
+            if module is None and ".specs.contracts." in path:
+                module = Library(path)
             if module is None:
                 raise Trouble(f"{shown(file.path)}: nothing stands at {path}")
             if name is None:

@@ -28,6 +28,7 @@ use Rattle.styles.specs.Says.{Says}
 use Rattle.styles.proofs.Called.{cascaded-formed}
 use Rattle.styling.specs.Claim.{row_left, texts_left, RowSays}
 use Rattle.styling.proofs.Claiming as claims
+use Rattle.styling.proofs.Claiming.{padded-long}
 use Rattle.runner.specs.PageRows.{style_row_at, page_contents, page_row, page_rows}
 use Rattle.runner.proofs.PageContents.{contents-short}
 use Rattle.runner.proofs.PageRowLaws.{rows_long, row-there}
@@ -69,11 +70,6 @@ pub computed-read : (sheets : Rules RuleSet) (settings : Settings) (p : Path) (t
 computed-read sheets settings p t row r =
     let back : style_at row ≡ r.style = ap style_at r.written ∙ style-back r.style (style-formed sheets settings p r) in
     rw back r.same
-
--- a store as long as what stands in it, or longer
-pub padded-long : (xs : List ℕ) (n : ℕ) → length xs ≤ length (padded xs n)
-unfolding padded
-padded-long xs n = omega (arith, length-append xs (replicate (n - length xs) 0))
 
 -- as long as it was, where that fits
 padded-fits : (xs : List ℕ) (n : ℕ) → length xs ≤ n → length (padded xs n) ≡ n

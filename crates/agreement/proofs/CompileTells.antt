@@ -47,11 +47,8 @@ module _ (s : SheetTexts) (b : CompileBuffers) where
   abbrev Claimed : CompileLeft → Type 0
   Claimed c = c.answer.refusal ≡ no_refusal → Compiled s (code_of c)
 
-  abbrev left : Refusal → CompileLeft
-  left r = unchanged b.compiled b.texts b.rules b.tokens b.brackets r
-
   -- one that refuses claims nothing
-  refusing : (n : ℕ) → 0 < n → Claimed (left (refused n))
+  refusing : (n : ℕ) → 0 < n → Claimed (unchanged b.compiled b.texts b.rules b.tokens b.brackets (refused n))
   unfolding unchanged
   refusing n h e = absurd (let z : n ≡ 0 = ap (λ (r : Refusal). r.number) e in omega arith)
 

@@ -7,6 +7,7 @@ use lib.ListN.{get_or, replicate}
 use Rattle.combinators.specs.All.{All}
 use Rattle.combinators.specs.Choice.{pick, and, is}
 use Rattle.combinators.proofs.Rules.{pick-holds, and-true, is_true}
+use Rattle.combinators.proofs.AllLaws.{all_append, all_map}
 use Rattle.syntax.specs.Layout.{style_slot_of}
 use Rattle.syntax.specs.Selector.{Selector, RuleSet}
 use Rattle.syntax.specs.Style.{StyleValue, StyleDecl, agent_origin, user_origin, author_origin}
@@ -18,7 +19,6 @@ use Rattle.cascade.proofs.Cascading.{crate-folds}
 use Rattle.page.specs.Path.{Attribute, Path}
 use Rattle.matching.specs.Matches.{is_named, matches}
 use Rattle.characters.specs.Literal.{text}
-use Rattle.compiled.proofs.Following.{all_append}
 use Rattle.styles.specs.declared.settings.Settings.{Settings}
 use Rattle.styles.specs.Computed.{cascaded, sources_along, computed_style}
 use Rattle.styles.specs.Said.{Rules, rule_styles, rule_style, selector_says, selectors_say, rules_say, attribute_styles, attribute_style, attribute_says, attributes_say, sources_from, meant, meant_rule, meant_rules, counted_attributes}
@@ -36,11 +36,6 @@ OwnAttribute x = OwnStyled x.style
 
 abbrev OwnDeclared : Declared StyleValue → Type 0
 OwnDeclared d = style_slot_of d.candidate.value.style ≡ d.slot
-
--- what holds of each of a list holds of each behind a function that keeps it
-all_map : {A B : Type 0} (P : A → Type 0) (Q : B → Type 0) (f : A → B) → ((a : A) → P a → Q (f a)) → (xs : List A) → All P xs → All Q (map f xs)
-all_map P Q f h [] p = tt
-all_map P Q f h (x ∷ xs) p = (h x p.0, all_map P Q f h xs p.1)
 
 -- declarations as they are meant
 meant-own : (ds : List StyleDecl) → All OwnStyled (map meant ds)

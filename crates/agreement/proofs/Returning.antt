@@ -19,10 +19,11 @@ use Rattle.styles.specs.declared.settings.Settings.{Settings}
 use Rattle.page.specs.Lent.{Page}
 use Rattle.styles.specs.Lent.{SheetTexts}
 use Rattle.styling.specs.StyleAnswer.{StyleLeft}
+use Rattle.styling.proofs.Claiming.{padded-long}
 use Rattle.running.specs.RunAnswer.{RunLeft}
 use Rattle.agreement.specs.Agreed.{Agreed}
 use Rattle.agreement.specs.Calls.{CompileBuffers, RunBuffers, StyleBuffers, compile_with, run_with, style_with, code_of}
-use Rattle.agreement.proofs.Agreeing.{padded-long, demand3}
+use Rattle.agreement.proofs.Agreeing.{demand3}
 
 module _ (s : SheetTexts) (b : CompileBuffers) where
   -- the bytes lie within their buffer
@@ -66,13 +67,9 @@ module _ (s : SheetTexts) (b : CompileBuffers) where
       (λ _. none_left (refused not_utf8)))
       (λ _. none_left (refused short_store)))
 
-  -- the answer in numbers leaves the same, and counts no more bytes than the buffer has
-  pub compiled-within : {n m : CompileNumbers} {k t y x z : List ℕ} → record { answer = m; compiled = k; texts = t; rules = y; tokens = x; brackets = z } ≡ compile_with s b → n ≡ m
-      → (record { answer = n; compiled = k; texts = t; rules = y; tokens = x; brackets = z } ≡ compile_with s b) × (n.bytes ≤ length k)
-  compiled-within {n} {m} {k} {t} {y} {x} {z} e f =
-      let g : record { answer = n; compiled = k; texts = t; rules = y; tokens = x; brackets = z } ≡ compile_with s b =
-      ap (λ (q : CompileNumbers). record { answer = q; compiled = k; texts = t; rules = y; tokens = x; brackets = z }) f ∙ e in
-      (g, subst Within (sym g) bytes-within)
+  -- the bytes that a call counts, none where it refuses, lie within the buffer
+  pub compiled-within : {n m : CompileNumbers} {k t y x z : List ℕ} → record { answer = m; compiled = k; texts = t; rules = y; tokens = x; brackets = z } ≡ compile_with s b → n ≡ m → n.bytes ≤ length k
+  compiled-within {k = k} e f = rw f (subst Within (sym e) bytes-within)
 
 -- what the three calls leave, each as its contract says, agrees: the run's row is the style call's
 pub calls-agree : (s : SheetTexts) (g : Page) (settings : Settings) (b : CompileBuffers) (w : RunBuffers) (row : ℕ) (v : StyleBuffers) {c : CompileLeft} {r : RunLeft} {l : StyleLeft}

@@ -4,7 +4,7 @@ use mathlib.Core.Path.{◌≡◌, refl, ap, ◌∙◌}
 use mathlib.Core.List.{List, [], ◌∷◌, ◌++◌}
 use native.Mathlib.Nat.{not-suc-le-zero}
 use native.Mathlib.Omega.{arith}
-use lib.ListN.{length, get_or, length-append, get_or-append}
+use lib.ListN.{length, get_or, get_or-append}
 use lib.Seq.{get_or-append-add}
 use Rattle.combinators.specs.Choice.{pick, is}
 use Rattle.syntax.specs.Layout.{flag}
@@ -13,14 +13,9 @@ use Rattle.cascade.specs.Slot.{Slot, empty}
 use Rattle.cascade.specs.Record.{slot_count, record_count, Record, ComputedStyle, Formed, record_in, slot_of, slot_in}
 use Rattle.cascade.specs.Row.{slot_width, record_width, record_place, slot_place, slot_numbers, slots_numbers, record_numbers, row_of}
 use Rattle.cascade.proofs.RowLaws.{slot-width}
+use Rattle.cascade.proofs.RowBack.{record-width}
 
 -- ---- of slots one behind the other
--- the numbers of slots one behind the other are a slot's width each
-slots-long : (ss : List (Slot Value)) → length (slots_numbers ss) ≡ length ss * slot_width
-unfolding slots_numbers
-slots-long [] = refl
-slots-long (s ∷ ss) = omega (arith, length-append (slot_numbers s) (slots_numbers ss), slot-width s, slots-long ss)
-
 -- a number of slot k is one of its own numbers
 slots-number : (ss : List (Slot Value)) (k n : ℕ) → n < slot_width → k < length ss → get_or (slots_numbers ss) (k * slot_width + n) 0 ≡ get_or (slot_numbers (get_or ss k empty)) n 0
 unfolding slots_numbers
@@ -35,11 +30,6 @@ slots-number (s ∷ ss) (suc k) n h l =
     ∙ slots-number ss k n h (omega arith)
 
 -- ---- of a record
--- the numbers of a record with all its slots are a record's width
-record-long : (p : Record Value) → length p.slots ≡ slot_count → length (record_numbers p) ≡ record_width
-unfolding record_numbers
-record-long p h = omega (arith, slots-long p.slots)
-
 -- a number of one of its slots
 record-number : (p : Record Value) (k n : ℕ) → length p.slots ≡ slot_count → k < slot_count → n < slot_width
     → get_or (record_numbers p) (suc (k * slot_width + n)) 0 ≡ get_or (slot_numbers (slot_of p k)) n 0
@@ -75,12 +65,12 @@ module _ (s : ComputedStyle Value) (f : Formed s) where
   unfolding row_of record_in pick is
   in-record zero o h l =
       let z : record_place 0 + o ≡ o = omega arith in
-      ap (λ (j : ℕ). get_or (A ++ (B ++ C)) j 0) z ∙ get_or-append A (B ++ C) 0 o (omega (arith, record-long s.main f.main))
+      ap (λ (j : ℕ). get_or (A ++ (B ++ C)) j 0) z ∙ get_or-append A (B ++ C) 0 o (omega (arith, record-width s.main f.main))
   in-record (suc zero) o h l =
-      let z : record_place 1 + o ≡ length A + o = omega (arith, record-long s.main f.main) in
-      ap (λ (j : ℕ). get_or (A ++ (B ++ C)) j 0) z ∙ get_or-append-add A (B ++ C) o 0 ∙ get_or-append B C 0 o (omega (arith, record-long s.before f.before))
+      let z : record_place 1 + o ≡ length A + o = omega (arith, record-width s.main f.main) in
+      ap (λ (j : ℕ). get_or (A ++ (B ++ C)) j 0) z ∙ get_or-append-add A (B ++ C) o 0 ∙ get_or-append B C 0 o (omega (arith, record-width s.before f.before))
   in-record (suc (suc zero)) o h l =
-      let z : record_place 2 + o ≡ length A + (length B + o) = omega (arith, record-long s.main f.main, record-long s.before f.before) in
+      let z : record_place 2 + o ≡ length A + (length B + o) = omega (arith, record-width s.main f.main, record-width s.before f.before) in
       ap (λ (j : ℕ). get_or (A ++ (B ++ C)) j 0) z ∙ get_or-append-add A (B ++ C) (length B + o) 0 ∙ get_or-append-add B C o 0
   in-record (suc (suc (suc r))) o h l = absurd (omega arith)
 

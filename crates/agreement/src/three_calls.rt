@@ -1,8 +1,9 @@
 // Demand 3 as a contract: three sheets are compiled, their bytes are run down a page, and a row of it is asked of the style call. The run's row is the style call's.
 // The three calls are told different things, compiling no page, the run no sheets, the style call one row of the page, and each is made here with what its
 // entry point lists: a struct for one of them would be taken apart again for it.
-ghost use Rattle.std.specs.Prelude.{◌≡◌, ◌≤◌, length, take};
+ghost use Rattle.std.specs.Prelude.{◌≡◌, take};
 ghost use Rattle.combinators.specs.Lent.{SameStores};
+ghost use Rattle.compiler.specs.CompileAnswer as compiling;
 ghost use Rattle.page.specs.Lent.{page_in};
 ghost use Rattle.styles.specs.Lent.{sheets_in};
 ghost use Rattle.styling.specs.StyleAnswer.{numbers_of, left_in};
@@ -11,8 +12,8 @@ ghost use Rattle.agreement.specs.Agreed.{Agreed};
 ghost use Rattle.agreement.specs.Calls.{compile_lent, run_lent, style_lent, compile_left, compile_with, run_with, style_with};
 
 use combinators::lent::{SheetTexts, Stores};
-use compiler::answers::{CompileNumbers, numbers_of};
-use compiler::compile::compile;
+use compiler::answers::CompileNumbers;
+use compiler::compile::{CompileError, Compiled, compile};
 use page::lent::Page;
 use running::input::RunInput;
 use running::run::{RunError, run};
@@ -22,52 +23,15 @@ use styling::style::{StyleError, style};
 // What compiling and the run answer.
 #[derive(Clone, Copy)]
 pub struct RunAnswers {
-    pub compiling: CompileNumbers,
+    pub compiling: Result<Compiled, CompileError>,
     pub running: Result<usize, RunError>,
 }
 
 // What the three calls answer.
 #[derive(Clone, Copy)]
 pub struct CallAnswers {
-    pub compiling: CompileNumbers,
-    pub running: Result<usize, RunError>,
+    pub run: RunAnswers,
     pub styling: Result<usize, StyleError>,
-}
-
-// Compiles three sheets. The bytes lie within their buffer; of sheets that are refused there are none.
-fn compile_sheets(
-    sheets: SheetTexts<'_>,
-    compiled: &mut [u8],
-    stores: &mut Stores<'_>,
-) -> CompileNumbers
-    ensures left { compile_left result compiled.new stores.new ≡ compile_with (sheets_in sheets.entry) (compile_lent compiled.old stores.old) }
-    ensures bytes_in_bounds { result.bytes ≤ length compiled.new }
-    ensures same { SameStores stores.old stores.new }
-{
-    numbers_of(compile(sheets, compiled, stores))
-}
-
-// Runs the first bytes of a buffer down a page.
-fn run_bytes(
-    settings: Settings,
-    compiled: &[u8],
-    bytes: usize,
-    page: Page<'_>,
-    rows: &mut [u32],
-    state: &mut [u8],
-    stores: &mut Stores<'_>,
-) -> Result<usize, RunError>
-    requires { bytes ≤ length compiled.now }
-    ensures left { run.left_in (run.numbers_of result) rows.new state.new stores.new
-        ≡ run_with (take bytes compiled.now) settings (page_in page.entry) (run_lent rows.old state.old stores.old) }
-    ensures same { SameStores stores.old stores.new }
-{
-    let input = RunInput {
-        settings,
-        compiled: &compiled[..bytes],
-        page,
-    };
-    run(input, rows, state, stores)
 }
 
 // Compiles three sheets and runs their bytes down a page. Where the sheets are refused the run is of no bytes.
@@ -81,16 +45,21 @@ fn compile_and_run(
     state: &mut [u8],
     run_stores: &mut Stores<'_>,
 ) -> RunAnswers
-    ensures compile_after { compile_left result.compiling compiled.new compile_stores.new
+    ensures compile_after { compile_left (compiling.numbers_of result.compiling) compiled.new compile_stores.new
         ≡ compile_with (sheets_in sheets.entry) (compile_lent compiled.old compile_stores.old) }
     ensures run_after { run.left_in (run.numbers_of result.running) rows.new state.new run_stores.new
-        ≡ run_with (take result.compiling.bytes compiled.new) settings (page_in page.entry) (run_lent rows.old state.old run_stores.old) }
+        ≡ run_with (take (compiling.numbers_of result.compiling).bytes compiled.new) settings (page_in page.entry) (run_lent rows.old state.old run_stores.old) }
     ensures compile_same { SameStores compile_stores.old compile_stores.new }
     ensures run_same { SameStores run_stores.old run_stores.new }
 {
-    let compiling = compile_sheets(sheets, compiled, compile_stores);
-    let bytes = compiling.bytes;
-    let running = run_bytes(settings, compiled, bytes, page, rows, state, run_stores);
+    let compiling = compile(sheets, compiled, compile_stores);
+    let bytes = CompileNumbers::from(compiling).bytes;
+    let input = RunInput {
+        settings,
+        compiled: &compiled[..bytes],
+        page,
+    };
+    let running = run(input, rows, state, run_stores);
     RunAnswers { compiling, running }
 }
 
@@ -108,18 +77,18 @@ pub fn compile_run_style(
     out: &mut [u32],
     style_stores: &mut Stores<'_>,
 ) -> CallAnswers
-    ensures compile_after { compile_left result.compiling compiled.new compile_stores.new
+    ensures compile_after { compile_left (compiling.numbers_of result.run.compiling) compiled.new compile_stores.new
         ≡ compile_with (sheets_in sheets.entry) (compile_lent compiled.old compile_stores.old) }
-    ensures run_after { run.left_in (run.numbers_of result.running) rows.new state.new run_stores.new
-        ≡ run_with (take result.compiling.bytes compiled.new) settings (page_in page.entry) (run_lent rows.old state.old run_stores.old) }
+    ensures run_after { run.left_in (run.numbers_of result.run.running) rows.new state.new run_stores.new
+        ≡ run_with (take (compiling.numbers_of result.run.compiling).bytes compiled.new) settings (page_in page.entry) (run_lent rows.old state.old run_stores.old) }
     ensures style_after { left_in (numbers_of result.styling) out.new style_stores.new
         ≡ style_with settings (sheets_in sheets.entry) (page_in page.entry) row (style_lent out.old style_stores.old) }
-    ensures agreed { Agreed (compile_left result.compiling compiled.new compile_stores.new) (run.left_in (run.numbers_of result.running) rows.new state.new run_stores.new) (left_in (numbers_of result.styling) out.new style_stores.new) row }
+    ensures agreed { Agreed (compile_left (compiling.numbers_of result.run.compiling) compiled.new compile_stores.new) (run.left_in (run.numbers_of result.run.running) rows.new state.new run_stores.new) (left_in (numbers_of result.styling) out.new style_stores.new) row }
     ensures compile_same { SameStores compile_stores.old compile_stores.new }
     ensures run_same { SameStores run_stores.old run_stores.new }
     ensures style_same { SameStores style_stores.old style_stores.new }
 {
-    let answers = compile_and_run(
+    let run = compile_and_run(
         settings,
         sheets,
         page,
@@ -130,9 +99,5 @@ pub fn compile_run_style(
         run_stores,
     );
     let styling = style(settings, sheets, page, row, out, style_stores);
-    CallAnswers {
-        compiling: answers.compiling,
-        running: answers.running,
-        styling,
-    }
+    CallAnswers { run, styling }
 }

@@ -1,11 +1,13 @@
 -- `style`: its styles as they are merged, from the rows that reading its value leaves.
-use Prim.Native.Nat.{ℕ, zero, suc, ◌+◌, ◌-◌, ◌*◌, ◌^◌, ◌≤◌, ◌<◌}
+use Prim.Native.Nat.{ℕ, zero, suc, ◌+◌, ◌*◌, ◌/◌, ◌^◌, ◌≤◌, ◌<◌}
 use mathlib.Core.Bool.{Bool, true, false}
-use mathlib.Core.List.{List, [], ◌∷◌, ◌++◌, map, append_assoc}
+use mathlib.Core.List.{List, [], ◌∷◌, ◌++◌, map, append_assoc, append-nil}
 use mathlib.Core.Path.{◌≡◌, refl, sym, ap, ◌∙◌}
+use native.Mathlib.Numerals.{add-one}
 use native.Mathlib.Omega.{arith}
-use lib.ListN.{length, take, drop, length-append}
-use lib.Seq.{sets, length-sets, drop-drop}
+use lib.ListN.{length, get_or, take, drop, length-append, drop_of_length-le}
+use lib.Seq.{sets, length-sets, drop-cons, take_at, length-take-le}
+use Rattle.std.specs.Simd.{first_chunks}
 use Rattle.combinators.specs.All.{All}
 use Rattle.combinators.specs.Choice.{pick, is}
 use Rattle.combinators.specs.Store.{wiped}
@@ -39,7 +41,8 @@ use Rattle.styles.specs.StyleCall.{in_numbers, placed_styles}
 use Rattle.styles.specs.Merged.{merged_row, late_declared}
 use Rattle.styles.proofs.Merging.{merged-none, merged-more, late-none}
 use Rattle.styles.proofs.Room.{style-short}
-use Rattle.attributes.specs.Merging.{inline_important, shifted, inline_style, inline_declared, Shiftable, numbers_in, rows_declared, InlineRows, ValueRoom}
+use Rattle.styles.proofs.StyleRows.{row-numbers}
+use Rattle.attributes.specs.Merging.{inline_important, shifted, inline_style, inline_declared, Shiftable, rows_declared, InlineRows, ValueRoom}
 use Rattle.attributes.proofs.Fronts.{front-wiped, text-stored}
 
 -- ---- one style, merged with the start of its content moved
@@ -63,65 +66,68 @@ module _ (base : ℕ) (x : StyleNumbers) where
   inline-made c v i p q = rw (p, q)
 
 -- ---- the rows, one behind the other
-module _ (c : Cascade) (base count : ℕ) (t out₀ : List ℕ) where
+module _ (c : Cascade) (base : ℕ) (rows : List (List ℕ)) (out₀ : List ℕ) where
   -- before the i-th row: what is left to merge leads to the row that all lead to
   pub record Merging (i : ℕ) (out : List ℕ) : Type 0 where
-    pub within_count : i ≤ count
-    pub bits : style_width * count < 2 ^ 64
-    pub shiftable : All (Shiftable base) (numbers_in (count - i) (drop (style_width * i) t))
+    pub shiftable : All (λ (row : List ℕ). Shiftable base (numbers_at row)) (drop i rows)
     pub long : length out ≡ length out₀
-    pub rest : merged_row c out (rows_declared c base (count - i) (drop (style_width * i) t)) ≡ merged_row c out₀ (rows_declared c base count t)
+    pub rest : merged_row c out (rows_declared c base (drop i rows)) ≡ merged_row c out₀ (rows_declared c base rows)
 
--- with no row left nothing is merged
-ended : (c : Cascade) (base k : ℕ) (t out : List ℕ) → k ≤ 0 → merged_row c out (rows_declared c base k t) ≡ out
-unfolding rows_declared numbers_in
-ended c base zero t out h = merged-none c out
-ended c base (suc k) t out h = absurd (omega arith)
-
-module _ (c : Cascade) (base count : ℕ) (t out₀ : List ℕ) where
   -- before the first style the row is as it was lent
-  pub merging-begin : InlineRows base count t → Merging c base count t out₀ 0 out₀
-  merging-begin r =
-      let z : count - 0 ≡ count = omega arith in
-      record { within_count = omega arith; bits = r.few; shiftable = rw z r.shiftable; long = refl; rest = rw z }
+  pub merging-begin : InlineRows base rows → Merging 0 out₀
+  merging-begin r = record { shiftable = r.shiftable; long = refl; rest = refl }
 
-  module _ (i : ℕ) (out : List ℕ) (v : Merging c base count t out₀ i out) where
+  module _ (i : ℕ) (out : List ℕ) (v : Merging i out) where
     -- behind the last style the row is the one with all of them merged
-    pub merging-end : count ≤ i → out ≡ merged_row c out₀ (rows_declared c base count t)
-    merging-end h = sym (ended c base (count - i) (drop (style_width * i) t) out (omega arith)) ∙ v.rest
+    pub merging-end : length rows ≤ i → out ≡ merged_row c out₀ (rows_declared c base rows)
+    unfolding rows_declared
+    merging-end h = sym (ap (λ (l : List (List ℕ)). merged_row c out (rows_declared c base l)) (drop_of_length-le rows {i = i} h) ∙ merged-none c out) ∙ v.rest
 
-    module _ (h : i < count) where
+    module _ (h : i < length rows) (row : List ℕ) (er : row ≡ get_or rows i []) where
       -- one is left, and others behind it
-      one_more : count - i ≡ suc (count - (i + 1))
-      one_more = omega arith
+      one_more : drop i rows ≡ row ∷ drop (i + 1) rows
+      one_more = drop-cons rows i [] h ∙ rw (← er, add-one i) refl
 
       -- all that are left can be counted
-      all-shiftable : All (Shiftable base) (numbers_in (suc (count - (i + 1))) (drop (style_width * i) t))
+      all-shiftable : Shiftable base (numbers_at row) × All (λ (row : List ℕ). Shiftable base (numbers_at row)) (drop (i + 1) rows)
       all-shiftable = rw one_more at v.shiftable
 
       -- its content can be counted from `base` on
-      pub row-shiftable : (x : StyleNumbers) → x ≡ numbers_at (drop (style_width * i) t) → Shiftable base x
-      unfolding numbers_in
+      pub row-shiftable : (x : StyleNumbers) → x ≡ numbers_at row → Shiftable base x
       row-shiftable x e = rw e all-shiftable.0
 
       -- a turn: one style is merged, and one less is left
-      pub merging-next : (x s : StyleNumbers) (out' : List ℕ) → x ≡ numbers_at (drop (style_width * i) t) → s ≡ inline_style c base x
+      pub merging-next : (x s : StyleNumbers) (out' : List ℕ) → x ≡ numbers_at row → s ≡ inline_style c base x
           → Merged c out out' (record { pseudo = main_record; slot = s.slot; candidate = record { weight = record { important = s.important; origin = author_origin; spec = inline_specificity }; value = s.value } })
-          → Merging c base count t out₀ (i + 1) out'
-      unfolding numbers_in rows_declared inline_declared from_attribute attribute_style in_numbers
+          → Merging (i + 1) out'
+      unfolding rows_declared inline_declared from_attribute attribute_style in_numbers
       merging-next x s out' ex es m =
-          let d = inline_declared c base (numbers_at (drop (style_width * i) t)) in
+          let d = inline_declared c base (numbers_at row) in
           let e : out' ≡ merge_row_by (update_by c) out d = m.numbers ∙ rw (es, ex) in
-          let n : style_width * i + style_width ≡ style_width * (i + 1) = omega arith in
-          let q : drop style_width (drop (style_width * i) t) ≡ drop (style_width * (i + 1)) t = drop-drop style_width (style_width * i) t ∙ ap (λ (k : ℕ). drop k t) n in
-          let w : merged_row c out (rows_declared c base (suc (count - (i + 1))) (drop (style_width * i) t)) ≡ merged_row c out₀ (rows_declared c base count t) = rw one_more at v.rest in
+          let w : merged_row c out (rows_declared c base (row ∷ drop (i + 1) rows)) ≡ merged_row c out₀ (rows_declared c base rows) = rw one_more at v.rest in
           record {
-            within_count = omega arith;
-            bits = v.bits;
-            shiftable = rw q at all-shiftable.1;
+            shiftable = all-shiftable.1;
             long = ap length e ∙ merge-long (update_by c) out d ∙ v.long;
-            rest = rw (e, ← q, ← merged-more c out d (rows_declared c base (count - (i + 1)) (drop style_width (drop (style_width * i) t)))) w;
+            rest = rw (e, ← merged-more c out d (rows_declared c base (drop (i + 1) rows))) w;
           }
+
+-- ---- style rows as they lie in a store
+-- the styles in numbers of the first k of them
+unfoldable pub numbers_in : ℕ → List ℕ → List StyleNumbers
+numbers_in zero t = []
+numbers_in (suc k) t = numbers_at t ∷ numbers_in k (drop style_width t)
+
+-- what the rows declare that they are split into
+chunks-declared : (c : Cascade) (base k : ℕ) (t : List ℕ) → rows_declared c base (first_chunks style_width k t) ≡ map (inline_declared c base) (numbers_in k t)
+unfolding rows_declared numbers_in
+chunks-declared c base zero t = refl
+chunks-declared c base (suc k) t = rw (row-numbers t, chunks-declared c base k (drop style_width t))
+
+-- and that their contents can be counted from `base` on
+chunks-shiftable : (base k : ℕ) (t : List ℕ) → All (Shiftable base) (numbers_in k t) → All (λ (row : List ℕ). Shiftable base (numbers_at row)) (first_chunks style_width k t)
+unfolding numbers_in
+chunks-shiftable base zero t a = tt
+chunks-shiftable base (suc k) t a = (rw (row-numbers t) a.0, chunks-shiftable base k (drop style_width t) a.1)
 
 -- ---- the styles of an attribute, from their rows
 module _ (base : ℕ) where
@@ -188,8 +194,8 @@ module _ (c : Cascade) (base : ℕ) where
 
   -- what the rows of styles declare
   pub rows-placed : (ds : List StyleDecl) (f : ℕ) (t : List ℕ)
-      → rows_declared c base (length ds) (style_rows f ds ++ t) ≡ late_declared c (map (attribute_style true) (placed_styles (base + f) ds))
-  unfolding rows_declared numbers_in style_rows rows_many placed_styles style_row
+      → map (inline_declared c base) (numbers_in (length ds) (style_rows f ds ++ t)) ≡ late_declared c (map (attribute_style true) (placed_styles (base + f) ds))
+  unfolding numbers_in style_rows rows_many placed_styles style_row
   rows-placed [] f t = sym (late-none c)
   rows-placed (d ∷ ds) f t =
       let g = f + length (style_text d) in
@@ -234,19 +240,40 @@ module _ (base fill : ℕ) (s rules tokens brackets texts : List ℕ) (o : Value
       ap (λ (l : Leaves StylesRead). l.tokens) e
       ∙ sets-drop (wiped 0 (token_width * (used_rules false s).tokens) tokens) 0 (style_rows fill (style_attribute s)) rows-room
 
-  -- what is asked of them
-  pub style-rows : InlineRows base r.count x
-  style-rows =
-      let n = count-is in
-      record {
-        few = omega (arith, styles-count s, o.bits);
-        shiftable = rw (n, rows_are) (rows-shiftable base (style_attribute s) fill _ (omega (arith, style-short s, o.bits)));
-      }
+  -- they are as many numbers as the styles' rows have
+  rows-long : length (style_rows fill (style_attribute s)) ≡ style_width * r.count
+  rows-long = length-styles fill (style_attribute s) ∙ ap (λ (n : ℕ). style_width * n) (sym count-is)
 
-  -- what they declare is what the attribute says
-  pub style-merged : (c : Cascade) (out out' : List ℕ) → out' ≡ merged_row c out (rows_declared c base r.count x)
-      → out' ≡ merged_row c out (late_declared c (map (attribute_style true) (placed_styles (base + fill) (style_attribute s))))
-  style-merged c out out' p = p ∙ ap (merged_row c out) (rw (count-is, rows_are) (rows-placed c base (style_attribute s) fill _))
+  -- which lie in the store
+  pub rows-in : style_width * r.count ≤ length x
+  rows-in = omega (arith, ap length rows_are, length-append (style_rows fill (style_attribute s)) (drop (0 + length (style_rows fill (style_attribute s))) (wiped 0 (token_width * (used_rules false s).tokens) tokens)), rows-long)
+
+  -- so they can be counted
+  pub rows-few : style_width * r.count < 2 ^ 64
+  rows-few = omega (arith, count-is, styles-count s, o.bits)
+
+  -- a row for each style
+  pub rows-counted : length (take (style_width * r.count) x) / style_width ≡ r.count
+  rows-counted = omega (arith, length-take-le (style_width * r.count) x rows-in)
+
+  -- the part of the store that they are
+  part-is : take (style_width * r.count) x ≡ style_rows fill (style_attribute s) ++ []
+  part-is = ap (take (style_width * r.count)) rows_are ∙ take_at (style_rows fill (style_attribute s)) _ (style_width * r.count) rows-long ∙ sym (append-nil (style_rows fill (style_attribute s)))
+
+  -- split into rows
+  module _ {rows : List (List ℕ)} {n : ℕ} (en : n ≡ r.count) (er : rows ≡ first_chunks style_width n (take (style_width * r.count) x)) where
+    rows-of : rows ≡ first_chunks style_width (length (style_attribute s)) (style_rows fill (style_attribute s) ++ [])
+    rows-of = er ∙ rw (en ∙ count-is, part-is) refl
+
+    -- what is asked of them
+    pub style-rows : InlineRows base rows
+    style-rows =
+        record { shiftable = rw rows-of (chunks-shiftable base (length (style_attribute s)) _ (rows-shiftable base (style_attribute s) fill [] (omega (arith, style-short s, o.bits)))) }
+
+    -- what they declare is what the attribute says
+    pub style-merged : (c : Cascade) (out out' : List ℕ) → out' ≡ merged_row c out (rows_declared c base rows)
+        → out' ≡ merged_row c out (late_declared c (map (attribute_style true) (placed_styles (base + fill) (style_attribute s))))
+    style-merged c out out' p = p ∙ ap (merged_row c out) (ap (rows_declared c base) rows-of ∙ chunks-declared c base (length (style_attribute s)) _ ∙ rows-placed c base (style_attribute s) fill [])
 
   -- the fill behind the contents fits
   pub fill-fits : fill + r.text < 2 ^ 64

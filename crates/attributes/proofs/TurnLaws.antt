@@ -1,8 +1,8 @@
 -- The attributes of an element, one after the other: `merge_attributes` and `merge_colours`.
 use Prim.Native.Nat.{ℕ, suc, ◌+◌, ◌-◌, ◌≤◌, ◌<◌}
 use mathlib.Core.Bool.{false}
-use mathlib.Core.List.{List, [], ◌∷◌, ◌++◌, map, append_assoc, append-nil}
-use mathlib.Core.Path.{◌≡◌, refl, sym, ap, ap₂, ◌∙◌}
+use mathlib.Core.List.{List, [], ◌∷◌, ◌++◌, map, append_assoc, append-nil, map-append}
+use mathlib.Core.Path.{◌≡◌, refl, sym, ap, ◌∙◌}
 use native.Mathlib.Nat.{add-zero}
 use native.Mathlib.Omega.{arith}
 use lib.ListN.{length, take, length-append}
@@ -10,7 +10,7 @@ use Rattle.syntax.specs.Stream.{texts_many}
 use Rattle.syntax.specs.declared.styles.Value.{Value}
 use Rattle.cascade.specs.declared.slots.Cascade.{Cascade}
 use Rattle.cascade.specs.declared.slots.Cascade.TheVariants.{Crate, Book}
-use Rattle.cascade.specs.Record.{AttributeStyle, from_attribute, colour_attributes}
+use Rattle.cascade.specs.Record.{from_attribute, colour_attributes}
 use Rattle.cascade.specs.Specificity.{no_specificity}
 use Rattle.page.specs.Path.{Attribute}
 use Rattle.page.specs.PathOf.{attributes_from}
@@ -18,13 +18,13 @@ use Rattle.page.specs.Rows.{attribute_name, attribute_value}
 use Rattle.matching.specs.Rows.{attribute_of}
 use Rattle.values.specs.Layout.{Room}
 use Rattle.combinators.specs.declared.lent.Stores.{Stores}
-use Rattle.combinators.specs.Lent.{SameStores, SameLengths}
+use Rattle.combinators.specs.Lent.{KeptStores}
 use Rattle.styles.specs.Said.{attribute_says}
 use Rattle.styles.specs.Room.{values_of}
 use Rattle.styles.specs.StyleCall.{attribute_contents, attributes_contents, placed_styles, placed_attributes}
 use Rattle.styles.specs.Merged.{merged_row, early_declared, late_declared}
-use Rattle.styles.proofs.KeptStores.{stores-stay, lengths-stay, stores-kept, lengths-kept}
-use Rattle.styles.proofs.Merging.{merged-none, merged-append, late-none, late-append, early-append}
+use Rattle.styles.proofs.KeptStores.{kept-stay, kept-on}
+use Rattle.styles.proofs.Merging.{merged-none, merged-append, late-none, late-append, colours-append}
 use Rattle.styles.proofs.Room.{attribute-short}
 use Rattle.attributes.specs.Merging.{InlineRoom, ValueRoom, attribute_colours, colours_say}
 use Rattle.attributes.proofs.AttributeLaws.{early-colours}
@@ -68,31 +68,24 @@ early-room xs base fill rules tokens brackets texts o =
     record { for-rules = o.for-tokens; for-tokens = o.for-tokens; for-brackets = o.for-brackets; for-texts = o.for-texts; bits = omega (arith, o.bits) }
 
 -- ---- attributes from a row on
-module _ (attributes names : List ℕ) (at count : ℕ) where
+module _ (attributes names : List ℕ) (count : ℕ) where
   -- those from the i-th on
   abbrev pub behind : ℕ → List Attribute
-  behind i = attributes_from attributes names (count - i) (at + i)
+  behind i = attributes_from attributes names (count - i) i
 
   -- from the first attribute on there are all of them
-  all-behind : behind 0 ≡ attributes_from attributes names count at
-  all-behind =
-      let n : count - 0 ≡ count = omega arith in
-      let k : at + 0 ≡ at = omega arith in
-      ap₂ (attributes_from attributes names) n k
+  all-behind : behind 0 ≡ attributes_from attributes names count 0
+  all-behind = let n : count - 0 ≡ count = omega arith in ap (λ (k : ℕ). attributes_from attributes names k 0) n
 
   -- behind the last attribute there is none
   none-behind : (i : ℕ) → count ≤ i → behind i ≡ []
   unfolding attributes_from
-  none-behind i h = let z : count - i ≡ 0 = omega arith in ap (λ (k : ℕ). attributes_from attributes names k (at + i)) z
+  none-behind i h = let z : count - i ≡ 0 = omega arith in ap (λ (k : ℕ). attributes_from attributes names k i) z
 
   -- one, and those behind it
-  more-behind : (i : ℕ) → i < count → behind i ≡ attribute_of attributes names (at + i) ∷ behind (i + 1)
+  more-behind : (i : ℕ) → i < count → behind i ≡ attribute_of attributes names i ∷ behind (i + 1)
   unfolding attributes_from attribute_of
-  more-behind i h =
-      let z : count - i ≡ suc (count - (i + 1)) = omega arith in
-      let y : at + i + 1 ≡ at + (i + 1) = omega arith in
-      ap (λ (k : ℕ). attributes_from attributes names k (at + i)) z
-      ∙ ap (λ (k : ℕ). attribute_of attributes names (at + i) ∷ attributes_from attributes names (count - (i + 1)) k) y
+  more-behind i h = let z : count - i ≡ suc (count - (i + 1)) = omega arith in ap (λ (k : ℕ). attributes_from attributes names k i) z
 
 -- ---- what they say behind the author's rules
 module _ (c : Cascade) (base : ℕ) where
@@ -122,43 +115,41 @@ contents-none : attributes_contents [] ≡ []
 unfolding attributes_contents texts_many
 contents-none = refl
 
-module _ (attributes names : List ℕ) (at count : ℕ) (c : Cascade) (base fill : ℕ) (out₀ : List ℕ) (s₀ : Stores) where
+module _ (attributes names : List ℕ) (count : ℕ) (c : Cascade) (base fill : ℕ) (out₀ : List ℕ) (s₀ : Stores) where
   -- before the i-th attribute: what is left leads to the row and the texts that all lead to
   pub record Turn (f i : ℕ) (out : List ℕ) (s : Stores) : Type 0 where
     pub within_count : i ≤ count
-    pub room : InlineRoom (behind attributes names at count i) base f s.rules.now s.tokens.now s.brackets.now s.texts.now
-    pub lengths : SameLengths s₀ s
-    pub same : SameStores s₀ s
-    pub row : merged_row c out (late_declared c (placed_attributes (base + f) (behind attributes names at count i)))
-        ≡ merged_row c out₀ (late_declared c (placed_attributes (base + fill) (attributes_from attributes names count at)))
-    pub fills : f + length (attributes_contents (behind attributes names at count i)) ≡ fill + length (attributes_contents (attributes_from attributes names count at))
-    pub lies : take f s.texts.now ++ attributes_contents (behind attributes names at count i) ≡ take fill s₀.texts.now ++ attributes_contents (attributes_from attributes names count at)
+    pub room : InlineRoom (behind attributes names count i) base f s.rules.now s.tokens.now s.brackets.now s.texts.now
+    pub kept : KeptStores s₀ s
+    pub row : merged_row c out (late_declared c (placed_attributes (base + f) (behind attributes names count i)))
+        ≡ merged_row c out₀ (late_declared c (placed_attributes (base + fill) (attributes_from attributes names count 0)))
+    pub fills : f + length (attributes_contents (behind attributes names count i)) ≡ fill + length (attributes_contents (attributes_from attributes names count 0))
+    pub lies : take f s.texts.now ++ attributes_contents (behind attributes names count i) ≡ take fill s₀.texts.now ++ attributes_contents (attributes_from attributes names count 0)
 
-module _ (attributes names : List ℕ) (at count : ℕ) (c : Cascade) (base fill : ℕ) (out₀ : List ℕ) (s₀ : Stores) where
+module _ (attributes names : List ℕ) (count : ℕ) (c : Cascade) (base fill : ℕ) (out₀ : List ℕ) (s₀ : Stores) where
   -- before the first attribute everything is as it was lent
-  pub turn-begin : InlineRoom (attributes_from attributes names count at) base fill s₀.rules.now s₀.tokens.now s₀.brackets.now s₀.texts.now
-      → Turn attributes names at count c base fill out₀ s₀ fill 0 out₀ s₀
+  pub turn-begin : InlineRoom (attributes_from attributes names count 0) base fill s₀.rules.now s₀.tokens.now s₀.brackets.now s₀.texts.now
+      → Turn attributes names count c base fill out₀ s₀ fill 0 out₀ s₀
   turn-begin o =
-      let e = all-behind attributes names at count in
+      let e = all-behind attributes names count in
       record {
         within_count = omega arith;
         room = rw e o;
-        lengths = lengths-stay s₀;
-        same = stores-stay s₀;
+        kept = kept-stay s₀;
         row = rw e;
         fills = rw e;
         lies = rw e;
       }
 
-  module _ (f i : ℕ) (out : List ℕ) (s : Stores) (v : Turn attributes names at count c base fill out₀ s₀ f i out s) where
+  module _ (f i : ℕ) (out : List ℕ) (s : Stores) (v : Turn attributes names count c base fill out₀ s₀ f i out s) where
     -- behind the last attribute all are merged, and all contents lie behind the fill
     pub turn_end : count ≤ i
-        → (out ≡ merged_row c out₀ (late_declared c (placed_attributes (base + fill) (attributes_from attributes names count at))))
-        × ((f ≡ fill + length (attributes_contents (attributes_from attributes names count at)))
-        × (take f s.texts.now ≡ take fill s₀.texts.now ++ attributes_contents (attributes_from attributes names count at)))
+        → (out ≡ merged_row c out₀ (late_declared c (placed_attributes (base + fill) (attributes_from attributes names count 0))))
+        × ((f ≡ fill + length (attributes_contents (attributes_from attributes names count 0)))
+        × (take f s.texts.now ≡ take fill s₀.texts.now ++ attributes_contents (attributes_from attributes names count 0)))
     turn_end h =
-        let z = none-behind attributes names at count i h in
-        let n : attributes_contents (behind attributes names at count i) ≡ [] = ap attributes_contents z ∙ contents-none in (
+        let z = none-behind attributes names count i h in
+        let n : attributes_contents (behind attributes names count i) ≡ [] = ap attributes_contents z ∙ contents-none in (
           sym (ap (λ (l : List Attribute). merged_row c out (late_declared c (placed_attributes (base + f) l))) z ∙ late-done c base f out) ∙ v.row,
           (
             sym (add-zero f) ∙ ap (λ (l : List ℕ). f + length l) (sym n) ∙ v.fills,
@@ -168,31 +159,30 @@ module _ (attributes names : List ℕ) (at count : ℕ) (c : Cascade) (base fill
 
     module _ (h : i < count) where
       -- there is room for it and those behind it
-      next-room : InlineRoom (attribute_of attributes names (at + i) ∷ behind attributes names at count (i + 1)) base f s.rules.now s.tokens.now s.brackets.now s.texts.now
-      next-room = rw (more-behind attributes names at count i h) at v.room
+      next-room : InlineRoom (attribute_of attributes names i ∷ behind attributes names count (i + 1)) base f s.rules.now s.tokens.now s.brackets.now s.texts.now
+      next-room = rw (more-behind attributes names count i h) at v.room
 
       -- there is room for its value
-      pub turn-room : ValueRoom (length (attribute_value attributes names (at + i))) base f s.rules.now s.tokens.now s.brackets.now s.texts.now
+      pub turn-room : ValueRoom (length (attribute_value attributes names i)) base f s.rules.now s.tokens.now s.brackets.now s.texts.now
       unfolding attribute_of
       turn-room = room-first _ _ base f s.rules.now s.tokens.now s.brackets.now s.texts.now next-room
 
       -- a turn: what the attribute says is merged, and its contents are kept
       pub turn-next : (f' : ℕ) (out' : List ℕ) (s' : Stores)
-          → out' ≡ merged_row c out (late_declared c (attribute_says (placed_styles (base + f)) (attribute_of attributes names (at + i))))
-          → f' ≡ f + length (attribute_contents (attribute_of attributes names (at + i)))
-          → take f' s'.texts.now ≡ take f s.texts.now ++ attribute_contents (attribute_of attributes names (at + i))
-          → SameLengths s s' → SameStores s s'
-          → Turn attributes names at count c base fill out₀ s₀ f' (i + 1) out' s'
-      turn-next f' out' s' p q w l z =
-          let a = attribute_of attributes names (at + i) in
-          let xs = behind attributes names at count (i + 1) in
-          let m = more-behind attributes names at count i h in
-          let e : attributes_contents (behind attributes names at count i) ≡ attribute_contents a ++ attributes_contents xs = ap attributes_contents m ∙ contents-more a xs in
+          → out' ≡ merged_row c out (late_declared c (attribute_says (placed_styles (base + f)) (attribute_of attributes names i)))
+          → f' ≡ f + length (attribute_contents (attribute_of attributes names i))
+          → take f' s'.texts.now ≡ take f s.texts.now ++ attribute_contents (attribute_of attributes names i)
+          → KeptStores s s'
+          → Turn attributes names count c base fill out₀ s₀ f' (i + 1) out' s'
+      turn-next f' out' s' p q w l =
+          let a = attribute_of attributes names i in
+          let xs = behind attributes names count (i + 1) in
+          let m = more-behind attributes names count i h in
+          let e : attributes_contents (behind attributes names count i) ≡ attribute_contents a ++ attributes_contents xs = ap attributes_contents m ∙ contents-more a xs in
           record {
             within_count = omega arith;
-            room = room_next a xs base f s.rules.now s.tokens.now s.brackets.now s.texts.now next-room f' s'.rules.now s'.tokens.now s'.brackets.now s'.texts.now (omega arith) l.rules l.tokens l.brackets l.texts;
-            lengths = lengths-kept _ _ _ v.lengths l;
-            same = stores-kept _ _ _ v.same z;
+            room = room_next a xs base f s.rules.now s.tokens.now s.brackets.now s.texts.now next-room f' s'.rules.now s'.tokens.now s'.brackets.now s'.texts.now (omega arith) l.lengths.rules l.lengths.tokens l.lengths.brackets l.lengths.texts;
+            kept = kept-on _ _ _ v.kept l;
             row =
                 rw (p, q) (sym (late-more c base f a xs out))
                 ∙ sym (ap (λ (l : List Attribute). merged_row c out (late_declared c (placed_attributes (base + f) l))) m) ∙ v.row;
@@ -203,16 +193,6 @@ module _ (attributes names : List ℕ) (at count : ℕ) (c : Cascade) (base fill
           }
 
 -- ---- what they say before the author's rules
--- some colours, and those behind them
-map-append : {A B : Type 0} (g : A → B) (xs ys : List A) → map g (xs ++ ys) ≡ map g xs ++ map g ys
-map-append g [] ys = refl
-map-append g (x ∷ xs) ys = rw (map-append g xs ys)
-
--- the colours among styles, and among those behind them
-colours-append : (us vs : List (AttributeStyle Value)) → colour_attributes (us ++ vs) ≡ colour_attributes us ++ colour_attributes vs
-unfolding early_declared
-colours-append us vs = early-append Book us vs
-
 -- the colours of attributes, wherever their contents lie
 colours-placed : (xs : List Attribute) (f : ℕ) → colour_attributes (placed_attributes f xs) ≡ map (from_attribute false no_specificity) (colours_say xs)
 unfolding placed_attributes colour_attributes colours_say
@@ -233,47 +213,45 @@ pub early-crate : (c : Cascade) (xs : List Attribute) (out : List ℕ) → c ≡
 unfolding early_declared
 early-crate c xs out e f = sym (merged-none c out) ∙ rw e
 
-module _ (attributes names : List ℕ) (at count : ℕ) (c : Cascade) (fill : ℕ) (out₀ : List ℕ) (s₀ : Stores) where
+module _ (attributes names : List ℕ) (count : ℕ) (c : Cascade) (fill : ℕ) (out₀ : List ℕ) (s₀ : Stores) where
   -- before the i-th attribute: the colours that are left lead to the row that all lead to
   pub record ColourTurn (i : ℕ) (out : List ℕ) (s : Stores) : Type 0 where
     pub within_count : i ≤ count
-    pub room : InlineRoom (behind attributes names at count i) 0 fill s.tokens.now s.tokens.now s.brackets.now s.texts.now
+    pub room : InlineRoom (behind attributes names count i) 0 fill s.tokens.now s.tokens.now s.brackets.now s.texts.now
     pub rules : s.rules.now ≡ s₀.rules.now
-    pub lengths : SameLengths s₀ s
-    pub same : SameStores s₀ s
-    pub row : merged_row c out (map (from_attribute false no_specificity) (colours_say (behind attributes names at count i)))
-        ≡ merged_row c out₀ (map (from_attribute false no_specificity) (colours_say (attributes_from attributes names count at)))
+    pub kept : KeptStores s₀ s
+    pub row : merged_row c out (map (from_attribute false no_specificity) (colours_say (behind attributes names count i)))
+        ≡ merged_row c out₀ (map (from_attribute false no_specificity) (colours_say (attributes_from attributes names count 0)))
     pub lies : take fill s.texts.now ≡ take fill s₀.texts.now
 
-module _ (attributes names : List ℕ) (at count : ℕ) (c : Cascade) (fill : ℕ) (out₀ : List ℕ) (s₀ : Stores) where
+module _ (attributes names : List ℕ) (count : ℕ) (c : Cascade) (fill : ℕ) (out₀ : List ℕ) (s₀ : Stores) where
   -- before the first attribute everything is as it was lent
-  pub colours-begin : InlineRoom (attributes_from attributes names count at) 0 fill s₀.tokens.now s₀.tokens.now s₀.brackets.now s₀.texts.now
-      → ColourTurn attributes names at count c fill out₀ s₀ 0 out₀ s₀
+  pub colours-begin : InlineRoom (attributes_from attributes names count 0) 0 fill s₀.tokens.now s₀.tokens.now s₀.brackets.now s₀.texts.now
+      → ColourTurn attributes names count c fill out₀ s₀ 0 out₀ s₀
   colours-begin o =
-      let e = all-behind attributes names at count in
+      let e = all-behind attributes names count in
       record {
         within_count = omega arith;
         room = rw e o;
         rules = refl;
-        lengths = lengths-stay s₀;
-        same = stores-stay s₀;
+        kept = kept-stay s₀;
         row = rw e;
         lies = refl;
       }
 
-  module _ (i : ℕ) (out : List ℕ) (s : Stores) (v : ColourTurn attributes names at count c fill out₀ s₀ i out s) where
+  module _ (i : ℕ) (out : List ℕ) (s : Stores) (v : ColourTurn attributes names count c fill out₀ s₀ i out s) where
     -- behind the last attribute all colours are merged, and the texts up to the fill are as they were
     pub colours-end : count ≤ i
-        → (out ≡ merged_row c out₀ (map (from_attribute false no_specificity) (colours_say (attributes_from attributes names count at)))) × (take fill s.texts.now ≡ take fill s₀.texts.now)
+        → (out ≡ merged_row c out₀ (map (from_attribute false no_specificity) (colours_say (attributes_from attributes names count 0)))) × (take fill s.texts.now ≡ take fill s₀.texts.now)
     unfolding colours_say
     colours-end h =
-        let z = none-behind attributes names at count i h in
+        let z = none-behind attributes names count i h in
         (sym (ap (λ (l : List Attribute). merged_row c out (map (from_attribute false no_specificity) (colours_say l))) z ∙ merged-none c out) ∙ v.row, v.lies)
 
-    module _ (h : i < count) (name value : List ℕ) (en : name ≡ attribute_name attributes names (at + i)) (ev : value ≡ attribute_value attributes names (at + i)) where
+    module _ (h : i < count) (name value : List ℕ) (en : name ≡ attribute_name attributes names i) (ev : value ≡ attribute_value attributes names i) where
       -- there is room for it and those behind it
-      colours-behind : InlineRoom (attribute_of attributes names (at + i) ∷ behind attributes names at count (i + 1)) 0 fill s.tokens.now s.tokens.now s.brackets.now s.texts.now
-      colours-behind = rw (more-behind attributes names at count i h) at v.room
+      colours-behind : InlineRoom (attribute_of attributes names i ∷ behind attributes names count (i + 1)) 0 fill s.tokens.now s.tokens.now s.brackets.now s.texts.now
+      colours-behind = rw (more-behind attributes names count i h) at v.room
 
       -- there is room for its value
       pub colours-room : Room (length value) fill s.tokens.now s.brackets.now s.texts.now
@@ -286,24 +264,23 @@ module _ (attributes names : List ℕ) (at count : ℕ) (c : Cascade) (fill : �
       -- with the colour of the next attribute merged, those behind it are left
       pub colours-next : (out' : List ℕ) (s' : Stores)
           → out' ≡ merged_row c out (map (from_attribute false no_specificity) (attribute_colours (record { name = name; value = value })))
-          → take fill s'.texts.now ≡ take fill s.texts.now → s'.rules.now ≡ s.rules.now → SameLengths s s' → SameStores s s'
-          → ColourTurn attributes names at count c fill out₀ s₀ (i + 1) out' s'
+          → take fill s'.texts.now ≡ take fill s.texts.now → s'.rules.now ≡ s.rules.now → KeptStores s s'
+          → ColourTurn attributes names count c fill out₀ s₀ (i + 1) out' s'
       unfolding colours_say attribute_of
-      colours-next out' s' p w u l z =
-          let a = attribute_of attributes names (at + i) in
-          let xs = behind attributes names at count (i + 1) in
-          let m = more-behind attributes names at count i h in
+      colours-next out' s' p w u l =
+          let a = attribute_of attributes names i in
+          let xs = behind attributes names count (i + 1) in
+          let m = more-behind attributes names count i h in
           let g = from_attribute {A = Value} false no_specificity in
-          let k : merged_row c out (map g (colours_say (behind attributes names at count i))) ≡ merged_row c (merged_row c out (map g (attribute_colours a))) (map g (colours_say xs)) =
+          let k : merged_row c out (map g (colours_say (behind attributes names count i))) ≡ merged_row c (merged_row c out (map g (attribute_colours a))) (map g (colours_say xs)) =
           ap (λ (l : List Attribute). merged_row c out (map g (colours_say l))) m ∙ ap (merged_row c out) (map-append g (attribute_colours a) (colours_say xs))
           ∙ merged-append c out (map g (attribute_colours a)) (map g (colours_say xs))
           in
           record {
             within_count = omega arith;
-            room = room_next a xs 0 fill s.tokens.now s.tokens.now s.brackets.now s.texts.now colours-behind fill s'.tokens.now s'.tokens.now s'.brackets.now s'.texts.now (omega arith) l.tokens l.tokens l.brackets l.texts;
+            room = room_next a xs 0 fill s.tokens.now s.tokens.now s.brackets.now s.texts.now colours-behind fill s'.tokens.now s'.tokens.now s'.brackets.now s'.texts.now (omega arith) l.lengths.tokens l.lengths.tokens l.lengths.brackets l.lengths.texts;
             rules = u ∙ v.rules;
-            lengths = lengths-kept _ _ _ v.lengths l;
-            same = stores-kept _ _ _ v.same z;
+            kept = kept-on _ _ _ v.kept l;
             row = rw (p, en, ev) (sym k) ∙ v.row;
             lies = w ∙ v.lies;
           }

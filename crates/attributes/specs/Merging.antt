@@ -1,10 +1,11 @@
 -- What is asked of the stores that attributes are read into, and what `style`, `color` and `bgcolor` give a row.
-use Rattle.std.specs.Prelude.{ℕ, zero, suc, ◌+◌, ◌*◌, ◌^◌, ◌≤◌, ◌<◌, Bool, true, false, List, [], ◌∷◌, ◌++◌, map, ◌≡◌, length, drop}
+use Rattle.std.specs.Prelude.{ℕ, ◌+◌, ◌*◌, ◌^◌, ◌≤◌, ◌<◌, Bool, true, false, List, [], ◌∷◌, ◌++◌, map, ◌≡◌, length}
 use Rattle.combinators.specs.All.{All}
 use Rattle.combinators.specs.Choice.{pick, is}
 use Rattle.combinators.specs.LeastLengths.{bracket_least, number_least}
+use Rattle.combinators.specs.declared.lent.Stores.{Stores}
 use Rattle.characters.specs.Literal.{text}
-use Rattle.syntax.specs.Layout.{colour_number, colour_slot, background_slot, content_slot, style_width, numbers_at}
+use Rattle.syntax.specs.Layout.{colour_number, colour_slot, background_slot, content_slot, numbers_at}
 use Rattle.syntax.specs.declared.styles.Value.{Value}
 use Rattle.syntax.specs.declared.styles.StyleNumbers.{StyleNumbers}
 use Rattle.cascade.specs.declared.slots.Cascade.{Cascade}
@@ -35,6 +36,16 @@ pub record ValueRoom (n base fill : ℕ) (rules tokens brackets texts : List ℕ
   pub for-texts : fill + n + 2 ≤ length texts
   pub bits : base + fill + n + 2 < 2 ^ 32
 
+-- the same of stores that are lent; colours are read without rules, so that the tokens stand for both
+abbrev pub InlineRoomOf : List Attribute → ℕ → ℕ → Stores → Type 0
+InlineRoomOf xs base fill a = InlineRoom xs base fill a.rules.now a.tokens.now a.brackets.now a.texts.now
+
+abbrev pub ColoursRoomOf : List Attribute → ℕ → Stores → Type 0
+ColoursRoomOf xs fill a = InlineRoom xs 0 fill a.tokens.now a.tokens.now a.brackets.now a.texts.now
+
+abbrev pub ValueRoomOf : ℕ → ℕ → ℕ → Stores → Type 0
+ValueRoomOf n base fill a = ValueRoom n base fill a.rules.now a.tokens.now a.brackets.now a.texts.now
+
 -- ---- a style of a `style` attribute as it is merged: "Inline `!important` counts as important" in the book order alone; a content's start counts from `base` on
 unfoldable pub inline_important : Cascade → Bool → Bool
 inline_important Crate i = false
@@ -57,19 +68,13 @@ pub record Shiftable (base : ℕ) (x : StyleNumbers) : Type 0 where
   pub small : base < 2 ^ 32
   pub fits : x.slot ≡ content_slot → base + x.value.number < 2 ^ 32
 
--- the styles in numbers of the first k style rows
-unfoldable pub numbers_in : ℕ → List ℕ → List StyleNumbers
-numbers_in zero t = []
-numbers_in (suc k) t = numbers_at t ∷ numbers_in k (drop style_width t)
-
--- what the first k style rows declare, as styles of a `style` attribute
-unfoldable pub rows_declared : Cascade → ℕ → ℕ → List ℕ → List (Declared Value)
-rows_declared c base k t = map (inline_declared c base) (numbers_in k t)
+-- what style rows declare, as styles of a `style` attribute
+unfoldable pub rows_declared : Cascade → ℕ → List (List ℕ) → List (Declared Value)
+rows_declared c base rows = map (λ (row : List ℕ). inline_declared c base (numbers_at row)) rows
 
 -- what is asked of these rows
-pub record InlineRows (base k : ℕ) (t : List ℕ) : Type 0 where
-  pub few : style_width * k < 2 ^ 64
-  pub shiftable : All (Shiftable base) (numbers_in k t)
+pub record InlineRows (base : ℕ) (rows : List (List ℕ)) : Type 0 where
+  pub shiftable : All (λ (row : List ℕ). Shiftable base (numbers_at row)) rows
 
 -- ---- what an attribute `color` or `bgcolor` gives its slot: S-3: "for `color` and `bgcolor` it is 0", the start
 abbrev pub colour_value : ℕ → Value

@@ -5,7 +5,7 @@
 ghost use Rattle.std.specs.Prelude.{◌≡◌, false, map, length, take};
 ghost use Rattle.values.specs.Layout.{Room};
 ghost use Rattle.cascade.specs.Record.{from_attribute};
-ghost use Rattle.combinators.specs.Lent.{SameStores, SameLengths};
+ghost use Rattle.combinators.specs.Lent.{KeptStores};
 ghost use Rattle.styles.specs.Merged.{merged_row};
 ghost use Rattle.attributes.specs.Merging.{colour_says, attribute_colours};
 
@@ -13,14 +13,13 @@ use cascade::rows::{MAIN, StyleRow, merge_computed_style};
 use cascade::slots::Cascade;
 use cascade::specificity::Specificity;
 use combinators::lent::Stores;
-use combinators::texts::same_text;
 use declarations::attributes::parse_color_attribute;
 use syntax::rows::{AUTHOR_ORIGIN, BACKGROUND_SLOT, COLOUR_SLOT};
 use syntax::styles::{StyleNumbers, Value};
 
-const COLOR_NAME: [u8; 5] = *b"color";
+const COLOR_NAME: &[u8] = b"color";
 
-const BGCOLOR_NAME: [u8; 7] = *b"bgcolor";
+const BGCOLOR_NAME: &[u8] = b"bgcolor";
 
 // The colour that an attribute's value names, if it names one, as an author's value for a slot of the element's own record.
 fn merge_colour(
@@ -36,8 +35,7 @@ fn merge_colour(
     ensures out_after { out.new ≡ merged_row cascade out.old (map (from_attribute false spec) (colour_says slot value.now)) }
     ensures texts_unchanged { take fill stores.new.texts.now ≡ take fill stores.old.texts.now }
     ensures rules_unchanged { stores.new.rules.now ≡ stores.old.rules.now }
-    ensures lengths { SameLengths stores.old stores.new }
-    ensures same { SameStores stores.old stores.new }
+    ensures kept { KeptStores stores.old stores.new }
 {
     if let Some(number) = parse_color_attribute(value, stores, fill) {
         let colour = Value {
@@ -54,7 +52,8 @@ fn merge_colour(
     }
 }
 
-// The colour of an attribute `color` or `bgcolor`; any other says nothing.
+// The colour of an attribute `color` or `bgcolor`; any other says nothing. Name and value come apart, as `page` reads them, and names are compared whole: of a `match` on the two texts
+// each byte would be a return of its own to prove.
 pub fn merge_colour_attribute(
     cascade: Cascade,
     spec: Specificity,
@@ -68,12 +67,11 @@ pub fn merge_colour_attribute(
     ensures out_after { out.new ≡ merged_row cascade out.old (map (from_attribute false spec) (attribute_colours (record { name = name.now; value = value.now }))) }
     ensures texts_unchanged { take fill stores.new.texts.now ≡ take fill stores.old.texts.now }
     ensures rules_unchanged { stores.new.rules.now ≡ stores.old.rules.now }
-    ensures lengths { SameLengths stores.old stores.new }
-    ensures same { SameStores stores.old stores.new }
+    ensures kept { KeptStores stores.old stores.new }
 {
-    if same_text(name, &COLOR_NAME) {
+    if name == COLOR_NAME {
         merge_colour(cascade, spec, COLOUR_SLOT, value, out, stores, fill);
-    } else if same_text(name, &BGCOLOR_NAME) {
+    } else if name == BGCOLOR_NAME {
         merge_colour(cascade, spec, BACKGROUND_SLOT, value, out, stores, fill);
     }
 }

@@ -4,9 +4,9 @@ ghost use Rattle.syntax.specs.Layout.{style_texts};
 ghost use Rattle.declarations.specs.Attribute.{style_attribute};
 ghost use Rattle.styles.specs.Said.{attribute_style};
 ghost use Rattle.styles.specs.StyleCall.{placed_styles};
-ghost use Rattle.combinators.specs.Lent.{SameStores, SameLengths};
+ghost use Rattle.combinators.specs.Lent.{KeptStores};
 ghost use Rattle.styles.specs.Merged.{merged_row, late_declared};
-ghost use Rattle.attributes.specs.Merging.{inline_important, shifted, inline_style, Shiftable, rows_declared, InlineRows, ValueRoom};
+ghost use Rattle.attributes.specs.Merging.{inline_important, shifted, inline_style, Shiftable, rows_declared, InlineRows, ValueRoomOf};
 
 use cascade::rows::{MAIN, StyleRow, merge_computed_style};
 use cascade::slots::Cascade;
@@ -54,20 +54,18 @@ fn inline_style(cascade: Cascade, base: usize, style: StyleNumbers) -> StyleNumb
     }
 }
 
-// The styles of the first `count` style rows, as an author's inline values for the element's own record. `count` is what reading
-// them answered; the store goes on behind them, and the length of a part cut by it would be divided to have it again.
+// The styles of style rows, as an author's inline values for the element's own record.
 fn merge_inline_styles(
     cascade: Cascade,
-    tokens: &[u32],
-    count: usize,
+    rows: &[[u32; STYLE_WIDTH]],
     base: usize,
     out: &mut StyleRow,
 )
-    requires { InlineRows base count tokens.now }
-    ensures { out.new ≡ merged_row cascade out.old (rows_declared cascade base count tokens.now) }
+    requires { InlineRows base rows.now }
+    ensures { out.new ≡ merged_row cascade out.old (rows_declared cascade base rows.now) }
 {
-    for i in 0..count {
-        let style = inline_style(cascade, base, style_at(tokens, STYLE_WIDTH * i));
+    for row in rows {
+        let style = inline_style(cascade, base, style_at(row, 0));
         merge_computed_style(
             out,
             cascade,
@@ -89,15 +87,14 @@ pub fn merge_style_attribute(
     stores: &mut Stores<'_>,
     fill: usize,
 ) -> usize
-    requires { ValueRoom (length value.now) base fill stores.old.rules.now stores.old.tokens.now stores.old.brackets.now stores.old.texts.now }
+    requires { ValueRoomOf (length value.now) base fill stores.old }
     ensures out_after { out.new ≡ merged_row cascade out.old (late_declared cascade (map (attribute_style true) (placed_styles (base + fill) (style_attribute value.now)))) }
     ensures value { result ≡ fill + length (style_texts (style_attribute value.now)) }
     ensures texts_after { take result stores.new.texts.now ≡ take fill stores.old.texts.now ++ style_texts (style_attribute value.now) }
-    ensures lengths { SameLengths stores.old stores.new }
-    ensures same { SameStores stores.old stores.new }
+    ensures kept { KeptStores stores.old stores.new }
 {
     let read = parse_style_attribute(value, stores, fill);
-    let rows = &mut *stores.tokens;
-    merge_inline_styles(cascade, rows, read.count, base, out);
+    let (rows, _) = stores.tokens[..STYLE_WIDTH * read.count].as_chunks();
+    merge_inline_styles(cascade, rows, base, out);
     fill + read.text
 }

@@ -10,7 +10,7 @@ use borrow.Author.Tests.{lt-ltb, ltb-true}
 use lib.Dec.{ltb}
 use Rattle.combinators.specs.All.{All}
 use Rattle.combinators.specs.Choice.{pick, is}
-use Rattle.combinators.proofs.Rules.{never, pick_true, pick-false, pick-holds, either, or_left, is_true, is_false, same_test, lt-or-ge}
+use Rattle.combinators.proofs.Rules.{never, pick_true, pick-false, pick-holds, either, or_left, is_true, is_false, same_test, lt-or-ge, or-second, Exactly}
 use Rattle.combinators.proofs.AllLaws.{all_weaker, all_both}
 use Rattle.syntax.specs.Style.{agent_origin, user_origin, author_origin}
 use Rattle.cascade.specs.declared.specificity.Specificity.{Specificity}
@@ -18,13 +18,8 @@ use Rattle.cascade.specs.declared.slots.Weight.{Weight}
 use Rattle.cascade.specs.Specificity.{LessSpecific, by-inline, by-id, by-class, by-type}
 use Rattle.cascade.specs.Slot.{Candidate, Slot, empty, held, held_by_importance, held_by_origin, held_against, maybe_update, important_agent, rank, rank_of, weaker, held_in_book, book_update}
 use Rattle.cascade.specs.Agreeing.{KnownOrigin, DecidedAlike, EachPair, AllDecidedAlike}
-use Rattle.cascade.proofs.Cascading.{or-second}
 use Rattle.cascade.proofs.Defaulting.{takes, takes-won}
 use Rattle.cascade.proofs.Orders.{then-lower, then-higher, then_equal, then-true, less-says, less-said}
-
--- each of the two follows from the other
-abbrev pub Exactly : Type 0 → Type 0 → Type 0
-Exactly P Q = (P → Q) × (Q → P)
 
 -- ---- ranks by numbers
 

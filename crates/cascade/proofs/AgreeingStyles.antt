@@ -8,8 +8,8 @@ use Prim.Native.Nat.{ℕ, ◌≤◌, ◌<◌}
 use native.Mathlib.Omega.{arith}
 use Rattle.combinators.specs.All.{All}
 use Rattle.combinators.specs.Choice.{pick, or, and, is}
-use Rattle.combinators.proofs.Rules.{never, pick_true, pick-false, pick-holds, or-false, or-none, or-gives, or_assoc, and_both, and_left, and_right, and-true, is-yes, is-no, is_true}
-use Rattle.combinators.proofs.AllLaws.{all_append, all_map, all_weaker, all_both}
+use Rattle.combinators.proofs.Rules.{never, pick_true, pick-false, pick-holds, or-false, or-none, or-gives, or_assoc, and_both, and_left, and_right, and-true, is-yes, is-no, is_true, neither, or-second}
+use Rattle.combinators.proofs.AllLaws.{all_append, all_map, all_weaker, all_both, of-all}
 use Rattle.syntax.specs.Style.{agent_origin, user_origin, author_origin}
 use Rattle.cascade.specs.declared.specificity.Specificity.{Specificity}
 use Rattle.cascade.specs.Specificity.{no_specificity, inline_specificity, LessSpecific}
@@ -20,20 +20,9 @@ use Rattle.cascade.specs.Record.{slot_count, record_count, main_record, Record, 
 use Rattle.cascade.specs.Agreeing.{KnownOrigin, AllDecidedAlike, CountedAlike, declared_for, SaidAlike, NoneDeclared, Replaces, ReplacesAll, InheritedAlike, NotInherited, no_record, NormalAuthor, NotLessSpecific, AuthorDown, AgreesDown}
 use Rattle.cascade.proofs.RowLaws.{Which, is_main, is_before, is_after, which}
 use Rattle.cascade.proofs.Merging.{named}
-use Rattle.cascade.proofs.Cascading.{or-second, in-main, crate-folds, cascade-main-present}
+use Rattle.cascade.proofs.Cascading.{in-main, crate-folds, cascade-main-present}
 use Rattle.cascade.proofs.Defaulting.{takes, takes_none, takes-empty, takes-won, candidates-append, present-after, book-main-slot, book-present, book-pseudo-slot}
 use Rattle.cascade.proofs.Agreeing.{Replaced, same-slot, slot-inherits, author-replaces, one-origin}
-
--- what holds of every value holds of those of a list
-of-all : {A : Type 0} (P : A → Type 0) → ((a : A) → P a) → (l : List A) → All P l
-of-all P f [] = tt
-of-all P f (a ∷ l) = (f a, of-all P f l)
-
--- where `or` of two tests fails, both do
-neither : (a b : Bool) → or a b ≡ false → (a ≡ false) × (b ≡ false)
-unfolding or
-neither true b e = never (sym e)
-neither false b e = (refl, e)
 
 module _ {A : Type 0} where
   -- ---- declarations have one of the three origins

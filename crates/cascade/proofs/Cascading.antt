@@ -2,36 +2,20 @@
 -- Assumes nothing.
 use mathlib.Core.Path.{◌≡◌, refl, sym, ap, ◌∙◌}
 use mathlib.Core.Bool.{Bool, true, false}
-use mathlib.Core.List.{List, [], ◌∷◌, ◌++◌, foldl}
-use mathlib.Core.Logic.{◌⊎◌, inl, inr, ⊎_elim}
+use mathlib.Core.List.{List, [], ◌∷◌, foldl, foldl-append}
+use mathlib.Core.Logic.{◌⊎◌, ⊎_elim}
 use Prim.Native.Nat.{ℕ, ◌<◌}
 use native.Mathlib.Omega.{arith}
 use lib.ListN.{length, get_or, length-set}
 use lib.Seq.{get_or-set_same, get_or-set_other}
 use Rattle.combinators.specs.Choice.{pick, or, and, is}
-use Rattle.combinators.proofs.Rules.{pick_true, pick-false, pick-holds, or-false, and_both, and_left, and_right, is-yes, is-no, is_true, is_false}
+use Rattle.combinators.proofs.Rules.{pick_true, pick-false, pick-holds, or-false, and_both, and_left, and_right, is-yes, is-no, is_true, is_false, or-second, either_way}
 use Rattle.cascade.specs.declared.slots.Cascade.{Cascade}
 use Rattle.cascade.specs.declared.slots.Cascade.TheVariants.{Crate, Book}
 use Rattle.cascade.specs.Slot.{Candidate, Slot, empty, maybe_update, book_update, update_by, fill_update}
 use Rattle.cascade.specs.Record.{slot_count, record_count, main_record, before_record, after_record, Record, ComputedStyle, Formed, record_in, slot_of, slot_in, update_record, update_style, Declared, is_named, merge_by, inherit, inherit_by, Handed, handed_by, handed_on, fill_record, fill_pseudo, finish_by, Sources, empty_record, empty_style, crate_declared, book_declared, declared_by, cascade_by, colour_attributes, style_attributes, candidates_for}
 use Rattle.cascade.proofs.RowLaws.{Which, is_main, is_before, is_after, which, update-main, update-before, update-after}
 use Rattle.cascade.proofs.Merging.{named, named-says}
-
--- a test holds or it does not
-pub either_way : (t : Bool) → (t ≡ true) ⊎ (t ≡ false)
-either_way true = inl refl
-either_way false = inr refl
-
--- the second of two tests holds
-pub or-second : (a b : Bool) → b ≡ true → or a b ≡ true
-unfolding or
-or-second true b e = refl
-or-second false b e = e
-
--- a fold over two lists in a row is that over the second, from where the first ends
-pub fold-append : {A B : Type 0} (f : B → A → B) (b : B) (xs ys : List A) → foldl f b (xs ++ ys) ≡ foldl f (foldl f b xs) ys
-fold-append f b [] ys = refl
-fold-append f b (x ∷ xs) ys = fold-append f (f b x) xs ys
 
 module _ {A : Type 0} where
   -- ---- nothing of no declarations
@@ -223,7 +207,7 @@ module _ {A : Type 0} where
       slot-folds (d ∷ ds) s f =
           slot-folds ds (merge_by u s d) (stays-formed u s d r h f)
           ∙ ap (λ (t : Slot A). foldl u t (candidates_for r k ds)) (one-candidate d s f)
-          ∙ sym (fold-append u (slot_in s r k) (pick (and (is d.pseudo r) (is d.slot k)) (d.candidate ∷ []) []) (candidates_for r k ds))
+          ∙ sym (foldl-append u (slot_in s r k) (pick (and (is d.pseudo r) (is d.slot k)) (d.candidate ∷ []) []) (candidates_for r k ds))
 
       -- one that none of them names is left alone
       pub unnamed-slot : (ds : List (Declared A)) (s : ComputedStyle A) → Whole s r → candidates_for r k ds ≡ [] → slot_in (foldl (merge_by u) s ds) r k ≡ slot_in s r k

@@ -2,7 +2,7 @@
 use mathlib.Core.Path.{◌≡◌, refl, sym, ap, ◌∙◌, subst}
 use Rattle.std.specs.Prelude.{Some, None}
 use mathlib.Core.Bool.{Bool, true, false}
-use mathlib.Core.List.{List, [], ◌∷◌, foldl}
+use mathlib.Core.List.{List, [], ◌∷◌, foldl, foldl-append}
 use Prim.Native.Nat.{ℕ, ◌*◌, ◌≤◌, ◌<◌}
 use native.Mathlib.Omega.{arith}
 use lib.ListN.{length, get_or, set, replicate, length-set}
@@ -24,7 +24,6 @@ use Rattle.cascade.proofs.Windows.{all-wiped}
 use Rattle.cascade.proofs.RowLaws.{flag_one, slot-there, same-windows, Which, is_main, is_before, is_after, which}
 use Rattle.cascade.proofs.RowBack.{same-fine, row-long, row_fine, row_back, style-back, empty-formed, merges-view, merges-fine}
 use Rattle.cascade.proofs.Merging.{merge-long, merge-steps}
-use Rattle.cascade.proofs.Cascading.{fold-append}
 use Rattle.cascade.proofs.Rewriting.{present-view, present-number, begin-view}
 
 -- marking the main record as present leaves a row well formed
@@ -178,7 +177,7 @@ pub record-filled : (r : ℕ) (h : rows.Handed) (xs ys zs : List ℕ) → ys ≡
 unfolding filled_row handed_says handed_on
 record-filled r h xs ys zs e f =
     f ∙ ap (λ (l : List ℕ). foldl (merge_row_by fill_update) l (handed_slot r white_space_slot (slot_by h.white_space))) e
-    ∙ sym (fold-append (merge_row_by fill_update) xs (handed_slot r colour_slot (slot_by h.color)) (handed_slot r white_space_slot (slot_by h.white_space)))
+    ∙ sym (foldl-append (merge_row_by fill_update) xs (handed_slot r colour_slot (slot_by h.color)) (handed_slot r white_space_slot (slot_by h.white_space)))
 
 -- a pseudo record that is present, from what the row hands on
 pub pseudo-filled : (r : ℕ) (own : rows.Handed) (xs ys : List ℕ) → get_or xs (record_place r) 0 ≡ present_flag → handed_says own ≡ handed_at xs → ys ≡ filled_row r (handed_says own) xs → ys ≡ filled_pseudo r xs

@@ -1,4 +1,8 @@
 -- The order of specificities: how the tests of the code tell it, and that it is the one of Selectors Level 3. Assumes nothing.
+use Rattle.std.specs.Ordering.{partial_lt}
+use Rattle.std.proofs.lemmas.Grind.{common_steps}
+use Rattle.combinators.specs.Choice.{pick}
+use Rattle.cascade.specs.contracts.specificity.SpecificityPartialOrd.TheImpl as derive
 use mathlib.Core.Path.{◌≡◌, refl, sym, ◌∙◌}
 use mathlib.Core.Bool.{Bool, true, false}
 use mathlib.Core.Logic.{◌⊎◌, inl, inr, ⊎_elim}
@@ -35,6 +39,11 @@ module _ (p q rest : Bool) where
   pub flag-below : p ≡ false → q ≡ true → true ≡ less_then (flag p) (flag q) rest
   unfolding flag
   flag-below e f = rw (e, f) (then-lower 0 1 rest (omega arith))
+
+-- the order of the fields, which the derive of the code tells, is this one
+pub derived : (a b : Specificity) → partial_lt derive.partial_cmp-value.it a b ≡ less a b
+unfolding less less_then less_by_selector flag pick
+derived a b = grind (arith, common_steps)
 
 -- ---- what the order says: a number is lower, or the same and what follows says it
 module _ (a b : ℕ) (rest : Bool) where

@@ -9,20 +9,19 @@ use lib.ListN.{length, get_or, set, replicate, length-set, length-replicate}
 use lib.Seq.{sets, get_or-set_same, get_or-set_other}
 use Rattle.combinators.specs.Choice.{pick, is}
 use Rattle.combinators.specs.Store.{wiped, filled_part}
-use Rattle.combinators.proofs.Wiped.{length-wiped}
+use Rattle.combinators.proofs.Wiped.{length-wiped, sets-low}
 use Rattle.syntax.specs.Layout.{flag_of}
 use Rattle.cascade.specs.declared.slots.Cascade.{Cascade}
 use Rattle.cascade.specs.declared.slots.Cascade.TheVariants.{Crate, Book}
 use Rattle.cascade.specs.Record.{slot_count, empty_record, empty_style, inherit, inherit_by}
 use Rattle.cascade.specs.Row.{record_width, style_row_width, read_slot, windows, record_at, style_at, present_flag, present_row, inherited_row, Inherited, Emptied}
-use Rattle.cascade.proofs.Windows.{sets-low}
 use Rattle.cascade.proofs.RowLaws.{record_same, style-same, flag_one, same-windows, same-record}
 
 -- what was stored there, number by number
 pub sets-there : (vs xs : List ℕ) (i p : ℕ) → p < length vs → i + length vs ≤ length xs → get_or (sets xs i vs) (i + p) 0 ≡ get_or vs p 0
 sets-there [] xs i p h l = absurd (omega arith)
 sets-there (v ∷ vs) xs i zero h l =
-    rw (add-zero i) (sets-low vs (set xs i v) (suc i) i (omega arith) ∙ get_or-set_same xs i v 0 (omega arith))
+    rw (add-zero i) (sets-low vs (set xs i v) (suc i) i 0 (omega arith) ∙ get_or-set_same xs i v 0 (omega arith))
 sets-there (v ∷ vs) xs i (suc p) h l =
     let e : i + suc p ≡ suc i + p = omega arith in
     rw e (sets-there vs (set xs i v) (suc i) p (omega arith) (omega (arith, length-set xs i v)))

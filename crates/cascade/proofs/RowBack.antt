@@ -9,11 +9,12 @@ use lib.Seq.{drop-cons, take-add, drop-drop, take_all, get_or_at}
 use Rattle.combinators.proofs.Rules.{pick-holds}
 use Rattle.syntax.specs.Layout.{flag, flag_of}
 use Rattle.syntax.specs.declared.styles.Value.{Value}
+use Rattle.syntax.proofs.Back.{flag-back}
 use Rattle.cascade.specs.Slot.{Candidate, Slot}
 use Rattle.cascade.specs.Record.{slot_count, record_count, main_record, before_record, after_record, empty_record, empty_style, Record, ComputedStyle, Formed, Declared, is_named, merge_by}
 use Rattle.cascade.specs.Row.{presence_width, slot_width, record_width, style_row_width, record_place, slot_place, slot_numbers, slots_numbers, record_numbers, row_of, reads, read_slot, slot_at, windows, record_at, style_at, SlotFine, AllFine, RecordFine, RowFine, update_row, merge_row_by}
 use Rattle.cascade.proofs.Windows.{reads-is, reads_at}
-use Rattle.cascade.proofs.RowLaws.{cons_same, record_same, style-same, flag-back, flag-forth, flag_small, slot-width, slot-fine, slots-back, slots-fine, same-windows, update-long, update-low, update-high, update-presence, update-windows, Which, is_main, is_before, is_after, which}
+use Rattle.cascade.proofs.RowLaws.{cons_same, record_same, style-same, flag-forth, flag_small, slot-width, slot-fine, slots-back, slots-fine, same-windows, update-long, update-low, update-high, update-presence, update-windows, Which, is_main, is_before, is_after, which}
 use Rattle.cascade.proofs.Merging.{named-says, merge-long, merge-view}
 
 -- ---- written, then read
@@ -36,7 +37,7 @@ windows-of (s ∷ ss) p q i e =
     (ap (λ (l : List ℕ). windows l (i + slot_width) (length ss)) z ∙ windows-of ss (p ++ slot_numbers s) q (i + slot_width) (omega (arith, length-append p (slot_numbers s), slot-width s)))
 
 -- a written record with all its slots is as wide as a record
-record-width : (a : Record Value) → length a.slots ≡ slot_count → length (record_numbers a) ≡ record_width
+pub record-width : (a : Record Value) → length a.slots ≡ slot_count → length (record_numbers a) ≡ record_width
 unfolding record_numbers
 record-width a h = omega (arith, slots-width a.slots)
 

@@ -8,13 +8,15 @@ use lib.ListN.{length, get_or, set, length-set, get_or-map}
 use lib.Seq.{sets, length-sets, get_or-set_same, get_or-set_other}
 use Rattle.combinators.specs.Choice.{pick, is}
 use Rattle.combinators.proofs.Rules.{pick_true, pick-false, is-yes, is-no}
+use Rattle.combinators.proofs.Wiped.{sets-low}
 use Rattle.syntax.specs.Layout.{flag, flag_of}
 use Rattle.syntax.specs.Layout.{value_numbers}
 use Rattle.syntax.specs.declared.styles.Value.{Value}
+use Rattle.syntax.proofs.Back.{flag-back}
 use Rattle.cascade.specs.Slot.{Candidate, Slot, empty, held}
 use Rattle.cascade.specs.Record.{slot_count, record_count, main_record, before_record, after_record, Record, ComputedStyle, slot_of, update_record, update_style}
 use Rattle.cascade.specs.Row.{slot_width, record_width, style_row_width, record_place, slot_place, slot_numbers, reads, read_candidate, read_slot, slot_at, windows, record_at, style_at, SlotFine, AllFine, update_row}
-use Rattle.cascade.proofs.Windows.{reads_same, reads-sets, sets-low, sets-high}
+use Rattle.cascade.proofs.Windows.{reads_same, reads-sets, sets-high}
 
 -- ---- pairs of equal things
 -- lists with equal first members and equal rests are equal
@@ -37,12 +39,6 @@ map-set f (a ∷ l) zero v = refl
 map-set f (a ∷ l) (suc k) v = rw (map-set f l k v)
 
 -- ---- flags: written and read, read and written
--- a flag is read back from its number
-pub flag-back : (b : Bool) → flag_of (flag b) ≡ b
-unfolding flag_of flag is
-flag-back true = refl
-flag-back false = refl
-
 -- of a number that is 0 or 1
 pub flag-forth : (n : ℕ) → n ≤ 1 → flag (flag_of n) ≡ n
 unfolding flag_of flag is
@@ -122,7 +118,7 @@ put-windows (suc n) zero vs xs i h l e =
 put-windows (suc n) (suc k) vs xs i h l e =
     let z : i + suc k * slot_width ≡ i + slot_width + k * slot_width = omega arith in
     cons_same (reads (sets xs (i + suc k * slot_width) vs) i 0 slot_width) (reads xs i 0 slot_width) (windows (sets xs (i + suc k * slot_width) vs) (i + slot_width) n) (set (windows xs (i + slot_width) n) k vs)
-    (reads_same slot_width (sets xs (i + suc k * slot_width) vs) xs i 0 (λ p a b. sets-low vs xs (i + suc k * slot_width) p (omega arith)))
+    (reads_same slot_width (sets xs (i + suc k * slot_width) vs) xs i 0 (λ p a b. sets-low vs xs (i + suc k * slot_width) p 0 (omega arith)))
     (rw z (put-windows n k vs xs (i + slot_width) (omega arith) (omega arith) e))
 
 -- slot k begins k widths on
@@ -147,7 +143,7 @@ module _ (r k : ℕ) (u : Slot Value → Slot Value) (xs : List ℕ) (h : record
   update-low p a =
       let i = slot_place r k in
       let vs = slot_numbers (u (slot_at xs i)) in
-      get_or-set_other (sets xs i vs) (record_place r) p 1 0 (λ e. omega arith) ∙ sets-low vs xs i p (omega arith)
+      get_or-set_other (sets xs i vs) (record_place r) p 1 0 (λ e. omega arith) ∙ sets-low vs xs i p 0 (omega arith)
 
   -- numbers behind the record stay
   pub update-high : (p : ℕ) → record_place r + record_width ≤ p → get_or (update_row r k u xs) p 0 ≡ get_or xs p 0

@@ -30,11 +30,6 @@ reads-sets vs xs i h =
     ∙ rw (add-zero i, sets-eq vs xs i h, append_assoc (take i xs) vs (drop (i + length vs) xs), drop_at (take i xs) (vs ++ drop (i + length vs) xs) i (length-take-le i xs (omega arith)))
     (take_at vs (drop (i + length vs) xs) (length vs) refl)
 
--- stores behind a number leave it alone
-pub sets-low : (vs xs : List ℕ) (i p : ℕ) → p < i → get_or (sets xs i vs) p 0 ≡ get_or xs p 0
-sets-low [] xs i p h = refl
-sets-low (v ∷ vs) xs i p h = sets-low vs (set xs i v) (suc i) p (omega arith) ∙ get_or-set_other xs i p v 0 (λ e. omega arith)
-
 -- the same behind the stores
 pub sets-high : (vs xs : List ℕ) (i p : ℕ) → i + length vs ≤ p → get_or (sets xs i vs) p 0 ≡ get_or xs p 0
 sets-high [] xs i p h = refl

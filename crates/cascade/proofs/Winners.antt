@@ -2,12 +2,12 @@
 use mathlib.Core.Path.{◌≡◌, refl, sym, ap, ◌∙◌, subst}
 use mathlib.Core.Bool.{Bool, true, false}
 use mathlib.Core.List.{List, [], ◌∷◌, ◌++◌, foldl, append_assoc, append-nil}
-use mathlib.Core.Logic.{◌⊎◌, inl, inr, ⊎_elim}
+use mathlib.Core.Logic.{◌⊎◌, ⊎_elim}
 use Prim.Native.Nat.{suc}
 use native.Mathlib.Omega.{arith}
 use lib.ListN.{length, length-append}
 use Rattle.combinators.specs.All.{All}
-use Rattle.combinators.proofs.Rules.{never, pick_true, pick-false}
+use Rattle.combinators.proofs.Rules.{never, pick_true, pick-false, either_way}
 use Rattle.combinators.proofs.AllLaws.{all_append, all_weaker}
 use Rattle.cascade.specs.declared.slots.Weight.{Weight}
 use Rattle.cascade.specs.Slot.{Candidate, Slot, empty, held, rank_of, Weaker, by_rank, by-specificity, weaker, Winner, Won, held_in_book, book_update}
@@ -59,11 +59,6 @@ module _ (x y z : Weight) where
   pub stays-unbeaten : ¬ (Weaker x y) → ¬ (Weaker y z) → ¬ (Weaker x z)
   stays-unbeaten n m = weaker-denies x z (weaker-trans-not x y z (weaker-denied x y n) (weaker-denied y z m))
 
--- a test holds or it does not
-decide : (t : Bool) → (t ≡ true) ⊎ (t ≡ false)
-decide true = inl refl
-decide false = inr refl
-
 module _ {A : Type 0} where
   -- ---- one update: the candidate is taken unless it is the weaker
   module _ (w x : Candidate A) where
@@ -99,7 +94,7 @@ module _ {A : Type 0} where
   go : (xs : List (Candidate A)) (w : Candidate A) (b a : List (Candidate A)) → Unbeaten w b → Beats w a → Won (foldl book_update (held w) xs) ((b ++ (w ∷ a)) ++ xs)
   go [] w b a hb ha =
       record { candidate = w; holds = refl; wins = record { earlier = b; later = a; split = append-nil (b ++ (w ∷ a)); unbeaten = hb; beats = ha } }
-  go (x ∷ xs) w b a hb ha = ⊎_elim (kept (go xs w b (a ++ (x ∷ [])))) (taken (go xs x (b ++ (w ∷ a)) [])) (decide (weaker x.weight w.weight))
+  go (x ∷ xs) w b a hb ha = ⊎_elim (kept (go xs w b (a ++ (x ∷ [])))) (taken (go xs x (b ++ (w ∷ a)) [])) (either_way (weaker x.weight w.weight))
     where
       kept : (Unbeaten w b → Beats w (a ++ (x ∷ [])) → Won (foldl book_update (held w) xs) ((b ++ (w ∷ (a ++ (x ∷ [])))) ++ xs)) → weaker x.weight w.weight ≡ true → Won (foldl book_update (book_update (held w) x) xs) ((b ++ (w ∷ a)) ++ (x ∷ xs))
       kept f e = moved _ _ _ _ (ap (λ s. foldl book_update s xs) (update-keeps w x e)) (simp append_assoc) (f hb (all_append (LosesTo w) a (x ∷ []) ha (weaker-says x.weight w.weight e, tt)))

@@ -8,7 +8,9 @@ ghost use Rattle.cascade.specs.Row.{slot_at, slot_numbers, record_place, slot_pl
 
 use crate::slots::{Candidate, Cascade, Slot, Weight};
 use crate::specificity::Specificity;
-use syntax::rows::{COLOUR_SLOT, FLAG_TRUE, WHITE_SPACE_SLOT, flag_of};
+use syntax::rows::{
+    COLOUR_SLOT, FLAG_TRUE, PSEUDO_AFTER, PSEUDO_BEFORE, PSEUDO_NONE, WHITE_SPACE_SLOT, flag_of,
+};
 use syntax::styles::{StyleNumbers, Value};
 
 // The numbers of a slot.
@@ -42,14 +44,15 @@ pub const PRESENCE_WIDTH: usize = 1;
 
 pub const RECORD_WIDTH: usize = PRESENCE_WIDTH + SLOT_COUNT * SLOT_WIDTH;
 
-// A style: the records of the element, of `::before` and of `::after`, by the pseudo numbers of the compiled sheet.
+// A style: the records of the element, of `::before` and of `::after`, by the pseudo numbers of the compiled sheet. They are numbers, since rules and compiled
+// bytes are lent with any number for a pseudo element.
 pub const RECORD_COUNT: usize = 3;
 
-pub const MAIN: usize = 0;
+pub const MAIN: usize = PSEUDO_NONE as usize;
 
-pub const BEFORE: usize = 1;
+pub const BEFORE: usize = PSEUDO_BEFORE as usize;
 
-pub const AFTER: usize = 2;
+pub const AFTER: usize = PSEUDO_AFTER as usize;
 
 pub const STYLE_ROW_WIDTH: usize = RECORD_COUNT * RECORD_WIDTH;
 
@@ -100,7 +103,7 @@ fn read_slot(row: &StyleRow, pseudo: usize, slot: usize) -> Slot
     Slot::new(Candidate { weight, value })
 }
 
-// The numbers of a slot: one that holds nothing is zeros.
+// The numbers of a slot: one that holds nothing is zeros. A function, since its one caller would name the type of the array for a `From`.
 fn numbers_of(slot: Slot) -> [u32; SLOT_WIDTH]
     ensures { result ≡ slot_numbers (slot_by slot) }
 {
@@ -159,8 +162,8 @@ pub fn merge_computed_style(
     put_back(row, pseudo, slot, old.update(cascade, new));
 }
 
-// A style over another that stands behind it in the same store, since two parts of it cannot be lent at once. The store stays a slice of
-// numbers: of its chunks (`as_chunks_mut`) nothing is promised of what it ends as.
+// A style over another that stands behind it in the same store, by the library's method, which is shorter than two parts by `split_at_mut` and a copy. The
+// store stays a slice of numbers: of its chunks (`as_chunks_mut`) nothing is promised of what it ends as.
 pub fn copy_within(rows: &mut [u32], parent: usize, child: usize)
     requires { TwoRooms rows.old parent child }
     ensures { rows.new ≡ sets rows.old child (take style_row_width (drop parent rows.old)) }
@@ -190,7 +193,8 @@ pub fn handed_on(row: &StyleRow) -> Handed
     }
 }
 
-// A slot of a record filled from one that is handed on.
+// A slot of a record filled from one that is handed on. Two lines are all that this and `merge_computed_style` share, by another update each, of which a
+// function for both would owe what its closure ensures.
 fn fill_slot(row: &mut StyleRow, pseudo: usize, slot: usize, from: Slot)
     requires { (pseudo < record_count) × (slot < slot_count) }
     ensures { row.new ≡ foldl (merge_row_by fill_update) row.old (handed_slot pseudo slot (slot_by from)) }

@@ -82,7 +82,7 @@ impl Weight {
     fn held_against(self, new: Self) -> bool
         ensures { result ≡ held_against self new }
     {
-        self.held_by_importance(new) || self.held_by_origin(new) || new.spec.less(self.spec)
+        self.held_by_importance(new) || self.held_by_origin(new) || new.spec < self.spec
     }
 
     // The same in the book order: the new one is of a lower rank, or of the same rank and less specific.
@@ -91,7 +91,7 @@ impl Weight {
     {
         let theirs = rank_of(new.origin, new.important);
         let own = rank_of(self.origin, self.important);
-        theirs < own || theirs == own && new.spec.less(self.spec)
+        theirs < own || theirs == own && new.spec < self.spec
     }
 }
 

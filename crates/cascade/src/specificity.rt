@@ -1,6 +1,8 @@
 // Specificities (`Specificity` of html2text's src/lib.rs), by value.
 ghost use Rattle.std.specs.Prelude.{◌≡◌};
-ghost use Rattle.cascade.specs.Specificity.{specificity_of, inline_specificity, SumFits, sum, less};
+ghost use Rattle.cascade.specs.Specificity.{specificity_of, inline_specificity, SumFits, sum};
+
+use std::ops::Add;
 
 // A `style` attribute, or how many ids, classes and types a selector names. The fields stand in the order in which they decide (`partial_cmp`).
 #[derive(Clone, Copy, PartialEq, Eq, PartialOrd, Ord)]
@@ -40,30 +42,29 @@ impl Specificity {
         }
     }
 
-    // The one for inline, as the crate has it.
+    // The one for inline, as the crate has it. A constant has no clause: this says what `INLINE` is.
     pub fn inline() -> Self
         ensures { result ≡ inline_specificity }
     {
         Self::INLINE
     }
+}
 
-    // The sum of two selectors' counts; inline where one of them is.
-    pub fn add(self, other: Self) -> Self
-        requires { SumFits self other }
-        ensures { result ≡ sum self other }
-    {
+// The sum of two selectors' counts; inline where one of them is.
+impl Add for Specificity {
+    type Output = Self;
+
+    ghost can_add = { SumFits };
+
+    ghost add_gives = { λ a b r. r ≡ sum a b };
+
+    #[tactic(auto, unfolding(crate::specs::Specificity::sum, combinators::specs::Choice::or))]
+    fn add(self, other: Self) -> Self {
         Self {
             inline: self.inline || other.inline,
             id: self.id + other.id,
             class: self.class + other.class,
             typ: self.typ + other.typ,
         }
-    }
-
-    // Whether the other is the more specific.
-    pub fn less(self, other: Self) -> bool
-        ensures { result ≡ less self other }
-    {
-        self < other
     }
 }

@@ -1,40 +1,40 @@
 -- What a text begins with, by the row of its first byte, and the loop of `is_valid`.
 use Rattle.std.proofs.Common.{Option, Some, None}
-use mathlib.Core.Path.{◌≡◌, ap, sym, ◌∙◌}
+use mathlib.Core.Path.{◌≡◌, refl, ap, sym, ◌∙◌}
 use mathlib.Core.List.{List}
-use Prim.Native.Nat.{ℕ, ◌+◌, ◌-◌, ◌≤◌}
+use Prim.Native.Nat.{ℕ, ◌+◌, ◌-◌, ◌<◌, ◌≤◌}
 use native.Mathlib.Omega.{arith}
 use lib.ListN.{length, get_or, take, drop, length-drop}
 use lib.Dec.{eqb}
-use Rattle.combinators.specs.Choice.{pick, is}
-use Rattle.combinators.proofs.Rules.{is-yes, is-no}
+use Rattle.combinators.specs.Choice.{is}
+use Rattle.combinators.proofs.Rules.{pick-false, is-no, at_most, above}
 use Rattle.combinators.proofs.Lists.{rest}
 use Rattle.combinators.proofs.Repeating.{Repeating, repeat-more, repeat-stop}
 use Rattle.characters.specs.Utf8.{lead_of, scalar_by, scalar_of, taken_of, scalar_taken, valid}
-use Rattle.characters.specs.declared.utf8.Scalar.{Scalar}
+use Rattle.combinators.specs.declared.taken.Taken.{Taken}
 use Rattle.characters.specs.declared.utf8.Lead.{Lead}
 use Rattle.characters.proofs.Scalars.{scalar-some}
 
--- ---- what a text begins with: by the row l of its first byte a
-module _ (s : List ℕ) (some : ¬ (length s ≡ 0)) (a : ℕ) (ea : a ≡ get_or s 0 0) (l : Lead) (el : l ≡ lead_of a) where
-  -- any other text is read by the row of its first byte
-  pub by_row : scalar_of s ≡ scalar_by l s
-  unfolding scalar_of pick
-  by_row = rw (is-no (length s) 0 some, ← ea, ← el)
+-- ---- what a text begins with, by its first byte a
+module _ (s : List ℕ) (some : ¬ (length s ≡ 0)) (a : ℕ) (ea : a ≡ get_or s 0 0) where
+  -- a byte of ASCII is read as itself
+  pub at_ascii : a ≤ 0x7f → Some (record { taken = 1; value = a }) ≡ scalar_of s
+  unfolding scalar_of
+  at_ascii h = rw (← ea) (pick-false _ _ _ _ (is-no (length s) 0 some) (at_most _ _ _ a 0x7f h refl))
 
-  -- the first byte is all
-  pub at_ascii : l.long ≡ 1 → (v : ℕ) → v ≡ a → Some (record { taken = 1; value = v }) ≡ scalar_of s
-  unfolding scalar_by pick
-  at_ascii h v e = rw (by_row, is-yes l.long 1 h, ← ea, e)
+  -- any other byte reads by its row
+  pub by_row : 0x7f < a → (l : Option Lead) → l ≡ lead_of a → scalar_of s ≡ scalar_by l s
+  unfolding scalar_of
+  by_row h l e = sym (rw (← ea, ← e) (pick-false _ _ _ _ (is-no (length s) 0 some) (above _ _ _ a 0x7f h refl)))
 
-  -- the first byte starts no sequence
-  pub at_none : l.long ≡ 0 → None ≡ scalar_of s
-  unfolding scalar_by pick
-  at_none h = rw (by_row, is-no l.long 1 (omega arith), is-yes l.long 0 h)
+  -- where it starts no sequence, nothing is read
+  pub at_none : 0x7f < a → None ≡ lead_of a → None ≡ scalar_of s
+  unfolding scalar_by
+  at_none h e = sym (by_row h None e)
 
 -- ---- `is_valid`: a turn of the loop at i, and its end
 module _ (s : List ℕ) (i : ℕ) (c : Repeating scalar_taken s i) where
-  module _ (r : Option Scalar) (e : r ≡ scalar_of (take (length s - i) (drop i s))) where
+  module _ (r : Option (Taken ℕ)) (e : r ≡ scalar_of (take (length s - i) (drop i s))) where
     -- what the call on the rest of the text says of the text at i
     here : scalar_of (drop i s) ≡ r
     here = ap scalar_of (sym (rest s i)) ∙ sym e

@@ -1,4 +1,5 @@
 -- UTF-8 there and back: what is written reads back, and what is read was written.
+use Rattle.std.specs.Char.{OutOfScalarRange}
 use Rattle.std.proofs.Common.{Option, Some, None}
 use Prim.Native.Nat.{ℕ, ◌+◌, ◌*◌, ◌/◌, ◌%◌, ◌≤◌, ◌<◌}
 use mathlib.Core.Path.{◌≡◌, refl, sym, ap, ◌∙◌}
@@ -12,7 +13,7 @@ use Rattle.combinators.specs.Choice.{pick, is, within}
 use Rattle.combinators.proofs.Rules.{ranges, pick-holds, by_order, within-true, within-yes, lt-or-ge}
 use Rattle.combinators.proofs.Lists.{front-one, front-two, front-three, front-four}
 use Rattle.characters.specs.Utf8.{is_scalar, continuation, utf8, is_continuation, lead_of, two, three, four, scalar_tail, scalar_by, scalar_of}
-use Rattle.characters.specs.declared.utf8.Scalar.{Scalar}
+use Rattle.combinators.specs.declared.taken.Taken.{Taken}
 use Rattle.characters.specs.declared.utf8.Lead.{Lead}
 use Rattle.characters.proofs.Scalars.{
   utf8-ascii,
@@ -25,39 +26,38 @@ use Rattle.characters.proofs.Scalars.{
   continuation-range,
   scalar-some,
 }
-use Rattle.characters.proofs.Reading.{by_row}
+use Rattle.characters.proofs.Reading.{at_ascii, by_row}
 
 -- ---- what is written reads back
--- a text that is not empty is read by the row of its first byte
-starts : (a : ℕ) (t : List ℕ) (l : Lead) → l ≡ lead_of a → scalar_of (a ∷ t) ≡ scalar_by l (a ∷ t)
-starts a t l e = by_row (a ∷ t) (λ z. omega arith) a refl l e
+-- a byte of ASCII is read as its scalar value
+pub ascii-read : (a : ℕ) (t : List ℕ) → a ≤ 0x7f → scalar_of (a ∷ t) ≡ Some (record { taken = 1; value = a })
+ascii-read a t h = sym (at_ascii (a ∷ t) (λ z. omega arith) a refl h)
+
+-- any other text is read by the row of its first byte
+starts : (a : ℕ) (t : List ℕ) → 0x7f < a → (l : Option Lead) → l ≡ lead_of a → scalar_of (a ∷ t) ≡ scalar_by l (a ∷ t)
+starts a t h l e = by_row (a ∷ t) (λ z. omega arith) a refl h l e
 
 -- the first byte has a row of so many bytes, and the bytes behind it are in their ranges
-module _ (lo hi a : ℕ) (t : List ℕ) where
-  -- a lead byte of length one is read as its scalar value
-  reads-ascii : record { long = 1; low = lo; high = hi } ≡ lead_of a → scalar_of (a ∷ t) ≡ Some (record { taken = 1; value = a })
-  unfolding scalar_by pick is
-  reads-ascii e = starts a t _ e
-
+module _ (lo hi a : ℕ) (t : List ℕ) (high : 0x7f < a) where
   -- a lead byte of length two and a second byte within its bounds are read as one scalar value
-  reads_two : (b : ℕ) → record { long = 2; low = lo; high = hi } ≡ lead_of a → within b lo hi ≡ true → scalar_of (a ∷ b ∷ t) ≡ Some (record { taken = 2; value = two a b })
+  reads_two : (b : ℕ) → Some (record { long = 2; low = lo; high = hi }) ≡ lead_of a → within b lo hi ≡ true → scalar_of (a ∷ b ∷ t) ≡ Some (record { taken = 2; value = two a b })
   unfolding scalar_by scalar_tail pick is
-  reads_two b e h = rw (starts a (b ∷ t) _ e, h)
+  reads_two b e h = rw (starts a (b ∷ t) high _ e, h)
 
   -- a lead byte of length three, a second byte within its bounds and a continuation byte are read as one scalar value
-  reads_three : (b c : ℕ) → record { long = 3; low = lo; high = hi } ≡ lead_of a → within b lo hi ≡ true → is_continuation c ≡ true
+  reads_three : (b c : ℕ) → Some (record { long = 3; low = lo; high = hi }) ≡ lead_of a → within b lo hi ≡ true → is_continuation c ≡ true
       → scalar_of (a ∷ b ∷ c ∷ t) ≡ Some (record { taken = 3; value = three a b c })
   unfolding scalar_by scalar_tail pick is
-  reads_three b c e h k = rw (starts a (b ∷ c ∷ t) _ e, h, k)
+  reads_three b c e h k = rw (starts a (b ∷ c ∷ t) high _ e, h, k)
 
   -- a lead byte of length four, a second byte within its bounds and two continuation bytes are read as one scalar value
-  reads-four : (b c d : ℕ) → record { long = 4; low = lo; high = hi } ≡ lead_of a → within b lo hi ≡ true → is_continuation c ≡ true
+  reads-four : (b c d : ℕ) → Some (record { long = 4; low = lo; high = hi }) ≡ lead_of a → within b lo hi ≡ true → is_continuation c ≡ true
       → is_continuation d ≡ true → scalar_of (a ∷ b ∷ c ∷ d ∷ t) ≡ Some (record { taken = 4; value = four a b c d })
   unfolding scalar_by scalar_tail pick is
-  reads-four b c d e h k l = rw (starts a (b ∷ c ∷ d ∷ t) _ e, h, k, l)
+  reads-four b c d e h k l = rw (starts a (b ∷ c ∷ d ∷ t) high _ e, h, k, l)
 
 -- a continuation byte is one
-continues : (v : ℕ) → is_continuation (continuation v) ≡ true
+pub continues : (v : ℕ) → is_continuation (continuation v) ≡ true
 unfolding is_continuation continuation
 continues v = within-yes (0x80 + v % 64) 0x80 0xbf (omega arith) (omega arith)
 
@@ -78,13 +78,12 @@ Back t v = scalar_of (utf8 v ++ t) ≡ Some (record { taken = length (utf8 v); v
 
 -- the first bytes from a₀ to a₁ have the row of so many bytes, with the second from lo to hi
 abbrev Row : ℕ → ℕ → ℕ → ℕ → ℕ → Type 0
-Row a₀ a₁ n lo hi = (x : ℕ) → a₀ ≤ x → x ≤ a₁ → record { long = n; low = lo; high = hi } ≡ lead_of x
+Row a₀ a₁ n lo hi = (x : ℕ) → a₀ ≤ x → x ≤ a₁ → Some (record { long = n; low = lo; high = hi }) ≡ lead_of x
 
 module _ (t : List ℕ) (v : ℕ) where
   -- a scalar value of one byte reads back
   back-ascii : v ≤ 0x7f → Back t v
-  unfolding lead_of
-  back-ascii h = rw (utf8-ascii v h) (reads-ascii 0 0 v t (search ranges))
+  back-ascii h = rw (utf8-ascii v h) (ascii-read v t h)
 
   -- a scalar value of two bytes reads back
   back-two : 0x7f < v → v ≤ 0x7ff → Back t v
@@ -94,7 +93,7 @@ module _ (t : List ℕ) (v : ℕ) where
       let b : ℕ = 0x80 + v % 64 in
       let row : Row 0xc2 0xdf 2 0x80 0xbf = λ x l h. search ranges depth 20 in
       let e : a % 32 * 64 + b % 64 ≡ v = omega arith in
-      rw (utf8-two v l h) (reads_two 0x80 0xbf a t b (row a (omega arith) (omega arith)) (continues v) ∙ ap (λ x. Some (record { taken = 2; value = x })) e)
+      rw (utf8-two v l h) (reads_two 0x80 0xbf a t (omega arith) b (row a (omega arith) (omega arith)) (continues v) ∙ ap (λ x. Some (record { taken = 2; value = x })) e)
 
   module _ (a₀ a₁ lo hi : ℕ) where
     -- three bytes, the first with this row
@@ -107,7 +106,7 @@ module _ (t : List ℕ) (v : ℕ) where
         let c : ℕ = 0x80 + v % 64 in
         let e : a % 16 * 4096 + b % 64 * 64 + c % 64 ≡ v = omega arith in
         rw (utf8-three v l h)
-        (reads_three lo hi a t b c (row a (omega arith) (omega arith)) (within-yes b lo hi (omega arith) (omega arith)) (continues v) ∙ ap (λ x. Some (record { taken = 3; value = x })) e)
+        (reads_three lo hi a t (omega arith) b c (row a (omega arith) (omega arith)) (within-yes b lo hi (omega arith) (omega arith)) (continues v) ∙ ap (λ x. Some (record { taken = 3; value = x })) e)
 
     -- four bytes, the first with this row
     back-four : Row a₀ a₁ 4 lo hi → 0xffff < v → v ≤ 0x10ffff
@@ -119,7 +118,7 @@ module _ (t : List ℕ) (v : ℕ) where
         let c : ℕ = 0x80 + v / 64 % 64 in
         let d : ℕ = 0x80 + v % 64 in
         rw (utf8-four v l)
-        (reads-four lo hi a t b c d (row a (omega arith) (omega arith)) (within-yes b lo hi (omega arith) (omega arith)) (continues (v / 64)) (continues v)
+        (reads-four lo hi a t (omega arith) b c d (row a (omega arith) (omega arith)) (within-yes b lo hi (omega arith) (omega arith)) (continues (v / 64)) (continues v)
         ∙ ap (λ x. Some (record { taken = 4; value = x })) (by_bits v h))
 
   -- below the surrogates: five rows
@@ -189,7 +188,7 @@ bytes-four a b c d a₀ a₁ b₀ b₁ c₀ c₁ d₀ d₁ l =
     rw (p, q, r, t) at (utf8-four v l)
 
 -- what is read from a text that holds it is a scalar value, and the bytes that it takes are the bytes of that value
-abbrev Written : List ℕ → Option Scalar → Type 0
+abbrev Written : List ℕ → Option (Taken ℕ) → Type 0
 Written s (Some c) = c.taken ≤ length s → (is_scalar c.value ≡ true) × (take c.taken s ≡ utf8 c.value)
 Written s None = Unit
 
@@ -227,18 +226,17 @@ module _ (s : List ℕ) where
       let d = continuation-range (byte 3) p in
       (scalar-high _ (omega arith) g.1, front-four s n ∙ sym (bytes-four _ _ _ _ a₀ a₁ b₀ b₁ c.0 c.1 d.0 d.1 g.0))
 
+  -- a byte of ASCII
+  read-ascii : byte 0 ≤ 0x7f → Written s (Some (record { taken = 1; value = byte 0 }))
+  read-ascii h n = (scalar-low _ (omega arith), front-one s n ∙ sym (utf8-ascii _ h))
+
   -- a first byte that starts no sequence
-  row-none : Written s (scalar_by (record { long = 0; low = 0; high = 0 }) s)
-  unfolding scalar_by pick is
+  row-none : Written s (scalar_by None s)
+  unfolding scalar_by
   row-none = tt
 
-  -- a row of one byte
-  row-ascii : byte 0 ≤ 0x7f → Written s (scalar_by (record { long = 1; low = 0; high = 0 }) s)
-  unfolding scalar_by pick is
-  row-ascii h n = (scalar-low _ (omega arith), front-one s n ∙ sym (utf8-ascii _ h))
-
   -- the row of two bytes
-  row-two : 0xc2 ≤ byte 0 → byte 0 ≤ 0xdf → Written s (scalar_by (record { long = 2; low = 0x80; high = 0xbf }) s)
+  row-two : 0xc2 ≤ byte 0 → byte 0 ≤ 0xdf → Written s (scalar_by (Some (record { long = 2; low = 0x80; high = 0xbf })) s)
   unfolding scalar_by scalar_tail pick is
   row-two a₀ a₁ = pick-holds (Written s) _ _ _ (λ e. let b = within-true _ 0x80 0xbf e in read-two a₀ a₁ b.0 b.1) (λ _. tt)
 
@@ -246,7 +244,7 @@ module _ (s : List ℕ) where
     -- a row of three bytes, where each second byte in its range makes a scalar value that has no shorter form
     row-three : 0xe0 ≤ byte 0 → byte 0 ≤ 0xef
         → ((b c : ℕ) → lo ≤ b → b ≤ hi → (0x800 ≤ three (byte 0) b c) × (is_scalar (three (byte 0) b c) ≡ true))
-        → Written s (scalar_by (record { long = 3; low = lo; high = hi }) s)
+        → Written s (scalar_by (Some (record { long = 3; low = lo; high = hi })) s)
     unfolding scalar_by scalar_tail pick is
     row-three a₀ a₁ g =
         pick-holds (Written s) _ _ _
@@ -257,7 +255,7 @@ module _ (s : List ℕ) where
     -- a row of four
     row-four : 0xf0 ≤ byte 0 → byte 0 ≤ 0xf4
         → ((b c d : ℕ) → lo ≤ b → b ≤ hi → (0x10000 ≤ four (byte 0) b c d) × (four (byte 0) b c d ≤ 0x10ffff))
-        → Written s (scalar_by (record { long = 4; low = lo; high = hi }) s)
+        → Written s (scalar_by (Some (record { long = 4; low = lo; high = hi })) s)
     unfolding scalar_by scalar_tail pick is
     row-four a₀ a₁ g =
         pick-holds (Written s) _ _ _
@@ -271,10 +269,9 @@ module _ (s : List ℕ) where
   by-lead : Written s (scalar_by (lead_of (byte 0)) s)
   unfolding lead_of three four
   by-lead =
-      let P : Lead → Type 0 = λ r. Written s (scalar_by r s) in
+      let P : Option Lead → Type 0 = λ r. Written s (scalar_by r s) in
       let a : ℕ = byte 0 in
-      by_order P a 0x7f _ _ row-ascii
-      (λ _. by_order P a 0xc1 _ _ (λ _. row-none)
+      by_order P a 0xc1 _ _ (λ _. row-none)
       (λ l. by_order P a 0xdf _ _ (row-two l)
       (λ l. by_order P a 0xe0 _ _
       (λ h. row-three 0xa0 0xbf (omega arith) (omega arith) l (omega arith) (λ b c p q. (omega arith, scalar-low _ (omega arith))))
@@ -287,12 +284,12 @@ module _ (s : List ℕ) where
       (λ l. by_order P a 0xf0 _ _ (λ h. row-four 0x90 0xbf (omega arith) (omega arith) l (omega arith) (λ b c d p q. omega arith))
       (λ l. by_order P a 0xf3 _ _ (λ h. row-four 0x80 0xbf (omega arith) (omega arith) (omega arith) (omega arith) (λ b c d p q. omega arith))
       (λ l. by_order P a 0xf4 _ _ (λ h. row-four 0x80 0x8f (omega arith) (omega arith) (omega arith) h (λ b c d p q. omega arith))
-      (λ _. row-none))))))))))
+      (λ _. row-none)))))))))
 
   -- so of every text
   written : Written s (scalar_of s)
   unfolding scalar_of
-  written = pick-holds (Written s) _ _ _ (λ _. tt) (λ _. by-lead)
+  written = pick-holds (Written s) _ _ _ (λ _. tt) (λ _. by_order (Written s) (byte 0) 0x7f _ _ read-ascii (λ _. by-lead))
 
 -- what a text is read as stands at its start
 pub written_back : (s : List ℕ) (n v : ℕ) → scalar_of s ≡ Some (record { taken = n; value = v }) → Read s n v
@@ -307,3 +304,8 @@ written_back s n v e =
       inside-text = p.1;
       some = p.0;
     }
+
+-- so a number that is no scalar value is never read
+pub never-read : (s : List ℕ) (n v : ℕ) → scalar_of s ≡ Some (record { taken = n; value = v }) → OutOfScalarRange v → ⊥
+never-read s n v e o =
+    by_scalar ⊥ v (written_back s n v e).scalar (λ h. ⊎_elim (λ r. omega (arith, r.0)) (λ r. omega arith) o) (λ l h. ⊎_elim (λ r. omega (arith, r.1)) (λ r. omega arith) o)

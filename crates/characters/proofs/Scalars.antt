@@ -35,7 +35,7 @@ use Rattle.characters.specs.Utf8.{
   taken_of,
   scalar_taken,
 }
-use Rattle.characters.specs.declared.utf8.Scalar.{Scalar}
+use Rattle.combinators.specs.declared.taken.Taken.{Taken}
 use Rattle.characters.specs.declared.utf8.Lead.{Lead}
 
 -- ---- the bytes of a scalar value, row by row of Table 3-6
@@ -126,31 +126,31 @@ continuation-range x e = within-true x 0x80 0xbf e
 continuation-there : (s : List ℕ) (i : ℕ) → is_continuation (get_or s i 0) ≡ true → i < length s
 continuation-there s i e = there s i (omega (arith, (continuation-range (get_or s i 0) e).0))
 
--- a row of two bytes or more asks for a second byte that is not 0
-unfoldable Second : Lead → Type 0
-Second l = 2 ≤ l.long → 1 ≤ l.low
+-- a row asks for a second byte that is not 0
+unfoldable Second : Option Lead → Type 0
+Second (Some l) = 1 ≤ l.low
+Second None = Unit
 
 -- a choice between such rows is such a row
-second-of : (t : Bool) (x y : Lead) → Second x → Second y → Second (pick t x y)
+second-of : (t : Bool) (x y : Option Lead) → Second x → Second y → Second (pick t x y)
 second-of t x y p q = pick-holds Second t x y (λ _. p) (λ _. q)
 
 -- every row of the table is
 second : (x : ℕ) → Second (lead_of x)
 unfolding lead_of Second
 second x =
-    second-of _ _ _ (λ h. omega arith)
-    (second-of _ _ _ (λ h. omega arith)
-    (second-of _ _ _ (λ h. omega arith)
-    (second-of _ _ _ (λ h. omega arith)
-    (second-of _ _ _ (λ h. omega arith)
-    (second-of _ _ _ (λ h. omega arith)
-    (second-of _ _ _ (λ h. omega arith)
-    (second-of _ _ _ (λ h. omega arith)
-    (second-of _ _ _ (λ h. omega arith)
-    (second-of _ _ _ (λ h. omega arith) (λ h. omega arith))))))))))
+    second-of _ _ _ tt
+    (second-of _ _ _ (omega arith)
+    (second-of _ _ _ (omega arith)
+    (second-of _ _ _ (omega arith)
+    (second-of _ _ _ (omega arith)
+    (second-of _ _ _ (omega arith)
+    (second-of _ _ _ (omega arith)
+    (second-of _ _ _ (omega arith)
+    (second-of _ _ _ (omega arith) tt))))))))
 
 -- a scalar value takes a byte or more, all of them in the text
-unfoldable Held : List ℕ → Option Scalar → Type 0
+unfoldable Held : List ℕ → Option (Taken ℕ) → Type 0
 Held s (Some c) = (1 ≤ c.taken) × (c.taken ≤ length s)
 Held s None = 0 ≤ length s
 
@@ -176,23 +176,21 @@ module _ (s : List ℕ) where
       (λ _. held_none))
 
   -- the second byte is in the range of its row
-  held-row : (l : Lead) → Second l → 1 ≤ length s → Held s (scalar_by l s)
+  held-row : (r : Option Lead) → Second r → Held s (scalar_by r s)
   unfolding scalar_by Second
-  held-row l r h =
-      pick-holds (Held s) _ _ _ (λ _. held-value 1 _ (omega arith) h)
-      (λ a. pick-holds (Held s) _ _ _ (λ _. held_none)
-      (λ b. pick-holds (Held s) _ _ _
-      (λ w.
-      let one = is_false l.long 1 a in
-      let none = is_false l.long 0 b in
-      let low = r (omega arith) in
-      held-tail l.long (there s 1 (omega (arith, (within-true (get_or s 1 0) l.low l.high w).0))))
-      (λ _. held_none)))
+  held-row (Some l) r =
+      pick-holds (Held s) _ _ _
+      (λ w. held-tail l.long (there s 1 (omega (arith, (within-true (get_or s 1 0) l.low l.high w).0))))
+      (λ _. held_none)
+  held-row None r = held_none
 
   -- so it is with what any text begins with
   held : Held s (scalar_of s)
   unfolding scalar_of
-  held = pick-holds (Held s) _ _ _ (λ _. held_none) (λ e. held-row (lead_of (get_or s 0 0)) (second (get_or s 0 0)) (let d = is_false (length s) 0 e in omega arith))
+  held =
+      pick-holds (Held s) _ _ _ (λ _. held_none)
+      (λ e. let d = is_false (length s) 0 e in
+      pick-holds (Held s) _ _ _ (λ _. held-value 1 _ (omega arith) (omega arith)) (λ _. held-row (lead_of (get_or s 0 0)) (second (get_or s 0 0))))
 
   -- a scalar value that was read takes a byte or more, and no more than there are
   pub scalar-some : (n v : ℕ) → scalar_of s ≡ Some (record { taken = n; value = v }) → (1 ≤ n) × (n ≤ length s)
@@ -200,7 +198,7 @@ module _ (s : List ℕ) where
   scalar-some n v e = rw e at held
 
 -- the bytes that it takes are there
-taken-le : (s : List ℕ) (r : Option Scalar) → Held s r → taken_of r ≤ length s
+taken-le : (s : List ℕ) (r : Option (Taken ℕ)) → Held s r → taken_of r ≤ length s
 unfolding Held taken_of
 taken-le s (Some c) h = h.1
 taken-le s None h = h

@@ -14,7 +14,7 @@ use Rattle.combinators.proofs.Repeats.{many-took, many-stop, many-from}
 use Rattle.characters.specs.Utf8.{is_scalar, utf8, scalar_of, scalar_taken, taken_of, valid, encode, Scalars, Cut}
 use Rattle.characters.specs.Utf8.Scalars.{none, more}
 use Rattle.characters.specs.Utf8.Cut.{start, behind}
-use Rattle.characters.specs.declared.utf8.Scalar.{Scalar}
+use Rattle.combinators.specs.declared.taken.Taken.{Taken}
 use Rattle.characters.proofs.RoundTrip.{Read, read_back, written_back}
 
 -- ---- well formed behind a scalar value
@@ -69,7 +69,7 @@ no-scalar s e h = sym (is_true (many scalar_taken 0 0 s) (length s) h) ∙ many-
 encoded-step : (s : List ℕ) → 0 < length s → valid s ≡ true → ((n : ℕ) → 1 ≤ n → valid (drop n s) ≡ true → Encoded (drop n s)) → Encoded s
 encoded-step s l h f = go (scalar_of s) refl
   where
-    go : (x : Option Scalar) → scalar_of s ≡ x → Encoded s
+    go : (x : Option (Taken ℕ)) → scalar_of s ≡ x → Encoded s
     go (Some c) e =
         let r = written_back s c.taken c.value e in
         encoded-more s c.taken c.value r (f c.taken r.some (sym (valid-behind s c.taken c.value e) ∙ h))

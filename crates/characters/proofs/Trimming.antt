@@ -13,12 +13,12 @@ use Rattle.combinators.proofs.Lists.{rest}
 use Rattle.combinators.proofs.Repeats.{many-took, many-ge, many-stopped}
 use Rattle.characters.specs.Utf8.{scalar_of}
 use Rattle.characters.specs.WhiteSpace.{is_white_space}
-use Rattle.characters.specs.declared.utf8.Scalar.{Scalar}
+use Rattle.combinators.specs.declared.taken.Taken.{Taken}
 use Rattle.characters.proofs.Scalars.{scalar-some}
 use Rattle.characters.specs.Trim.{white_of, white_taken, word_of, word_taken}
 
 -- ---- one character, by what was read
-module _ (s : List ℕ) (x : Option Scalar) (e : x ≡ scalar_of s) where
+module _ (s : List ℕ) (x : Option (Taken ℕ)) (e : x ≡ scalar_of s) where
   -- a character, by whether it is White_Space
   pub white-value : (n v : ℕ) → x ≡ Some (record { taken = n; value = v }) → (r t : Bool) → r ≡ is_white_space v → r ≡ t → pick t n 0 ≡ white_taken s
   unfolding white_taken white_of
@@ -64,7 +64,7 @@ pick-sum false n = omega arith
 pub white-le : (s : List ℕ) → white_taken s ≤ length s
 white-le s = go (scalar_of s) refl
   where
-    go : (x : Option Scalar) → x ≡ scalar_of s → white_taken s ≤ length s
+    go : (x : Option (Taken ℕ)) → x ≡ scalar_of s → white_taken s ≤ length s
     go (Some c) e =
         let p = white-value s _ e c.taken c.value refl (is_white_space c.value) (is_white_space c.value) refl refl in
         omega (arith, pick-sum (is_white_space c.value) c.taken, (scalar-some s c.taken c.value (sym e)).1)
@@ -75,7 +75,7 @@ pub word-le : (s : List ℕ) → word_taken s ≤ length s
 word-le [] = let p = word-at-end [] refl in omega arith
 word-le (y ∷ t) = go (scalar_of (y ∷ t)) refl
   where
-    go : (x : Option Scalar) → x ≡ scalar_of (y ∷ t) → word_taken (y ∷ t) ≤ length (y ∷ t)
+    go : (x : Option (Taken ℕ)) → x ≡ scalar_of (y ∷ t) → word_taken (y ∷ t) ≤ length (y ∷ t)
     go (Some c) e =
         let p = word_value (y ∷ t) _ e (λ z. omega arith) c.taken c.value refl (is_white_space c.value) (is_white_space c.value) refl refl in
         omega (arith, pick-sum (is_white_space c.value) c.taken, (scalar-some (y ∷ t) c.taken c.value (sym e)).1)
@@ -92,7 +92,7 @@ many-some u le s h =
 white-or-word : (s : List ℕ) → ¬ (length s ≡ 0) → 1 ≤ white_taken s + word_taken s
 white-or-word s d = go (scalar_of s) refl
   where
-    go : (x : Option Scalar) → x ≡ scalar_of s → 1 ≤ white_taken s + word_taken s
+    go : (x : Option (Taken ℕ)) → x ≡ scalar_of s → 1 ≤ white_taken s + word_taken s
     go (Some c) e =
         let a = white-value s _ e c.taken c.value refl (is_white_space c.value) (is_white_space c.value) refl refl in
         let b = word_value s _ e d c.taken c.value refl (is_white_space c.value) (is_white_space c.value) refl refl in

@@ -1,85 +1,16 @@
--- White_Space: the table of code points read in order, and the ranges that PropList.txt lists.
+-- White_Space: the table of code points, and the ranges that PropList.txt lists.
 use Prim.Native.Nat.{ℕ, zero, suc, ◌+◌, ◌-◌, ◌≤◌, ◌<◌}
-use mathlib.Core.Path.{◌≡◌, refl, sym, ap, ap₂, ◌∙◌}
-use mathlib.Core.Bool.{Bool, true, false}
+use mathlib.Core.Path.{◌≡◌, refl, ap, ap₂, ◌∙◌}
+use mathlib.Core.Bool.{true, false}
 use mathlib.Core.List.{List, [], ◌∷◌, ◌++◌}
 use mathlib.Core.Logic.{⊎_elim}
-use native.Mathlib.Numerals.{add-one}
 use native.Mathlib.Omega.{arith}
-use borrow.Author.Tests.{ltb-true}
-use lib.Dec.{ltb}
-use lib.ListN.{length, get_or, drop, drop_of_length-le}
-use lib.Seq.{drop-cons}
+use Rattle.std.proofs.lemmas.Grind.{common_steps}
 use Rattle.combinators.specs.Choice.{or, and, is, within}
-use Rattle.combinators.proofs.Rules.{either, or_left, or_right, or-none, or-false, or_assoc, and-true, same_test, is-yes, is-no, is_true, within-true, within-yes, lt-or-ge}
-use Rattle.characters.specs.WhiteSpace.{white_space, member, is_white_space, Range, ranges, up_from, numbers, in_ranges}
+use Rattle.combinators.proofs.Rules.{either, or_left, or_right, or_assoc, same_test, is-yes, is-no, is_true, within-true, within-yes, lt-or-ge}
+use Rattle.characters.specs.WhiteSpace.{white_space, is_white_space, Range, ranges, up_from, numbers, in_ranges}
+use Rattle.combinators.specs.All.{member}
 
--- ---- the table in order
--- the entries are above x, and each is above the one before it
-unfoldable pub ascends : ℕ → List ℕ → Bool
-ascends x [] = true
-ascends x (y ∷ ys) = and (ltb x y) (ascends y ys)
-
--- the table of White_Space ascends, which is computed
-pub ascending : ascends 0 white_space ≡ true
-unfolding ascends and
-ascending = refl
-
--- a list that ascends does so behind each of its entries
-ascends-behind : (xs : List ℕ) (x i : ℕ) → ascends x xs ≡ true → i < length xs → ascends (get_or xs i 0) (drop (suc i) xs) ≡ true
-unfolding ascends
-ascends-behind [] x i e h = absurd (omega arith)
-ascends-behind (y ∷ ys) x zero e h = (and-true _ _ e).1
-ascends-behind (y ∷ ys) x (suc i) e h = ascends-behind ys y i (and-true _ _ e).1 (omega arith)
-
--- what is not above x is not in a list that ascends from x
-absent : (xs : List ℕ) (x v : ℕ) → ascends x xs ≡ true → v ≤ x → member v xs ≡ false
-unfolding ascends member
-absent [] x v e h = refl
-absent (y ∷ ys) x v e h =
-    let p = and-true (ltb x y) (ascends y ys) e in
-    let l = ltb-true x y p.0 in
-    or-none _ _ (is-no v y (λ q. omega arith)) (absent ys y v p.1 (omega arith))
-
-module _ (xs : List ℕ) (v i : ℕ) (l : i < length xs) where
-  -- an entry and what follows it
-  opened : member v (drop i xs) ≡ or (is v (get_or xs i 0)) (member v (drop (suc i) xs))
-  unfolding member
-  opened = rw (drop-cons xs i 0 l)
-
-  -- an entry below v is passed
-  passed : get_or xs i 0 < v → member v (drop i xs) ≡ member v (drop (suc i) xs)
-  unfolding or
-  passed h = opened ∙ rw (is-no v (get_or xs i 0) (λ e. omega arith))
-
-  -- the first entry that is not below v decides
-  decided : ascends 0 xs ≡ true → v ≤ get_or xs i 0 → member v (drop i xs) ≡ is v (get_or xs i 0)
-  decided e h = opened ∙ or-false _ _ (absent (drop (suc i) xs) (get_or xs i 0) v (ascends-behind xs 0 i e l) h)
-
--- ---- the loop: what is left of the table has v where the table has it
-pub record Seeking (v i : ℕ) : Type 0 where
-  pub left : member v (drop i white_space) ≡ is_white_space v
-
--- at the start, all is left
-pub seeking-begin : (v : ℕ) → Seeking v 0
-unfolding is_white_space
-seeking-begin v = record { left = refl }
-
-module _ (v i : ℕ) (c : Seeking v i) where
-  -- a turn: an entry below the number is passed
-  pub seeking-more : i < length white_space → get_or white_space i 0 < v → Seeking v (i + 1)
-  seeking-more l h = record { left = rw (add-one i) (sym (passed white_space v i l h) ∙ c.left) }
-
-  -- the answer at an entry that is not below v
-  pub seeking-found : i < length white_space → v ≤ get_or white_space i 0 → is v (get_or white_space i 0) ≡ is_white_space v
-  seeking-found l h = sym (decided white_space v i l ascending h) ∙ c.left
-
-  -- the answer behind the last entry
-  pub seeking-done : length white_space ≤ i → false ≡ is_white_space v
-  unfolding member
-  seeking-done h = rw (drop_of_length-le white_space {i = i} h) at c.left
-
--- ---- the ranges
 -- what is in one list or the other
 member-append : (v : ℕ) (xs ys : List ℕ) → member v (xs ++ ys) ≡ or (member v xs) (member v ys)
 unfolding member or
@@ -126,3 +57,11 @@ table-of-ranges = refl
 pub white-space-ranges : (v : ℕ) → is_white_space v ≡ in_ranges v ranges
 unfolding is_white_space
 white-space-ranges v = ap (member v) table-of-ranges ∙ numbers-are v ranges
+
+-- a number that is past the end of a range where it is not below its start is not in it
+pub outside : (v lo hi : ℕ) → (lo ≤ v → hi < v) → within v lo hi ≡ false
+unfolding within and
+outside v lo hi h = grind (arith, common_steps)
+
+-- for `is_white_space`
+pub ruleset by_ranges = (white-space-ranges, outside)

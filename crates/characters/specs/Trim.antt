@@ -2,13 +2,14 @@
 use Rattle.std.specs.Prelude.{ℕ, List, [], ◌∷◌, ◌≡◌, refl, length, drop, Option, Some, None}
 use Rattle.combinators.specs.Choice.{pick, or, and, is, within}
 use Rattle.combinators.specs.Repeat.{many, took}
+use Rattle.combinators.specs.All.{member}
 use Rattle.characters.specs.Literal.{text}
 use Rattle.characters.specs.Utf8.{utf8, continuation, is_continuation, lead_of, two, three, scalar_tail, scalar_by, scalar_of}
-use Rattle.characters.specs.WhiteSpace.{is_white_space, member}
-use Rattle.characters.specs.declared.utf8.Scalar.{Scalar}
+use Rattle.characters.specs.WhiteSpace.{is_white_space}
+use Rattle.combinators.specs.declared.taken.Taken.{Taken}
 
 -- one character of White_Space
-unfoldable pub white_of : Option Scalar → ℕ
+unfoldable pub white_of : Option (Taken ℕ) → ℕ
 white_of (Some c) = pick (is_white_space c.value) c.taken 0
 white_of None = 0
 
@@ -20,7 +21,7 @@ unfoldable pub trimmed_start : List ℕ → List ℕ
 trimmed_start s = drop (many white_taken 0 0 s) s
 
 -- one character that is no White_Space; a byte that begins no well-formed character counts as one
-unfoldable pub word_of : Option Scalar → ℕ
+unfoldable pub word_of : Option (Taken ℕ) → ℕ
 word_of (Some c) = pick (is_white_space c.value) 0 c.taken
 word_of None = 1
 

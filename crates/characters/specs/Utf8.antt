@@ -3,7 +3,7 @@
 use Rattle.std.specs.Prelude.{ℕ, ◌+◌, ◌*◌, ◌/◌, ◌%◌, Bool, true, false, List, [], ◌∷◌, ◌++◌, ◌≡◌, refl, leb, length, get_or, drop, Option, Some, None}
 use Rattle.combinators.specs.Choice.{pick, or, and, is, within}
 use Rattle.combinators.specs.Repeat.{many, took}
-use Rattle.characters.specs.declared.utf8.Scalar.{Scalar}
+use Rattle.combinators.specs.declared.taken.Taken.{Taken}
 use Rattle.characters.specs.declared.utf8.Lead.{Lead}
 
 -- a scalar value: any code point but the surrogates (D76)
@@ -32,20 +32,19 @@ utf8 v =
 unfoldable pub is_continuation : ℕ → Bool
 is_continuation x = within x 0x80 0xbf
 
--- Table 3-7, a row for each range of first bytes: how many bytes, and from where to where the second goes
-unfoldable pub lead_of : ℕ → Lead
+-- Table 3-7 above ASCII, a row for each range of first bytes: how many bytes, and from where to where the second goes
+unfoldable pub lead_of : ℕ → Option Lead
 lead_of x =
-    pick (leb x 0x7f) (record { long = 1; low = 0; high = 0 })
-    (pick (leb x 0xc1) (record { long = 0; low = 0; high = 0 })
-    (pick (leb x 0xdf) (record { long = 2; low = 0x80; high = 0xbf })
-    (pick (leb x 0xe0) (record { long = 3; low = 0xa0; high = 0xbf })
-    (pick (leb x 0xec) (record { long = 3; low = 0x80; high = 0xbf })
-    (pick (leb x 0xed) (record { long = 3; low = 0x80; high = 0x9f })
-    (pick (leb x 0xef) (record { long = 3; low = 0x80; high = 0xbf })
-    (pick (leb x 0xf0) (record { long = 4; low = 0x90; high = 0xbf })
-    (pick (leb x 0xf3) (record { long = 4; low = 0x80; high = 0xbf })
-    (pick (leb x 0xf4) (record { long = 4; low = 0x80; high = 0x8f })
-    (record { long = 0; low = 0; high = 0 }))))))))))
+    pick (leb x 0xc1) None
+    (pick (leb x 0xdf) (Some (record { long = 2; low = 0x80; high = 0xbf }))
+    (pick (leb x 0xe0) (Some (record { long = 3; low = 0xa0; high = 0xbf }))
+    (pick (leb x 0xec) (Some (record { long = 3; low = 0x80; high = 0xbf }))
+    (pick (leb x 0xed) (Some (record { long = 3; low = 0x80; high = 0x9f }))
+    (pick (leb x 0xef) (Some (record { long = 3; low = 0x80; high = 0xbf }))
+    (pick (leb x 0xf0) (Some (record { long = 4; low = 0x90; high = 0xbf }))
+    (pick (leb x 0xf3) (Some (record { long = 4; low = 0x80; high = 0xbf }))
+    (pick (leb x 0xf4) (Some (record { long = 4; low = 0x80; high = 0x8f }))
+    None))))))))
 
 -- the scalar value of two, three and four bytes
 unfoldable pub two : ℕ → ℕ → ℕ
@@ -58,7 +57,7 @@ unfoldable pub four : ℕ → ℕ → ℕ → ℕ → ℕ
 four a b c d = a % 8 * 262144 + b % 64 * 4096 + c % 64 * 64 + d % 64
 
 -- what a text begins with whose first two bytes fit a row of the table with so many bytes
-unfoldable pub scalar_tail : ℕ → List ℕ → Option Scalar
+unfoldable pub scalar_tail : ℕ → List ℕ → Option (Taken ℕ)
 scalar_tail long s =
     let a = get_or s 0 0 in
     let b = get_or s 1 0 in
@@ -70,19 +69,21 @@ scalar_tail long s =
     (pick (is_continuation d) (Some (record { taken = 4; value = four a b c d })) None))
     None)
 
--- what a text begins with whose first byte has the row l
-unfoldable pub scalar_by : Lead → List ℕ → Option Scalar
-scalar_by l s =
-    pick (is l.long 1) (Some (record { taken = 1; value = get_or s 0 0 }))
-    (pick (is l.long 0) None
-    (pick (within (get_or s 1 0) l.low l.high) (scalar_tail l.long s) None))
+-- what a text begins with, by the row of its first byte
+unfoldable pub scalar_by : Option Lead → List ℕ → Option (Taken ℕ)
+scalar_by (Some l) s = pick (within (get_or s 1 0) l.low l.high) (scalar_tail l.long s) None
+scalar_by None s = None
 
--- the scalar value that a text begins with, and how many bytes it takes
-unfoldable pub scalar_of : List ℕ → Option Scalar
-scalar_of s = pick (is (length s) 0) None (scalar_by (lead_of (get_or s 0 0)) s)
+-- the scalar value that a text begins with, and how many bytes it takes: a byte of ASCII is one by itself
+unfoldable pub scalar_of : List ℕ → Option (Taken ℕ)
+scalar_of s =
+    let a = get_or s 0 0 in
+    pick (is (length s) 0) None
+    (pick (leb a 0x7f) (Some (record { taken = 1; value = a }))
+    (scalar_by (lead_of a) s))
 
 -- the bytes that it takes
-unfoldable pub taken_of : Option Scalar → ℕ
+unfoldable pub taken_of : Option (Taken ℕ) → ℕ
 taken_of (Some c) = c.taken
 taken_of None = 0
 

@@ -1,17 +1,13 @@
 -- The property White_Space of the Unicode Character Database (PropList.txt): 25 code points.
 use Rattle.std.specs.Prelude.{ℕ, zero, suc, ◌-◌, Bool, false, List, [], ◌∷◌, ◌++◌}
-use Rattle.combinators.specs.Choice.{or, is, within}
+use Rattle.combinators.specs.Choice.{or, within}
+use Rattle.combinators.specs.All.{member}
 
--- the code points, as the code's table has them
+-- the code points
 abbrev pub white_space : List ℕ
 white_space =
     0x09 ∷ 0x0a ∷ 0x0b ∷ 0x0c ∷ 0x0d ∷ 0x20 ∷ 0x85 ∷ 0xa0 ∷ 0x1680 ∷ 0x2000 ∷ 0x2001 ∷ 0x2002 ∷ 0x2003 ∷ 0x2004 ∷ 0x2005 ∷ 0x2006
     ∷ 0x2007 ∷ 0x2008 ∷ 0x2009 ∷ 0x200a ∷ 0x2028 ∷ 0x2029 ∷ 0x202f ∷ 0x205f ∷ 0x3000 ∷ []
-
--- whether v is in a list
-unfoldable pub member : ℕ → List ℕ → Bool
-member v [] = false
-member v (x ∷ xs) = or (is v x) (member v xs)
 
 -- `char::is_whitespace`
 unfoldable pub is_white_space : ℕ → Bool

@@ -13,7 +13,7 @@ pub fn trim_start(s: &[u8]) -> usize
 {
     let mut i = 0;
     while let Some(c) = scalar_at(&s[i..])
-        && is_white_space(c.value)
+        && is_white_space(c.value as u32)
     {
         i += c.taken;
     }
@@ -29,7 +29,7 @@ pub fn word_end(s: &[u8]) -> usize
     let mut i = 0;
     while i < s.len() {
         match scalar_at(&s[i..]) {
-            Some(c) if is_white_space(c.value) => break,
+            Some(c) if is_white_space(c.value as u32) => break,
             Some(c) => i += c.taken,
             None => i += 1,
         }

@@ -1,20 +1,14 @@
 // UTF-8 by the Unicode Standard, section 3.9: Table 3-6 (the bytes of a scalar value) and Table 3-7 (well-formed byte sequences).
-ghost use Rattle.std.specs.Prelude.{◌≡◌, length};
+ghost use Rattle.std.specs.Prelude.{◌≡◌, length, Some};
 ghost use Rattle.combinators.specs.Store.{emits};
 ghost use Rattle.combinators.specs.Writer.{written, SameStore};
 ghost use Rattle.characters.specs.Utf8.{utf8, continuation, is_continuation, or_replacement, lead_of, two, three, four, scalar_tail, scalar_of, valid};
 
-use combinators::bytes::{between, peek};
+use combinators::bytes::peek;
+use combinators::taken::Taken;
 use combinators::writer::Writer;
 
-// A scalar value that a text begins with, and the bytes that it takes.
-#[derive(Clone, Copy)]
-pub struct Scalar {
-    pub taken: usize,
-    pub value: u32,
-}
-
-// What a first byte says: how many bytes the sequence has (0: it starts none), and from where to where the second byte goes.
+// What a first byte above ASCII says: how many bytes the sequence has, two to four, and from where to where the second byte goes.
 #[derive(Clone, Copy)]
 pub struct Lead {
     pub long: usize,
@@ -22,23 +16,19 @@ pub struct Lead {
     pub high: u8,
 }
 
-pub const REPLACEMENT_CHARACTER: u32 = 0xfffd;
-
 // A row of the table.
-fn row(long: usize, low: u8, high: u8) -> Lead
-    ensures { result ≡ record { long = long; low = low; high = high } }
+fn row(long: usize, low: u8, high: u8) -> Option<Lead>
+    ensures { result ≡ Some (record { long = long; low = low; high = high }) }
 {
-    Lead { long, low, high }
+    Some(Lead { long, low, high })
 }
 
-// The row of Table 3-7 that a first byte selects.
+// The row of Table 3-7 that a first byte above ASCII selects, if any.
 #[tactic(auto, unfolding(crate::specs::Utf8::lead_of, combinators::specs::Choice::pick))]
-fn lead_of(b: u8) -> Lead
+fn lead_of(b: u8) -> Option<Lead>
     ensures { result ≡ lead_of b }
 {
     match b {
-        0x00..=0x7f => row(1, 0, 0),
-        0x80..=0xc1 => row(0, 0, 0),
         0xc2..=0xdf => row(2, 0x80, 0xbf),
         0xe0 => row(3, 0xa0, 0xbf),
         0xe1..=0xec => row(3, 0x80, 0xbf),
@@ -47,42 +37,59 @@ fn lead_of(b: u8) -> Lead
         0xf0 => row(4, 0x90, 0xbf),
         0xf1..=0xf3 => row(4, 0x80, 0xbf),
         0xf4 => row(4, 0x80, 0x8f),
-        _ => row(0, 0, 0),
+        _ => None,
     }
 }
 
-#[tactic(auto, unfolding(crate::specs::Utf8::is_continuation))]
+#[tactic(auto, unfolding(crate::specs::Utf8::is_continuation, combinators::specs::Choice::within, combinators::specs::Choice::and))]
 fn is_continuation(b: u8) -> bool
     ensures { result ≡ is_continuation b }
 {
-    between(b, 0x80, 0xbf)
+    matches!(b, 0x80..=0xbf)
 }
 
+// How many values so many bits have: the low ones of a first byte, of a continuation byte, and of two and three of these.
+const THREE_BITS: u32 = 1 << 3;
+
+const FOUR_BITS: u32 = 1 << 4;
+
+const FIVE_BITS: u32 = 1 << 5;
+
+const SIX_BITS: u32 = 1 << 6;
+
+const TWELVE_BITS: u32 = 1 << 12;
+
+const EIGHTEEN_BITS: u32 = 1 << 18;
+
+// The scalar values of two, three and four bytes, each a row of Table 3-6 with its definition: one function of all would be told how many bytes to take
+// and what the first is cut to.
 #[tactic(auto, unfolding(crate::specs::Utf8::two))]
 fn value_of_two(a: u8, b: u8) -> u32
     ensures { result ≡ two a b }
 {
-    u32::from(a % 32) * 64 + u32::from(b % 64)
+    u32::from(a) % FIVE_BITS * SIX_BITS + u32::from(b) % SIX_BITS
 }
 
 #[tactic(auto, unfolding(crate::specs::Utf8::three))]
 fn value_of_three(a: u8, b: u8, c: u8) -> u32
     ensures { result ≡ three a b c }
 {
-    u32::from(a % 16) * 4096 + u32::from(b % 64) * 64 + u32::from(c % 64)
+    u32::from(a) % FOUR_BITS * TWELVE_BITS
+        + u32::from(b) % SIX_BITS * SIX_BITS
+        + u32::from(c) % SIX_BITS
 }
 
 #[tactic(auto, unfolding(crate::specs::Utf8::four))]
 fn value_of_four(a: u8, b: u8, c: u8, d: u8) -> u32
     ensures { result ≡ four a b c d }
 {
-    u32::from(a % 8) * 262144
-        + u32::from(b % 64) * 4096
-        + u32::from(c % 64) * 64
-        + u32::from(d % 64)
+    u32::from(a) % THREE_BITS * EIGHTEEN_BITS
+        + u32::from(b) % SIX_BITS * TWELVE_BITS
+        + u32::from(c) % SIX_BITS * SIX_BITS
+        + u32::from(d) % SIX_BITS
 }
 
-// How many bytes the scalar value `v` has.
+// How many bytes the scalar value `v` has. Told a number and no character: it says something of any number, as its definition does.
 #[tactic(auto, unfolding(crate::specs::Utf8::utf8, combinators::specs::Choice::pick))]
 pub fn length_of(v: u32) -> usize
     ensures { result ≡ length (utf8 v) }
@@ -97,13 +104,13 @@ pub fn length_of(v: u32) -> usize
 
 // What `s` begins with, where its first two bytes fit a row of `long` bytes.
 #[tactic(auto, unfolding(crate::specs::Utf8::scalar_tail, combinators::specs::Choice::pick, combinators::specs::Choice::is))]
-fn scalar_tail(s: &[u8], long: usize) -> Option<Scalar>
+fn scalar_tail(s: &[u8], long: usize) -> Option<Taken<u32>>
     ensures { result ≡ scalar_tail long s.now }
 {
     let a = peek(s, 0);
     let b = peek(s, 1);
     if long == 2 {
-        return Some(Scalar {
+        return Some(Taken {
             taken: 2,
             value: value_of_two(a, b),
         });
@@ -113,7 +120,7 @@ fn scalar_tail(s: &[u8], long: usize) -> Option<Scalar>
         return None;
     }
     if long == 3 {
-        return Some(Scalar {
+        return Some(Taken {
             taken: 3,
             value: value_of_three(a, b, c),
         });
@@ -122,31 +129,37 @@ fn scalar_tail(s: &[u8], long: usize) -> Option<Scalar>
     if !is_continuation(d) {
         return None;
     }
-    Some(Scalar {
+    Some(Taken {
         taken: 4,
         value: value_of_four(a, b, c, d),
     })
 }
 
-// The scalar value that `s` begins with, and how many bytes it takes.
-#[tactic(auto, unfolding(crate::specs::Utf8::scalar_of, crate::specs::Utf8::scalar_by, combinators::specs::Choice::pick, combinators::specs::Choice::is))]
-pub fn scalar_at(s: &[u8]) -> Option<Scalar>
+// The scalar value that `s` begins with, and how many bytes it takes. The rows of the table make characters alone, so `from_u32` refuses none of them.
+#[tactic(auto, unfolding(crate::specs::Utf8::scalar_of, crate::specs::Utf8::scalar_by, combinators::specs::Choice::pick, combinators::specs::Choice::is, combinators::specs::Choice::within, combinators::specs::Choice::and))]
+pub fn scalar_at(s: &[u8]) -> Option<Taken<char>>
     ensures { result ≡ scalar_of s.now }
 {
     let a = *s.first()?;
-    let lead = lead_of(a);
-    match lead.long {
-        0 => None,
-        1 => Some(Scalar {
+    if a.is_ascii() {
+        return Some(Taken {
             taken: 1,
-            value: u32::from(a),
-        }),
-        long if between(peek(s, 1), lead.low, lead.high) => scalar_tail(s, long),
-        _ => None,
+            value: char::from(a),
+        });
     }
+    let lead = lead_of(a)?;
+    if !(lead.low..=lead.high).contains(&peek(s, 1)) {
+        return None;
+    }
+    let read = scalar_tail(s, lead.long)?;
+    Some(Taken {
+        taken: read.taken,
+        value: char::from_u32(read.value)?,
+    })
 }
 
-// Whether `s` is well formed. A step is what a character takes, so this is no range.
+// Whether `s` is well formed, by the table above and not by `from_utf8`, which promises the library's own definition. A step is what a character takes, so
+// this is no range.
 pub fn is_valid(s: &[u8]) -> bool
     ensures { result ≡ valid s.now }
 {
@@ -157,15 +170,12 @@ pub fn is_valid(s: &[u8]) -> bool
     i == s.len()
 }
 
-// `v`, or U+FFFD where `v` is no scalar value.
+// The character `v`, or U+FFFD where `v` is no scalar value.
 #[tactic(auto, unfolding(crate::specs::Utf8::or_replacement, crate::specs::Utf8::is_scalar, combinators::specs::Choice::pick, combinators::specs::Choice::or, combinators::specs::Choice::within, combinators::specs::Choice::and))]
-pub fn or_replacement(v: u32) -> u32
+pub fn or_replacement(v: u32) -> char
     ensures { result ≡ or_replacement v }
 {
-    match v {
-        0..=0xd7ff | 0xe000..=0x10ffff => v,
-        _ => REPLACEMENT_CHARACTER,
-    }
+    char::from_u32(v).unwrap_or(char::REPLACEMENT_CHARACTER)
 }
 
 // The continuation byte of the low six bits of `v`.
@@ -173,10 +183,10 @@ pub fn or_replacement(v: u32) -> u32
 fn continuation_of(v: u32) -> u8
     ensures { result ≡ continuation v }
 {
-    (0x80 + v % 64) as u8
+    (0x80 + v % SIX_BITS) as u8
 }
 
-// The bytes of the scalar value `v`.
+// The bytes of the scalar value `v`. Told a number and no character: it says something of any number, as its definition does.
 #[tactic(auto, unfolding(crate::specs::Utf8::utf8, combinators::specs::Choice::pick))]
 pub fn emit_scalar(v: u32, writer: &mut Writer<'_>)
     ensures same_store { SameStore writer.old writer.new }
@@ -184,16 +194,16 @@ pub fn emit_scalar(v: u32, writer: &mut Writer<'_>)
 {
     match v {
         0..=0x7f => writer.emit(v as u8),
-        0x80..=0x7ff => writer.emit_all(&[(0xc0 + v / 64) as u8, continuation_of(v)]),
+        0x80..=0x7ff => writer.emit_all(&[(0xc0 + v / SIX_BITS) as u8, continuation_of(v)]),
         0x800..=0xffff => writer.emit_all(&[
-            (0xe0 + v / 4096) as u8,
-            continuation_of(v / 64),
+            (0xe0 + v / TWELVE_BITS) as u8,
+            continuation_of(v / SIX_BITS),
             continuation_of(v),
         ]),
         _ => writer.emit_all(&[
-            (0xf0 + v / 262144 % 8) as u8,
-            continuation_of(v / 4096),
-            continuation_of(v / 64),
+            (0xf0 + v / EIGHTEEN_BITS % THREE_BITS) as u8,
+            continuation_of(v / TWELVE_BITS),
+            continuation_of(v / SIX_BITS),
             continuation_of(v),
         ]),
     }

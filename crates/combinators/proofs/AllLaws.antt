@@ -28,3 +28,8 @@ all_weaker P Q h (x ∷ xs) p = (h x p.0, all_weaker P Q h xs p.1)
 pub all_both : {A : Type 0} (P Q R : A → Type 0) → ((a : A) → P a → Q a → R a) → (xs : List A) → All P xs → All Q xs → All R xs
 all_both P Q R h [] p q = tt
 all_both P Q R h (x ∷ xs) p q = (h x p.0 q.0, all_both P Q R h xs p.1 q.1)
+
+-- what holds of every value holds of those of a list
+pub of-all : {A : Type 0} (P : A → Type 0) → ((a : A) → P a) → (l : List A) → All P l
+of-all P f [] = tt
+of-all P f (a ∷ l) = (f a, of-all P f l)

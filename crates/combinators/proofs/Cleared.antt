@@ -1,5 +1,5 @@
 -- The laws of `filled_from` and `cleared`: the length, and the form with `take` and `replicate`.
-use mathlib.Core.Path.{◌≡◌, refl, ap}
+use mathlib.Core.Path.{◌≡◌, refl, sym, ap, ◌∙◌}
 use mathlib.Core.List.{List, [], ◌∷◌, ◌++◌}
 use Prim.Native.Nat.{ℕ, zero, suc, ◌-◌}
 use native.Mathlib.Omega.{arith}
@@ -34,3 +34,11 @@ length-cleared = length-filled_from 0
 -- what was before the place, and zeros
 pub cleared-is : (n : ℕ) (l : List ℕ) → cleared n l ≡ take n l ++ replicate (length l - n) 0
 cleared-is = filled_from-is 0
+
+-- a store cleared throughout is as many zeros as it was long, or as another that is as long
+pub cleared-throughout : (l m z : List ℕ) → length l ≡ length m → z ≡ cleared 0 l → z ≡ replicate (length m) 0
+cleared-throughout l m z e h = let n : length l - 0 ≡ length m = omega (arith, e) in h ∙ cleared-is 0 l ∙ ap (λ (i : ℕ). replicate i 0) n
+
+-- a store that is as many zeros as it was long is cleared throughout
+pub all_cleared : (l xs : List ℕ) → xs ≡ replicate (length l) 0 → xs ≡ cleared 0 l
+all_cleared l xs e = e ∙ sym (cleared-throughout l l (cleared 0 l) refl refl)

@@ -78,7 +78,7 @@ emits-fill (x ∷ xs) l f h =
     ∙ emits-fill xs (set l f x) (f + 1) (simp length-set (omega arith)) ∙ omega arith
 
 -- a store that was too short stays so
-full : (l xs : List ℕ) → emits (record { bytes = l; fill = length l + 1 }) xs ≡ record { bytes = l; fill = length l + 1 }
+pub full : (l xs : List ℕ) → emits (record { bytes = l; fill = length l + 1 }) xs ≡ record { bytes = l; fill = length l + 1 }
 unfolding emits
 full l [] = refl
 full l (x ∷ xs) = ap (λ (o : Store ℕ). emits o xs) (out_step l (length l + 1) x (omega arith)) ∙ full l xs

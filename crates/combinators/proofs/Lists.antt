@@ -32,7 +32,7 @@ pub byte-there : (s : List ℕ) (i k : ℕ) → 0 < k → is (get_or s i 0) k �
 byte-there s i k h e = test-there (λ x. is x k) (is-no 0 k (λ z. omega arith)) s i e
 
 -- what `&s[a..]` lends is the rest of the text
-pub rest : (s : List ℕ) (a : ℕ) → take (length s - a) (drop a s) ≡ drop a s
+pub rest : {A : Type 0} (s : List A) (a : ℕ) → take (length s - a) (drop a s) ≡ drop a s
 rest s a = take_all (length s - a) (drop a s) (omega (arith, length-drop a s))
 
 -- the byte at i is the first of the rest from i on
@@ -44,7 +44,7 @@ pub next : (s : List ℕ) (i : ℕ) → get_or (drop (suc i) s) 0 0 ≡ get_or s
 next s i = get_or-drop (suc i) s 0 0 ∙ simp (add-zero, add-one)
 
 -- a list that has no length is empty
-pub nil-of : (b : List ℕ) → length b ≤ 0 → b ≡ []
+pub nil-of : {A : Type 0} (b : List A) → length b ≤ 0 → b ≡ []
 nil-of [] h = refl
 nil-of (x ∷ b) h = absurd (omega arith)
 

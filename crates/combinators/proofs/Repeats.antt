@@ -133,11 +133,6 @@ module _ (u : List ℕ → ℕ) (b : List ℕ → List ℕ) where
   texts-stop [] e = refl
   texts-stop (x ∷ r) e = rw e
 
-  -- behind the end of the text nothing more is written
-  pub texts-end : (s : List ℕ) (i : ℕ) → length s ≤ i → texts u b 0 (drop i s) ≡ []
-  unfolding texts
-  texts-end s i h = rw (drop_of_length-le s h)
-
   -- where all that is left is passed over, the text is empty
   pub texts-all : (r : List ℕ) (n : ℕ) → n ≡ length r → texts u b n r ≡ []
   unfolding texts

@@ -47,6 +47,15 @@ pick-holds P false x y f g = g refl
 pub by_order : {A : Type 0} (P : A → Type 0) (a b : ℕ) (x y : A) → (a ≤ b → P x) → (b < a → P y) → P (pick (leb a b) x y)
 by_order P a b x y f g = pick-holds P (leb a b) x y (λ e. f (leb-true a b e)) (λ e. g (leb-false a b e))
 
+-- a test holds or it does not
+pub either_way : (t : Bool) → (t ≡ true) ⊎ (t ≡ false)
+either_way true = inl refl
+either_way false = inr refl
+
+-- two statements that each follow from the other
+abbrev pub Exactly : Type 0 → Type 0 → Type 0
+Exactly P Q = (P → Q) × (Q → P)
+
 -- what follows from either part of an `or`
 pub either : (P : Type 0) (a b : Bool) → or a b ≡ true → (a ≡ true → P) → (b ≡ true → P) → P
 unfolding or
@@ -97,8 +106,26 @@ module _ (a b : Bool) where
   pub and-gives-false : a ≡ false → false ≡ and a b
   and-gives-false e = sym (and_left e)
 
+-- the second of two tests holds
+pub or-second : (a b : Bool) → b ≡ true → or a b ≡ true
+unfolding or
+or-second true b e = refl
+or-second false b e = e
+
+-- neither of two tests holds where their `or` fails
+pub neither : (a b : Bool) → or a b ≡ false → (a ≡ false) × (b ≡ false)
+unfolding or
+neither true b e = never (sym e)
+neither false b e = (refl, e)
+
+-- a test beside one that holds
+pub and_yes : (a : Bool) → and a true ≡ a
+unfolding and
+and_yes true = refl
+and_yes false = refl
+
 -- a test beside one that fails does not hold
-and_no : (a : Bool) → and a false ≡ false
+pub and_no : (a : Bool) → and a false ≡ false
 unfolding and
 and_no true = refl
 and_no false = refl
@@ -172,6 +199,14 @@ is_true x k e = eqb-true x k e
 pub is_false : (x k : ℕ) → is x k ≡ false → ¬ (x ≡ k)
 unfolding is
 is_false x k e = eqb-false x k e
+
+-- two numbers are the same or not
+pub same-or-other : (x y : ℕ) → (x ≡ y) ⊎ (¬ (x ≡ y))
+same-or-other x y = go (is x y) refl
+  where
+    go : (t : Bool) → is x y ≡ t → (x ≡ y) ⊎ (¬ (x ≡ y))
+    go true e = inl (is_true x y e)
+    go false e = inr (is_false x y e)
 
 -- the same number added on both sides changes no test
 pub is-from : (n x y : ℕ) → is (n + x) (n + y) ≡ is x y

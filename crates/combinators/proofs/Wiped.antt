@@ -5,8 +5,8 @@ use mathlib.Core.Logic.{⊎_elim}
 use Prim.Native.Nat.{ℕ, zero, suc, ◌+◌, ◌-◌, ◌≤◌, ◌<◌}
 use native.Mathlib.Nat.{add-zero}
 use native.Mathlib.Omega.{arith}
-use lib.ListN.{length, set, replicate, length-replicate, replicate-append-replicate}
-use lib.Seq.{sets, set-set, set_comm, length-sets}
+use lib.ListN.{length, get_or, set, take, drop, replicate, length-replicate, replicate-append-replicate}
+use lib.Seq.{sets, set-set, set_comm, length-sets, get_or-set_other, take-set-le, drop-set-lt}
 use Rattle.combinators.specs.Store.{filled_part, wiped, most}
 use Rattle.combinators.proofs.Rules.{at_most, above, by_order, lt-or-ge}
 use Rattle.combinators.proofs.Emitted.{sets-out}
@@ -25,6 +25,28 @@ set_apart l i j a [] h = refl
 set_apart l i j a (y ∷ ys) h =
     set_apart (set l j y) i (suc j) a ys (omega arith)
     ∙ ap (λ (r : List ℕ). sets r (suc j) ys) (set_comm l j i y a (λ e. absurd (omega arith)))
+
+-- the front of a list in which a value is stored is the front with the value stored in it
+pub front-set : {A : Type 0} (n : ℕ) (l : List A) (i : ℕ) (v : A) → take n (set l i v) ≡ set (take n l) i v
+front-set zero l i v = refl
+front-set (suc n) [] i v = refl
+front-set (suc n) (x ∷ l) zero v = refl
+front-set {A} (suc n) (x ∷ l) (suc i) v = ap (λ (r : List A). x ∷ r) (front-set n l i v)
+
+-- what lies before a text stays
+pub take-sets : {A : Type 0} (l : List A) (n : ℕ) (xs : List A) (i : ℕ) → n ≤ i → take n (sets l i xs) ≡ take n l
+take-sets l n [] i h = refl
+take-sets l n (x ∷ xs) i h = take-sets (set l i x) n xs (suc i) (omega arith) ∙ take-set-le n l i x h
+
+-- so does each value of it
+pub sets-low : {A : Type 0} (vs l : List A) (i p : ℕ) (d : A) → p < i → get_or (sets l i vs) p d ≡ get_or l p d
+sets-low [] l i p d h = refl
+sets-low (v ∷ vs) l i p d h = sets-low vs (set l i v) (suc i) p d (omega arith) ∙ get_or-set_other l i p v d (λ e. absurd (omega arith))
+
+-- and what lies behind it
+pub drop-sets : {A : Type 0} (vs l : List A) (i n : ℕ) → i + length vs ≤ n → drop n (sets l i vs) ≡ drop n l
+drop-sets [] l i n h = refl
+drop-sets (v ∷ vs) l i n h = drop-sets vs (set l i v) (suc i) n (omega arith) ∙ drop-set-lt n l i v (omega arith)
 
 -- two texts that do not meet, in either order
 pub sets-apart : (l : List ℕ) (f g : ℕ) (xs ys : List ℕ) → f + length xs ≤ g → sets (sets l g ys) f xs ≡ sets (sets l f xs) g ys

@@ -1,11 +1,12 @@
 -- Stores that are zero from a place on.
-use mathlib.Core.Path.{◌≡◌, ap, sym, ◌∙◌}
+use mathlib.Core.Path.{◌≡◌, refl, ap, sym, ◌∙◌}
 use mathlib.Core.List.{List}
 use Prim.Native.Nat.{ℕ, ◌+◌, ◌≤◌}
 use native.Mathlib.Omega.{arith}
 use lib.ListN.{length, replicate}
 use lib.Seq.{sets}
-use Rattle.combinators.specs.Store.{wiped, Zeros}
+use Rattle.combinators.specs.Store.{wiped, cleared, Zeros}
+use Rattle.combinators.proofs.Cleared.{cleared-throughout}
 use Rattle.combinators.proofs.Wiped.{wiped-add, wiped-apart, wiped-over, wiped-zero}
 
 module _ (l : List ℕ) (f : ℕ) (z : Zeros l f) where
@@ -31,3 +32,7 @@ module _ (l : List ℕ) (f : ℕ) (z : Zeros l f) where
 -- a store that is zero throughout
 pub zeros-all : (m f : ℕ) → Zeros (replicate m 0) f
 zeros-all m f = record { wiping = λ n. wiped-zero n f m }
+
+-- a store that was cleared is zero from its start on
+pub clear-zeros : (l : List ℕ) → Zeros (cleared 0 l) 0
+clear-zeros l = rw (cleared-throughout l l (cleared 0 l) refl refl) (zeros-all (length l) 0)

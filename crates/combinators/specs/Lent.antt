@@ -16,6 +16,11 @@ pub record SameLengths (a b : Stores) : Type 0 where
   pub brackets : length b.brackets.now ≡ length a.brackets.now
   pub texts : length b.texts.now ≡ length a.texts.now
 
+-- both: whatever was written, the stores can be lent on as before
+pub record KeptStores (a b : Stores) : Type 0 where
+  pub lengths : SameLengths a b
+  pub same : SameStores a b
+
 -- a call that leaves the work stores, tokens and brackets, as they were
 pub record SameWork (a b : Stores) : Type 0 where
   pub tokens : b.tokens.now ≡ a.tokens.now

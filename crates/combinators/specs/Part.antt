@@ -2,5 +2,5 @@
 use Rattle.std.specs.Prelude.{ℕ, List, take, drop}
 
 -- n bytes of the store from a on: "`Cow` and `String` become ranges of the text store."
-unfoldable pub part : List ℕ → ℕ → ℕ → List ℕ
+unfoldable pub part : {A : Type 0} → List A → ℕ → ℕ → List A
 part store a n = take n (drop a store)

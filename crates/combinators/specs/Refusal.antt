@@ -1,6 +1,6 @@
 -- The refusals of documents 01 and 02, in the order in which they are looked for: "The lowest number that applies is returned, 4 counting as above
 -- 9 and below 10, with a place counted from 0"; "12, after 11", which stands behind 4.
-use Rattle.std.specs.Prelude.{ℕ}
+use Rattle.std.specs.Prelude.{ℕ, ◌≡◌, Result, Ok, Err}
 use Rattle.combinators.specs.declared.refusals.Refusal.{Refusal}
 
 -- nothing is refused
@@ -18,6 +18,11 @@ refused_at number place = record { number = number; text = 0; place = place }
 -- with the text that it is in
 abbrev pub refused_in : ℕ → ℕ → ℕ → Refusal
 refused_in number which place = record { number = number; text = which; place = place }
+
+-- what an answer stands for that tells nothing but an error: no refusal, or the one that the error gives
+unfoldable pub Refuses : {E : Type 0} → (E → Refusal → Type 0) → Result Unit E → Refusal → Type 0
+Refuses gives (Ok accepted) refusal = refusal ≡ no_refusal
+Refuses gives (Err error) refusal = gives error refusal
 
 -- ---- the numbers: "An engine that turns every sheet down fails 1, since refusals have fixed conditions."
 -- "a sheet over 32,768 bytes or compiled bytes over 65,536"; no place

@@ -1,15 +1,7 @@
 // Tests of bytes. A place past the end of a text reads as 0.
 ghost use Rattle.std.specs.Prelude.{◌≡◌, get_or};
-ghost use Rattle.combinators.specs.Choice.{is, within};
+ghost use Rattle.combinators.specs.Choice.{is};
 ghost use Rattle.combinators.specs.Word.{starts_with};
-
-// Whether `b` is from `lo` to `hi`.
-#[tactic(auto, unfolding(crate::specs::Choice::within, crate::specs::Choice::and))]
-pub fn between(b: u8, lo: u8, hi: u8) -> bool
-    ensures { result ≡ within b lo hi }
-{
-    lo <= b && b <= hi
-}
 
 // The byte at `i`, or 0 past the end.
 pub fn peek(s: &[u8], i: usize) -> u8
@@ -26,7 +18,7 @@ pub fn byte_is(s: &[u8], i: usize, k: u8) -> bool
     peek(s, i) == k
 }
 
-// Whether `s` begins with `word`.
+// Whether `s` begins with `word`: the library's, in the word of the definitions, so that no caller has to turn one into the other.
 pub fn starts_with(s: &[u8], word: &[u8]) -> bool
     ensures { result ≡ starts_with word.now s.now }
 {

@@ -19,8 +19,8 @@ pub fn long_enough(length: usize, width: usize, count: usize, more: usize) -> bo
     more <= length && count <= (length - more) / width
 }
 
-// Whether stores of these lengths, in the order in which calls lend them, suffice for `n` bytes of text. Lengths, and no stores: a call that is lent no
-// rules has its tokens tested in their place, and some tests are told lengths alone.
+// Whether stores of these lengths, in the order in which calls lend them, suffice for `n` bytes of text. Lengths, and no stores, since a call that is lent no
+// rules has its tokens tested in their place; who has all four asks `Stores::suffice`.
 #[tactic(auto, unfolding(crate::specs::LeastLengths::stores_suffice, crate::specs::Choice::and))]
 pub fn stores_suffice(n: usize, rules: usize, tokens: usize, brackets: usize, texts: usize) -> bool
     ensures { result ≡ stores_suffice n rules tokens brackets texts }

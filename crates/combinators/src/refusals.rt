@@ -1,6 +1,7 @@
-// The refusals of documents 01 and 02, in the order in which they are looked for, each with what its place is.
+// The refusals of documents 01 and 02, in the order in which they are looked for, each with what its place is. They are numbers, since the documents and C
+// have them so; in the crates an error is an enum, and `From` gives its number.
 ghost use Rattle.std.specs.Prelude.{◌≡◌};
-ghost use Rattle.combinators.specs.Refusal.{no_refusal, refused, refused_at, refused_in};
+ghost use Rattle.combinators.specs.Refusal.{no_refusal, refused, refused_at, refused_in, Refuses};
 
 // Nothing is refused.
 pub const NO_REFUSAL: u32 = 0;
@@ -74,5 +75,16 @@ pub fn refused_in(number: u32, text: usize, place: usize) -> Refusal
         number,
         text,
         place,
+    }
+}
+
+// What an answer stands for that tells nothing but an error.
+#[tactic(auto, unfolding(crate::specs::Refusal::Refuses))]
+pub fn refusal_of<E: Into<Refusal>>(answer: Result<(), E>) -> Refusal
+    ensures { Refuses E.converts answer result }
+{
+    match answer {
+        Ok(()) => no_refusal(),
+        Err(error) => error.into(),
     }
 }

@@ -5,7 +5,8 @@ ghost use Rattle.combinators.specs.Writer.{written, SameStore};
 
 use crate::stores::{emit, emit_all};
 
-// A lent store, and how far it is filled.
+// A lent store, and how far it is filled. It is one of bytes: of any elements it would owe at each call that there are fewer than 2^63 of them, and what writes rows of numbers is told a
+// place in a store that it shares with others.
 #[derive(Drop)]
 pub struct Writer<'a> {
     pub store: &'a mut [u8],

@@ -1,101 +1,88 @@
--- Returns of `comparison_style_attribute` and `comparison_color_attribute`: the refusals in their order, and what is read in stores of the least lengths.
-use Prim.Native.Nat.{ℕ, ◌≤◌, ◌<◌}
-use mathlib.Core.Bool.{Bool, true, false}
+-- Returns of `comparison_style_attribute` and `comparison_color_attribute`: what is refused, and what is read in stores of the least lengths.
+use Prim.Native.Nat.{ℕ, ◌≤◌}
 use mathlib.Core.List.{List}
-use mathlib.Core.Path.{◌≡◌, refl, ap, sym, ◌∙◌}
+use mathlib.Core.Path.{◌≡◌, refl, ap, sym, subst, ◌∙◌}
 use native.Mathlib.Omega.{arith}
-use borrow.Author.Tests.{lt-ltb, le-ltb}
+use borrow.Author.Tests.{ltb-false}
 use lib.ListN.{length}
-use Rattle.std.proofs.Common.{Option}
-use Rattle.combinators.specs.LeastLengths.{stores_suffice}
-use Rattle.combinators.specs.Refusal.{too_long, short_store}
+use lib.Dec.{ltb}
+use Rattle.std.proofs.Common.{Option, Result, Ok, Err}
+use Rattle.std.specs.Result.{IsErrAnd}
+use Rattle.combinators.specs.LeastLengths.{stores_suffice, Least}
 use Rattle.combinators.proofs.LeastLaws.{least}
-use Rattle.combinators.proofs.Rules.{pick_true, pick-false}
+use Rattle.combinators.proofs.Rules.{pick-holds}
 use Rattle.values.specs.Layout.{Room}
 use Rattle.declarations.specs.Leaving.{colour_left, style_left, StyleRoom}
 use Rattle.declarations.specs.declared.attributes.StylesRead.{StylesRead}
 use Rattle.declarations.proofs.LeastLengths.{least-room, least-style-room}
 use Rattle.page.specs.Accepted.{text_limit}
-use Rattle.comparison.specs.declared.values_read.StylesResult.{StylesResult}
-use Rattle.comparison.specs.declared.values_read.ColourResult.{ColourResult}
-use Rattle.comparison.specs.Attributes.{refused_or, refused_styles, styles_result, style_read, style_called, refused_colour, colour_result, colour_read, colour_called}
+use Rattle.comparison.specs.declared.values_read.ValueError.{ValueError}
+use Rattle.comparison.specs.Attributes.{value_checked, refused_or, styles_result, style_read, style_called, colour_result, colour_read, colour_called}
 
--- ---- refusals, in their order
-module _ {A : Type 0} (s : List ℕ) (rules tokens brackets texts : ℕ) (refused : ℕ → A) (answer : A) where
-  -- a text above the limit is refused with 1, before anything else is asked
-  limit-first : text_limit < length s → refused too_long ≡ refused_or s rules tokens brackets texts refused answer
-  unfolding refused_or
-  limit-first h = pick_true _ _ _ _ (lt-ltb text_limit (length s) h) refl
+-- ---- a value that passes is within the limit, and the stores suffice
+record Passed (n rules tokens brackets texts : ℕ) : Type 0 where
+  within : n ≤ text_limit
+  least : Least n rules tokens brackets texts
 
-  module _ (h : length s ≤ text_limit) {t : Bool} (et : t ≡ stores_suffice (length s) rules tokens brackets texts) where
-    -- stores that are too short are refused next
-    stores-then : t ≡ false → refused short_store ≡ refused_or s rules tokens brackets texts refused answer
-    unfolding refused_or
-    stores-then e = pick-false _ _ _ _ (le-ltb text_limit (length s) h) (pick-false _ _ _ _ (sym et ∙ e) refl)
+-- what an answer says that refuses nothing
+Passes : ℕ → ℕ → ℕ → ℕ → ℕ → Result Unit ValueError → Type 0
+Passes n rules tokens brackets texts (Ok passed) = Passed n rules tokens brackets texts
+Passes n rules tokens brackets texts (Err e) = Unit
 
-    -- with neither, the call answers
-    answered : t ≡ true → answer ≡ refused_or s rules tokens brackets texts refused answer
-    unfolding refused_or
-    answered e = pick-false _ _ _ _ (le-ltb text_limit (length s) h) (pick_true _ _ _ _ (sym et ∙ e) refl)
+passes : (n rules tokens brackets texts : ℕ) → Passes n rules tokens brackets texts (value_checked n rules tokens brackets texts)
+unfolding value_checked Passes
+passes n rules tokens brackets texts =
+    pick-holds (Passes n rules tokens brackets texts) (ltb text_limit n) _ _ (λ _. tt)
+    (λ l. pick-holds (Passes n rules tokens brackets texts) (stores_suffice n rules tokens brackets texts) _ _ (λ e. record { within = ltb-false text_limit n l; least = least refl e }) (λ _. tt))
 
--- ---- the returns of `comparison_style_attribute`
-module _ (s rules tokens brackets texts : List ℕ) where
-  -- the return where the attribute is too long: refused, and the stores as they were
-  pub style-too-long : {r : StylesResult} → r ≡ refused_styles too_long → text_limit < length s
-      → record { result = r; rules = rules; tokens = tokens; brackets = brackets; texts = texts }
-      ≡ style_called s rules tokens brackets texts
-  unfolding style_called
-  style-too-long q h = rw q (limit-first s (length rules) (length tokens) (length brackets) (length texts) _ _ h)
+passed : {n rules tokens brackets texts : ℕ} {v : Result Unit ValueError} → v ≡ value_checked n rules tokens brackets texts → v ≡ Ok tt → Passed n rules tokens brackets texts
+unfolding Passes
+passed {n} {rules} {tokens} {brackets} {texts} ev was = subst (Passes n rules tokens brackets texts) (sym ev ∙ was) (passes n rules tokens brackets texts)
 
-  module _ (h : length s ≤ text_limit) {t : Bool} (et : t ≡ stores_suffice (length s) (length rules) (length tokens) (length brackets) (length texts)) where
-    -- the return where the stores are too short: refused, and the stores as they were
-    pub style-short : {r : StylesResult} → r ≡ refused_styles short_store → t ≡ false
-        → record { result = r; rules = rules; tokens = tokens; brackets = brackets; texts = texts }
-        ≡ style_called s rules tokens brackets texts
-    unfolding style_called
-    style-short q e = rw q (stores-then s (length rules) (length tokens) (length brackets) (length texts) _ _ h et e)
+-- ---- the returns of `read_styles`
+module _ (s rules tokens brackets texts : List ℕ) {v : Result Unit ValueError}
+    (ev : v ≡ value_checked (length s) (length rules) (length tokens) (length brackets) (length texts)) where
+  -- the return where the value is refused: the stores are as they were
+  pub style-refused : {e : ValueError} → v ≡ Err e → (o : Result StylesRead ValueError) → IsErrAnd o (λ q. q ≡ e)
+      → record { result = styles_result o; rules = rules; tokens = tokens; brackets = brackets; texts = texts } ≡ style_called s rules tokens brackets texts
+  unfolding style_called refused_or
+  style-refused was (Err q) d = rw (← ev, was, d) refl
+  style-refused was (Ok read) d = absurd d
 
-    module _ (e : t ≡ true) where
-      -- stores of the least lengths have the room that reading the attribute's styles asks for
-      pub style-room : StyleRoom s rules tokens brackets texts 0
-      style-room =
-          let l = least et e in
-          least-style-room (length s) s rules tokens brackets texts 0 (omega arith) (omega arith) (omega arith) l.for-texts l.for-brackets l.for-rules l.for-tokens
+  module _ (was : v ≡ Ok tt) where
+    -- stores of the least lengths have the room that reading the attribute's styles asks for
+    pub style-room : StyleRoom s rules tokens brackets texts 0
+    style-room =
+        let p = passed ev was in
+        let l = p.least in
+        least-style-room (length s) s rules tokens brackets texts 0 (omega arith) (omega arith) (omega (arith, p.within)) l.for-texts l.for-brackets l.for-rules l.for-tokens
 
-      -- the return where the styles were read: their count, the bytes of their texts, and the stores as reading leaves them
-      pub style-read : {a : StylesRead} {y x b z : List ℕ}
-          → record { answer = a; rules = y; tokens = x; brackets = b; store = z } ≡ style_left s rules tokens brackets texts 0
-          → {r : StylesResult} → r ≡ styles_result a → record { result = r; rules = y; tokens = x; brackets = b; texts = z }
-          ≡ style_called s rules tokens brackets texts
-      unfolding style_called style_read
-      style-read p q = rw q (ap style_read p ∙ answered s (length rules) (length tokens) (length brackets) (length texts) _ _ h et e)
+    -- the return where the styles were read: their count, the bytes of their texts, and the stores as reading leaves them
+    pub style-called : {a : StylesRead} {y x b z : List ℕ} → record { answer = a; rules = y; tokens = x; brackets = b; store = z } ≡ style_left s rules tokens brackets texts 0
+        → record { result = styles_result (Ok a); rules = y; tokens = x; brackets = b; texts = z } ≡ style_called s rules tokens brackets texts
+    unfolding style_called style_read refused_or
+    style-called p = rw (← ev, was) (ap style_read p)
 
--- ---- the returns of `comparison_color_attribute`
-module _ (s tokens brackets texts : List ℕ) where
-  -- the return where the attribute is too long: refused, and the stores as they were
-  pub colour-too-long : {r : ColourResult} → r ≡ refused_colour too_long → text_limit < length s
-      → record { result = r; tokens = tokens; brackets = brackets; texts = texts }
-      ≡ colour_called s tokens brackets texts
-  unfolding colour_called
-  colour-too-long q h = rw q (limit-first s (length tokens) (length tokens) (length brackets) (length texts) _ _ h)
+-- ---- the returns of `read_colour`
+module _ (s tokens brackets texts : List ℕ) {v : Result Unit ValueError}
+    (ev : v ≡ value_checked (length s) (length tokens) (length tokens) (length brackets) (length texts)) where
+  -- the return where the value is refused: the stores are as they were
+  pub colour-refused : {e : ValueError} → v ≡ Err e → (o : Result (Option ℕ) ValueError) → IsErrAnd o (λ q. q ≡ e)
+      → record { result = colour_result o; tokens = tokens; brackets = brackets; texts = texts } ≡ colour_called s tokens brackets texts
+  unfolding colour_called refused_or
+  colour-refused was (Err q) d = rw (← ev, was, d) refl
+  colour-refused was (Ok found) d = absurd d
 
-  module _ (h : length s ≤ text_limit) {t : Bool} (et : t ≡ stores_suffice (length s) (length tokens) (length tokens) (length brackets) (length texts)) where
-    -- the return where the stores are too short: refused, and the stores as they were
-    pub colour-short : {r : ColourResult} → r ≡ refused_colour short_store → t ≡ false
-        → record { result = r; tokens = tokens; brackets = brackets; texts = texts }
-        ≡ colour_called s tokens brackets texts
-    unfolding colour_called
-    colour-short q e = rw q (stores-then s (length tokens) (length tokens) (length brackets) (length texts) _ _ h et e)
+  module _ (was : v ≡ Ok tt) where
+    -- stores of the least lengths have the room that reading a colour asks for
+    pub colour-room : Room (length s) 0 tokens brackets texts
+    colour-room =
+        let p = passed ev was in
+        let l = p.least in
+        least-room (length s) s tokens tokens brackets texts 0 (omega arith) (omega arith) (omega (arith, p.within)) l.for-texts l.for-brackets l.for-rules l.for-tokens
 
-    module _ (e : t ≡ true) where
-      -- stores of the least lengths have the room that reading a colour asks for
-      pub colour-room : Room (length s) 0 tokens brackets texts
-      colour-room =
-          let l = least et e in
-          least-room (length s) s tokens tokens brackets texts 0 (omega arith) (omega arith) (omega arith) l.for-texts l.for-brackets l.for-rules l.for-tokens
-
-      -- the return where the value was read: whether a colour was found, and which, in numbers
-      pub colour-read : {a : Option ℕ} {x b z : List ℕ} → record { answer = a; tokens = x; brackets = b; store = z } ≡ colour_left s tokens brackets texts 0
-          → {r : ColourResult} → r ≡ colour_result a → record { result = r; tokens = x; brackets = b; texts = z } ≡ colour_called s tokens brackets texts
-      unfolding colour_called colour_read
-      colour-read p q = rw q (ap colour_read p ∙ answered s (length tokens) (length tokens) (length brackets) (length texts) _ _ h et e)
+    -- the return where the value was read: whether a colour was found, and which, in numbers
+    pub colour-read : {a : Option ℕ} {x b z : List ℕ} → record { answer = a; tokens = x; brackets = b; store = z } ≡ colour_left s tokens brackets texts 0
+        → record { result = colour_result (Ok a); tokens = x; brackets = b; texts = z } ≡ colour_called s tokens brackets texts
+    unfolding colour_called colour_read refused_or
+    colour-read p = rw (← ev, was) (ap colour_read p)

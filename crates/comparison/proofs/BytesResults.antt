@@ -5,7 +5,7 @@ use mathlib.Core.Path.{◌≡◌, refl, ◌∙◌}
 use borrow.Author.Tests.{lt-ltb, le-ltb}
 use lib.ListN.{length}
 use Rattle.std.proofs.Common.{Result, Ok, Err}
-use Rattle.combinators.specs.Refusal.{refused, refused_at, too_long}
+use Rattle.combinators.specs.Refusal.{refused, refused_at, too_long, bad_bytes, Refuses}
 use Rattle.combinators.specs.declared.refusals.Refusal.{Refusal}
 use Rattle.combinators.proofs.Rules.{pick_true, pick-false}
 use Rattle.compiled.specs.Answer.{refusal_of, bytes_refusal}
@@ -19,6 +19,12 @@ names-none : (a : Result Unit Fault) → refused_at (refusal_of a).number (refus
 unfolding refusal_of
 names-none (Ok u) = refl
 names-none (Err f) = refl
+
+-- what an answer stands for by its error's refusal is its refusal
+pub refusal-of : (a : Result Unit Fault) {q : Refusal} → Refuses (λ f r. r ≡ refused_at bad_bytes f.place) a q → q ≡ refusal_of a
+unfolding Refuses refusal_of
+refusal-of (Ok u) h = h
+refusal-of (Err f) h = h
 
 -- ---- a struct of a refusal
 module _ (t : List ℕ) (told : BytesResult) {q : Refusal} (e : told ≡ bytes_result q) where

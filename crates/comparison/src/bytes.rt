@@ -2,8 +2,9 @@
 ghost use Rattle.std.specs.Prelude.{◌≡◌};
 ghost use Rattle.comparison.specs.Bytes.{bytes_result, refusal_in, bytes_called};
 
-use combinators::refusals::{Refusal, TOO_LONG, refused};
-use compiled::sheets::{COMPILED_LIMIT, check_sheet, refusal_of};
+use combinators::refusals::{Refusal, TOO_LONG, refusal_of, refused};
+use compiled::bytes::SheetBytes;
+use compiled::sheets::COMPILED_LIMIT;
 
 // The refusal's number and place. Numbers, for C has no `Result`.
 #[repr(C)]
@@ -13,9 +14,11 @@ pub struct BytesResult {
     pub place: usize,
 }
 
+// Of a refusal and no error enum: it is told where it comes up, that of the length beside what `check_sheet` answers.
 impl From<Refusal> for BytesResult {
     ghost from_gives = { λ refusal told. told ≡ bytes_result refusal };
 
+    #[tactic(auto, unfolding(crate::specs::Bytes::bytes_result))]
     fn from(refusal: Refusal) -> BytesResult {
         BytesResult {
             refusal: refusal.number,
@@ -32,6 +35,6 @@ pub extern "C" fn comparison_check_bytes(bytes: &[u8]) -> BytesResult
     if bytes.len() > COMPILED_LIMIT {
         refused(TOO_LONG).into()
     } else {
-        refusal_of(check_sheet(bytes)).into()
+        refusal_of(SheetBytes { bytes }.check_sheet()).into()
     }
 }

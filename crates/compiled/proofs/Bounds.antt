@@ -151,7 +151,7 @@ module _ (t : List ℕ) where
 
   -- ---- styles
   -- a style's value ends within the bytes
-  value-reaches : (from slot n : ℕ) → n ≤ length t → Reaches 0 (length t) n (value_at t from slot n)
+  pub value-reaches : (from slot n : ℕ) → n ≤ length t → Reaches 0 (length t) n (value_at t from slot n)
   unfolding value_at content_at number_up_to
   value-reaches from slot n l =
       pick-holds (Reaches 0 (length t) n) (is slot display_slot) _ _ (λ _. reaches-read (length t) n 0 n _ (omega arith) l)

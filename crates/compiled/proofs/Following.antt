@@ -7,6 +7,7 @@ use native.Mathlib.Omega.{arith}
 use lib.ListN.{length, get_or, length-drop, length-append}
 use Rattle.combinators.specs.All.{All}
 use Rattle.combinators.proofs.Lists.{first}
+use Rattle.combinators.proofs.AllLaws.{all_append}
 use Rattle.syntax.specs.Stream.{texts_many}
 use Rattle.syntax.proofs.Streams.{Held, held-left, held-right}
 use Rattle.compiled.specs.Decoded.{Decoded, read, fault, and_then, mapped, counted}
@@ -75,12 +76,6 @@ module _ {A : Type 0} (t : List ℕ) (w : A → List ℕ) (u : ℕ → Decoded A
       ∙ ends_at (a ∷ xs) _ _ e
 
 -- ---- lists of bytes
-module _ {A : Type 0} (P : A → Type 0) where
-  -- what holds of every value of two lists holds of every value of both
-  pub all_append : (xs ys : List A) → All P xs → All P ys → All P (xs ++ ys)
-  all_append [] ys p q = q
-  all_append (x ∷ xs) ys p q = (p.0, all_append xs ys p.1 q)
-
 -- where the bytes of a value that P holds of are bytes, so are those of a list of them
 module _ {A : Type 0} (w : A → List ℕ) (P : A → Type 0) (Q : ℕ → Type 0) (one : (a : A) → P a → All Q (w a)) where
   -- the bytes of a list are bytes, where those of each value are

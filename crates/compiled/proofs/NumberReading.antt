@@ -1,15 +1,23 @@
 -- The loop of `read_groups`: what is left to read at a group is what was to be read; and the choice of `read_ranged`.
 use mathlib.Core.Path.{◌≡◌, refl, sym, ap, ◌∙◌}
-use mathlib.Core.Bool.{false}
+use mathlib.Core.Bool.{Bool, true, false}
 use mathlib.Core.List.{List}
-use mathlib.Core.Logic.{◌⊎◌, inl, inr}
+use mathlib.Core.Logic.{⊎_elim}
 use Prim.Native.Nat.{ℕ, zero, suc, ◌+◌, ◌-◌, ◌*◌, ◌≤◌, ◌<◌}
 use native.Mathlib.Nat.{mul-le-mul, mul-le-mul_left, mul-le-mul_right}
 use native.Mathlib.Omega.{arith}
 use borrow.Author.Tests.{lt-ltb, le-ltb, le-leb}
-use lib.ListN.{length, get_or}
-use Rattle.combinators.specs.Choice.{pick, within}
-use Rattle.combinators.proofs.Rules.{pick_true, pick-false, within-yes, within-false, within-past}
+use lib.Dec.{leb}
+use Rattle.std.specs.Ordering.{nat_cmp, is_le, is_lt}
+use Rattle.std.proofs.lemmas.Bool.Decides.{nat_tests}
+use Rattle.std.specs.Prelude.{cond, ◌&&◌}
+use lib.ListN.{length, drop, get_or, length-take, length-drop}
+use lib.Seq.{get_or-drop}
+use Rattle.std.proofs.lemmas.List.{get_or-take}
+use Rattle.std.proofs.Common.{min}
+use Rattle.combinators.specs.Choice.{pick, and, within}
+use Rattle.combinators.specs.Part.{part}
+use Rattle.combinators.proofs.Rules.{pick_true, pick-false, within-yes, lt-or-ge}
 use Rattle.compiled.specs.Decoded.{read, fault}
 use Rattle.compiled.specs.Number.{group_values, most_groups, number_limit, limited, groups_at, number_at, ranged_at}
 use Rattle.compiled.specs.Answer.{read_answer, read_within}
@@ -117,7 +125,7 @@ module _ (s : List ℕ) (at value scale i left : ℕ) (c : Reading s at value sc
         again (suc k) g = let q : suc k - 1 ≡ k = omega arith in rw q (more-at s at k b value scale i l (sym e) h)
 
 -- five groups were read and none was the last
-pub reading-none : (s : List ℕ) (at value scale i left : ℕ) → Reading s at value scale i left → left ≤ 0
+reading-none : (s : List ℕ) (at value scale i left : ℕ) → Reading s at value scale i left → left ≤ 0
     → (failed at ≡ read_answer (number_at s at)) × read_within {A = ℕ} (length s) (failed at)
 unfolding groups_at read_answer
 reading-none s at value scale i left c h =
@@ -127,6 +135,31 @@ reading-none s at value scale i left c h =
     none zero h = refl
     none (suc k) h = absurd (omega arith)
 
+-- ---- the bytes that hold the groups
+module _ (s t : List ℕ) (at i : ℕ) (e : t ≡ part s at most_groups) where
+  -- how many there are
+  groups-long : length t ≡ min most_groups (length s - at)
+  unfolding part
+  groups-long = rw e (length-take most_groups (drop at s) ∙ ap (min most_groups) (length-drop at s))
+
+  -- a byte of them is one of all bytes
+  pub group-byte : i < length t → get_or t i 0 ≡ get_or s (at + i) 0
+  unfolding part
+  group-byte l = ap (λ (x : List ℕ). get_or x i 0) e ∙ get_or-take most_groups (drop at s) i 0 (omega (arith, l, groups-long)) ∙ get_or-drop at s i 0
+
+  -- it lies within the bytes, and not all groups are behind it
+  pub group-inside : i < length t → (at + i < length s) × (0 < most_groups - i)
+  group-inside l = (omega (arith, l, groups-long), omega (arith, l, groups-long))
+
+  -- behind them there are no groups left, or no bytes
+  pub reading-ended : (value scale : ℕ) → Reading s at value scale (at + i) (most_groups - i) → length t ≤ i
+      → (failed at ≡ read_answer (number_at s at)) × read_within {A = ℕ} (length s) (failed at)
+  reading-ended value scale c l =
+      ⊎_elim
+      (λ h. reading-short s at value scale (at + i) (most_groups - i) c (omega arith) (failed at) (omega (arith, l, groups-long)) refl)
+      (λ h. reading-none s at value scale (at + i) (most_groups - i) c (omega arith))
+      (lt-or-ge i most_groups)
+
 -- ---- `read_number`
 -- a number of one group
 pub reading-one : (s : List ℕ) (at b : ℕ) → b ≡ get_or s at 0 → at < length s → b < group_values → (r : Result (Read ℕ) Fault) → r ≡ got (at + 1) b
@@ -134,6 +167,22 @@ pub reading-one : (s : List ℕ) (at b : ℕ) → b ≡ get_or s at 0 → at < l
 reading-one s at b e l h r p =
     let v : 0 + b * 1 ≡ b = omega arith in
     reading-last s at 0 1 at most_groups (reading-begin s at) (omega arith) b e l h r (p ∙ limited-yes at (at + 1) b (omega arith) ∙ ap (λ (n : ℕ). read_answer (limited at (at + 1) n)) (sym v))
+
+-- ---- ranges
+-- what the order of the library says
+at_most : (a b : ℕ) → is_le (nat_cmp a b) ≡ leb a b
+at_most a b = grind (arith, nat_tests)
+
+both : (a b : Bool) → (a && b) ≡ and a b
+unfolding and
+both true b = refl
+both false b = refl
+
+-- what `contains` answers of a range from lo to hi
+pub contained : (s e : ℕ) (spent b : Bool) (lo hi x : ℕ) → s ≡ lo → e ≡ hi → spent ≡ false
+    → b ≡ (is_le (nat_cmp s x) && cond spent (is_lt (nat_cmp x e)) (is_le (nat_cmp x e))) → b ≡ within x lo hi
+unfolding within
+contained s e spent b lo hi x p q r h = h ∙ rw (p, q, r) (ap (λ a. a && is_le (nat_cmp x hi)) (at_most lo x) ∙ ap (λ a. leb lo x && a) (at_most x hi) ∙ both (leb lo x) (leb x hi))
 
 -- ---- `read_ranged`: the number that was read lies within the range, or it is a fault
 module _ (s : List ℕ) (at lo hi : ℕ) (r : Result (Read ℕ) Fault) (e : r ≡ read_answer (number_at s at)) where
@@ -147,13 +196,9 @@ module _ (s : List ℕ) (at lo hi : ℕ) (r : Result (Read ℕ) Fault) (e : r �
   answered q p = answer-within (ranged_at s at lo hi) q p 1 (length s) at (ranged-reaches s at lo hi)
 
   -- it lies outside of it
-  pub ranged-out : (x : Read ℕ) → r ≡ Ok x → ((lo ≤ x.value) × (hi < x.value)) ⊎ (x.value < lo) → (failed at ≡ read_answer (ranged_at s at lo hi)) × read_within (length s) (failed {A = Read ℕ} at)
+  pub ranged-out : (x : Read ℕ) → r ≡ Ok x → within x.value lo hi ≡ false → (failed at ≡ read_answer (ranged_at s at lo hi)) × read_within (length s) (failed {A = Read ℕ} at)
   unfolding read_answer
-  ranged-out x p h = answered _ (ap read_answer (pick-false _ (read x.next x.value) _ _ (past h) refl ∙ sym (chosen x p)))
-    where
-      past : ((lo ≤ x.value) × (hi < x.value)) ⊎ (x.value < lo) → within x.value lo hi ≡ false
-      past (inl k) = within-past x.value lo hi k.1
-      past (inr k) = sym (within-false x.value lo hi k)
+  ranged-out x p h = answered _ (ap read_answer (pick-false _ (read x.next x.value) _ _ h refl ∙ sym (chosen x p)))
 
   -- it is in its range
   pub ranged-in : (x : Read ℕ) → r ≡ Ok x → lo ≤ x.value → x.value ≤ hi → (Ok x ≡ read_answer (ranged_at s at lo hi)) × read_within (length s) (Ok x)

@@ -5,14 +5,14 @@ use Prim.Native.Nat.{ℕ, ◌+◌, ◌≤◌, ◌<◌}
 use native.Mathlib.Nat.{add-zero}
 use native.Mathlib.Omega.{arith}
 use lib.ListN.{length, length-append}
-use Rattle.combinators.specs.Choice.{pick, is}
 use Rattle.combinators.specs.All.{All}
 use Rattle.combinators.proofs.Rules.{pick_true, is-yes}
-use Rattle.syntax.specs.RuleLayout.{pseudo_number, pseudo_from}
+use Rattle.syntax.specs.RuleLayout.{pseudo_number}
 use Rattle.syntax.specs.Selector.{PseudoElement, none, before, after}
 use Rattle.syntax.specs.Stream.{texts_many}
 use Rattle.syntax.specs.Style.{agent_origin, author_origin, StyleDecl}
 use Rattle.syntax.proofs.Streams.{Held, held-left, held-right}
+use Rattle.syntax.proofs.RuleRows.{pseudo-back}
 use Rattle.compiled.specs.Decoded.{read, counted}
 use Rattle.compiled.specs.Number.{number_limit, number_bytes, number_at, ranged_at}
 use Rattle.compiled.specs.Component.{component_bytes, component_at}
@@ -25,13 +25,6 @@ use Rattle.compiled.proofs.ComponentBack.{component-back}
 use Rattle.compiled.proofs.StyleBack.{style-back}
 
 -- ---- pseudo elements
--- a pseudo element is read back from its number
-pseudo-back : (p : PseudoElement) → pseudo_from (pseudo_number p) ≡ p
-unfolding pseudo_from pseudo_number pick is
-pseudo-back none = refl
-pseudo-back before = refl
-pseudo-back after = refl
-
 -- its number is not below the least
 pseudo-ge : (p : PseudoElement) → pseudo_number none ≤ pseudo_number p
 unfolding pseudo_number

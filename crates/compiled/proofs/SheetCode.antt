@@ -1,11 +1,16 @@
 -- The returns of the readers of selectors and of the check of a sheet.
 use mathlib.Core.Path.{◌≡◌, refl, sym, ap, ◌∙◌}
+use mathlib.Core.Bool.{true}
 use mathlib.Core.List.{List, ◌∷◌}
 use Prim.Native.Nat.{ℕ, zero, suc, ◌+◌, ◌-◌, ◌≤◌, ◌<◌}
+use native.Mathlib.Nat.{add-zero}
 use native.Mathlib.Omega.{arith}
-use lib.ListN.{length, get_or}
+use lib.ListN.{length, take, drop, get_or}
+use lib.Seq.{get_or-drop}
+use Rattle.std.proofs.lemmas.List.{get_or-take}
+use Rattle.combinators.specs.Choice.{within}
 use Rattle.combinators.specs.Refusal.{no_refusal, refused_at, bad_bytes}
-use Rattle.combinators.proofs.Rules.{pick_true, pick-false, is-yes, is-no}
+use Rattle.combinators.proofs.Rules.{pick_true, pick-false, is-yes, is-no, within-true}
 use Rattle.syntax.specs.RuleLayout.{pseudo_number}
 use Rattle.syntax.specs.Selector.{none, after}
 use Rattle.syntax.specs.Style.{agent_origin, author_origin}
@@ -53,7 +58,7 @@ module _ (s : List ℕ) (at least : ℕ) where
 module _ (s : List ℕ) (at least : ℕ) (l : at < length s) (room : 3 ≤ length s - at) (origin pseudo count : ℕ)
     (eo : origin ≡ get_or s at 0) (ep : pseudo ≡ get_or s (at + 1) 0) (ec : count ≡ get_or s (at + 2) 0) where
   -- each is read by itself
-  pub short-head : least ≤ origin → origin ≤ author_origin → pseudo ≤ pseudo_number after → count < group_values
+  short-head : least ≤ origin → origin ≤ author_origin → pseudo ≤ pseudo_number after → count < group_values
       → (got (at + 3) (record { origin = origin; pseudo = pseudo; count = count }) ≡ read_answer (head_at s least at))
       × read_within {A = Head} (length s) (got (at + 3) (record { origin = origin; pseudo = pseudo; count = count }))
   unfolding pseudo_number
@@ -70,6 +75,21 @@ module _ (s : List ℕ) (at least : ℕ) (l : at < length s) (room : 3 ≤ lengt
     where
       same : {m n : ℕ} → m ≡ n → ◌≡◌ {A = Result (Read Head) Fault} (got n (record { origin = origin; pseudo = pseudo; count = count })) (got m (record { origin = origin; pseudo = pseudo; count = count }))
       same p = rw p
+
+-- the same of the bytes t from there on
+module _ (s t : List ℕ) (at least : ℕ) (e : t ≡ take (length s - at) (drop at s)) (k : length t + at ≡ length s) (room : 3 ≤ length t) where
+  byte_there : (i : ℕ) → i < length t → get_or t i 0 ≡ get_or s (at + i) 0
+  byte_there i l = ap (λ (x : List ℕ). get_or x i 0) e ∙ get_or-take (length s - at) (drop at s) i 0 (omega arith) ∙ get_or-drop at s i 0
+
+  pub short_head : (origin pseudo count : ℕ) → origin ≡ get_or t 0 0 → pseudo ≡ get_or t 1 0 → count ≡ get_or t 2 0
+      → within origin least author_origin ≡ true → pseudo ≤ pseudo_number after → count < group_values
+      → (got (at + 3) (record { origin = origin; pseudo = pseudo; count = count }) ≡ read_answer (head_at s least at))
+      × read_within {A = Head} (length s) (got (at + 3) (record { origin = origin; pseudo = pseudo; count = count }))
+  short_head origin pseudo count eo ep ec h l g =
+      let w = within-true origin least author_origin h in
+      let first : get_or s (at + 0) 0 ≡ get_or s at 0 = ap (λ (i : ℕ). get_or s i 0) (add-zero at) in
+      short-head s at least (omega (arith, room)) (omega (arith, room)) origin pseudo count (eo ∙ byte_there 0 (omega (arith, room)) ∙ first) (ep ∙ byte_there 1 (omega (arith, room)))
+      (ec ∙ byte_there 2 (omega (arith, room))) w.0 w.1 l g
 
 -- ---- `skip_parts`: components, then styles
 module _ (s : List ℕ) (at count : ℕ) (r : Result ℕ Fault) (e : r ≡ place_answer (counted (component_at s) count at)) where

@@ -1,4 +1,4 @@
--- The returns of `read_text` and of `emit_text`.
+-- The returns of `read_text`.
 use mathlib.Core.Path.{◌≡◌, refl, ap, ◌∙◌}
 use mathlib.Core.List.{List}
 use Prim.Native.Nat.{ℕ, ◌+◌, ◌-◌, ◌≤◌, ◌<◌}
@@ -6,12 +6,10 @@ use native.Mathlib.Omega.{arith}
 use borrow.Author.Tests.{le-leb, lt-leb}
 use lib.ListN.{length}
 use Rattle.std.proofs.Common.{Result, Ok, Err}
-use Rattle.combinators.specs.Store.{Store, emits}
-use Rattle.combinators.proofs.Emitted.{then}
 use Rattle.combinators.proofs.Rules.{pick_true, pick-false}
 use Rattle.compiled.specs.Decoded.{read, fault}
-use Rattle.compiled.specs.Number.{number_bytes, number_at}
-use Rattle.compiled.specs.Text.{text_bytes, span_at}
+use Rattle.compiled.specs.Number.{number_at}
+use Rattle.compiled.specs.Text.{span_at}
 use Rattle.compiled.specs.Answer.{read_answer, text_within}
 use Rattle.compiled.specs.declared.places.Fault.{Fault}
 use Rattle.compiled.specs.declared.places.Read.{Read}
@@ -46,9 +44,3 @@ module _ (s : List ℕ) (at : ℕ) (r : Result (Read ℕ) Fault) (e : r ≡ read
   pub text-none : (f : Fault) → r ≡ Err f → (q : Result (Read Span) Fault) → q ≡ Err f → (q ≡ read_answer (span_at s at)) × text_within (length s) q
   unfolding span_at
   text-none f p q h = answered q (h ∙ then-answer (number_at s at) _ r e f p)
-
--- ---- `emit_text`
--- the length, then all of the text
-pub text-emitted : (o₀ o₁ o₂ : Store ℕ) (x : List ℕ) → o₁ ≡ emits o₀ (number_bytes (length x)) → o₂ ≡ emits o₁ x → o₂ ≡ emits o₀ (text_bytes x)
-unfolding text_bytes
-text-emitted o₀ o₁ o₂ x p q = then o₀ o₁ o₂ (number_bytes (length x)) x p q

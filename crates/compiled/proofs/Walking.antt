@@ -25,11 +25,15 @@ use Rattle.compiled.proofs.Following.{mapped-read, mapped-fault}
 use Rattle.compiled.proofs.Bounds.{reaches_end, component-reaches, head-reaches, styles-reach}
 
 -- ---- one component
+-- what was read of a component's bytes is the component, with its texts cut from them
+pub component-written : (s : List ℕ) (at n : ℕ) (w : Written) → written_at s at ≡ read n w → component_at s at ≡ read n (component_in s w)
+unfolding component_at
+component-written s at n w e = mapped-read (component_in s) (written_at s at) n w e
+
 module _ (s : List ℕ) (at : ℕ) (r : Result (Read Written) Fault) (e : r ≡ read_answer (written_at s at)) where
   -- the component is the one that the answer says, with its texts cut from the bytes
   pub at_component : (x : Read Written) → r ≡ Ok x → component_at s at ≡ read x.next (component_in s x.value)
-  unfolding component_at
-  at_component x p = mapped-read (component_in s) (written_at s at) x.next x.value (answer_read (written_at s at) r e x p)
+  at_component x p = component-written s at x.next x.value (answer_read (written_at s at) r e x p)
 
   -- an answer with a fault says that no component was read
   pub at-fault : (f : Fault) → r ≡ Err f → component_at s at ≡ fault f.place

@@ -5,3 +5,4 @@ pub mod Component
 pub mod Style
 pub mod Sheet
 pub mod Answer
+pub mod Wrote

@@ -1,25 +1,24 @@
 // Components of a compiled sheet: a kind, then what the component has.
 ghost use Rattle.std.specs.Prelude.{◌≡◌, ◌++◌, ◌+◌, length, IfSome};
-ghost use Rattle.combinators.specs.Store.{emits};
-ghost use Rattle.combinators.specs.Writer.{written, SameStore};
 ghost use Rattle.combinators.specs.Part.{part};
-ghost use Rattle.syntax.specs.RuleLayout.{nth_kind, attribute_equal_kind, component_from};
+ghost use Rattle.syntax.specs.RuleLayout.{attribute_equal_kind, component_from};
 ghost use Rattle.compiled.specs.Number.{number_bytes};
 ghost use Rattle.compiled.specs.Text.{text_bytes};
 ghost use Rattle.compiled.specs.Decoded.{counted};
 ghost use Rattle.compiled.specs.Component.{is_mark, name_at, numbers_at, names_at, body_at, written_at, component_at, is_name, component_bytes};
 ghost use Rattle.compiled.specs.Answer.{read_answer, place_answer, component_within, ShortSize};
+ghost use Rattle.compiled.specs.Wrote.{Wrote};
 
-use crate::numbers::{GROUP_VALUES, emit_number, read_number, read_ranged};
+use crate::numbers::{GROUP_VALUES, emit_number, emit_numbers, read_number, read_ranged};
 use crate::places::{Fault, Read};
-use crate::texts::{Span, emit_text_part, read_text};
+use crate::texts::{Span, emit_number_text, emit_text_part, read_text};
 use combinators::writer::Writer;
 use syntax::rows::{
     ATTRIBUTE, ATTRIBUTE_EQUAL, CHILD, CLASS, DESCENDANT, ELEMENT, HASH, NTH, STAR,
 };
 
 // From the place of a short component, to the length of its text and to the text.
-const TO_LENGTH: usize = 1;
+pub const TO_LENGTH: usize = 1;
 
 pub const TO_TEXT: usize = 2;
 
@@ -27,7 +26,8 @@ pub const TO_TEXT: usize = 2;
 pub const MARK_SIZE: usize = 1;
 
 // What the bytes of a component say: star, child and descendant are their kind alone; class, element, hash and attribute have a text; nth has two
-// numbers; an attribute that is equal to a value has two texts.
+// numbers; an attribute that is equal to a value has two texts. A kind stays a number: of a short component, as most are, it is the byte itself, which is
+// read without this enum (`short_size`), and rows that are written may hold any, so that the last arm is that of any other.
 #[derive(Clone, Copy, PartialEq, Eq)]
 pub enum Written {
     Mark(u32),
@@ -56,23 +56,16 @@ pub fn is_name(kind: u32) -> bool
 fn read_name(s: &[u8], at: usize, kind: u32) -> Result<Read<Written>, Fault>
     ensures { result ≡ read_answer (name_at s.now kind at) }
 {
-    let text = read_text(s, at)?;
-    Ok(Read {
-        next: text.next,
-        value: Written::Name(kind, text.value),
-    })
+    Ok(read_text(s, at)?.map(|text| Written::Name(kind, text)))
 }
 
-// Behind the kind, the two numbers of nth.
+// Behind the kind, the two numbers of nth. This and the next differ in the reader and the variant: one function for both would be told a reader, whose
+// answers its contract would speak of, and would answer a pair, of which two others make a variant each.
 fn read_numbers(s: &[u8], at: usize) -> Result<Read<Written>, Fault>
     ensures { result ≡ read_answer (numbers_at s.now at) }
 {
     let a = read_number(s, at)?;
-    let b = read_number(s, a.next)?;
-    Ok(Read {
-        next: b.next,
-        value: Written::Numbers(a.value, b.value),
-    })
+    Ok(read_number(s, a.next)?.map(|b| Written::Numbers(a.value, b)))
 }
 
 // Behind the kind, the two texts.
@@ -80,11 +73,7 @@ fn read_names(s: &[u8], at: usize) -> Result<Read<Written>, Fault>
     ensures { result ≡ read_answer (names_at s.now at) }
 {
     let name = read_text(s, at)?;
-    let value = read_text(s, name.next)?;
-    Ok(Read {
-        next: value.next,
-        value: Written::Names(name.value, value.value),
-    })
+    Ok(read_text(s, name.next)?.map(|value| Written::Names(name.value, value)))
 }
 
 // What stands behind the kind.
@@ -118,10 +107,7 @@ pub fn read_component(s: &[u8], at: usize) -> Result<Read<Written>, Fault>
 pub fn short_size(s: &[u8], at: usize) -> Option<usize>
     ensures { IfSome result (λ size. ShortSize s.now at size) }
 {
-    if s.len() <= at {
-        return None;
-    }
-    let kind = u32::from(s[at]);
+    let kind = u32::from(*s.get(at)?);
     if is_mark(kind) {
         return Some(MARK_SIZE);
     }
@@ -157,43 +143,18 @@ pub fn skip_components(s: &[u8], at: usize, count: u32) -> Result<usize, Fault>
     Ok(next)
 }
 
-// Writes a kind and the text that starts at `start` in `texts` and has `size` bytes, or as many as there are. It is cut in `emit_text_part` alone, where a
-// size of 32 bits is all that `emit_text` asks for.
-fn emit_name(kind: u32, start: u32, size: u32, texts: &[u8], writer: &mut Writer<'_>)
-    ensures same_store { SameStore writer.old writer.new }
-    ensures written { written writer.new
-        ≡ emits (written writer.old)
-        (number_bytes kind ++ text_bytes (part texts.now start size)) }
-{
-    emit_number(kind, writer);
-    emit_text_part(start as usize, size, texts, writer);
-}
-
-// Writes the kind of nth and its two numbers.
-fn emit_nth(a: u32, b: u32, writer: &mut Writer<'_>)
-    ensures same_store { SameStore writer.old writer.new }
-    ensures written { written writer.new
-        ≡ emits (written writer.old)
-        (number_bytes nth_kind ++ (number_bytes a ++ number_bytes b)) }
-{
-    emit_number(NTH, writer);
-    emit_number(a, writer);
-    emit_number(b, writer);
-}
-
 // Writes the kind of an attribute that is equal to a value, and its two texts: that which starts at `start` in `texts` and has `first` bytes, and the
 // `second` bytes behind it.
 fn emit_attribute_equal(start: u32, first: u32, second: u32, texts: &[u8], writer: &mut Writer<'_>)
-    ensures same_store { SameStore writer.old writer.new }
-    ensures written { written writer.new ≡ emits (written writer.old) (number_bytes attribute_equal_kind
+    ensures { Wrote writer.old writer.new (number_bytes attribute_equal_kind
         ++ (text_bytes (part texts.now start first) ++ text_bytes (part texts.now (start + first) second))) }
 {
-    emit_number(ATTRIBUTE_EQUAL, writer);
-    emit_text_part(start as usize, first, texts, writer);
+    emit_number_text(ATTRIBUTE_EQUAL, start, first, texts, writer);
     emit_text_part(start as usize + first as usize, second, texts, writer);
 }
 
-// Writes the component that a component row says: its kind, where its texts start in `texts`, and its two numbers.
+// Writes the component that a component row says: its kind, where its texts start in `texts`, and its two numbers. The four numbers are told one by one:
+// they come from one row, and part here at once by its kind.
 pub fn emit_component(
     kind: u32,
     start: u32,
@@ -202,17 +163,14 @@ pub fn emit_component(
     texts: &[u8],
     writer: &mut Writer<'_>,
 )
-    ensures same_store { SameStore writer.old writer.new }
-    ensures written { written writer.new
-        ≡ emits (written writer.old)
-        (component_bytes (component_from texts.now kind start first second)) }
+    ensures { Wrote writer.old writer.new (component_bytes (component_from texts.now kind start first second)) }
 {
     if is_mark(kind) {
         emit_number(kind, writer);
     } else if kind == NTH {
-        emit_nth(first, second, writer);
+        emit_numbers(&[NTH, first, second], writer);
     } else if is_name(kind) {
-        emit_name(kind, start, first, texts, writer);
+        emit_number_text(kind, start, first, texts, writer);
     } else {
         emit_attribute_equal(start, first, second, texts, writer);
     }

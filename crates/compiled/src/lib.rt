@@ -2,6 +2,7 @@
 #![tactic(auto)]
 
 pub mod places; // places.rt: what is answered of bytes that are passed over
+pub mod bytes; // bytes.rt: compiled bytes, as they are lent
 pub mod numbers; // numbers.rt: numbers, plain and in a range
 pub mod texts; // texts.rt: texts with their length
 pub mod components; // components.rt: one component

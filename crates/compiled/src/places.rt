@@ -5,7 +5,7 @@ ghost use Rattle.combinators.specs.Refusal.{refused_at, bad_bytes};
 use combinators::refusals::{BAD_BYTES, Refusal, refused_at};
 
 // Where the number or the text that fails starts, or the first byte left over.
-#[derive(Clone, Copy, PartialEq, Eq)]
+#[derive(Clone, Copy, Debug, PartialEq, Eq)]
 pub struct Fault {
     pub place: usize,
 }
@@ -15,6 +15,20 @@ pub struct Fault {
 pub struct Read<T> {
     pub next: usize,
     pub value: T,
+}
+
+impl<T> Read<T> {
+    // What `make` makes of the value, with the same place behind it.
+    pub fn map<U, F: FnOnce(T) -> U>(self, make: F) -> Read<U>
+        requires { F.pre make self.value }
+        ensures next { result.next ≡ self.next }
+        ensures value { F.post make self.value result.value }
+    {
+        Read {
+            next: self.next,
+            value: make(self.value),
+        }
+    }
 }
 
 impl From<Fault> for Refusal {

@@ -38,10 +38,6 @@ module _ (agent user author compiled texts rules tokens brackets : List ℕ) whe
       within : (length agent ≤ sheet_limit) × (length user ≤ sheet_limit) × (length author ≤ sheet_limit)
       within = none-long (length agent) (length user) (length author) (sym e ∙ f)
 
-      -- the lengths of the agent's and the user's sheet together fit a word
-      pub two-fit : length agent + length user < 2 ^ 64
-      two-fit = omega (arith, within.0, within.1)
-
       -- the lengths of all three sheets together fit a word
       pub count_fits : count < 2 ^ 64
       count_fits = omega (arith, within.0, within.1, within.2)

@@ -13,7 +13,7 @@ use Rattle.combinators.proofs.Rules.{pick_true, pick-false, lt-or-ge}
 use Rattle.sheets.proofs.SheetLaws.{stored}
 use Rattle.origins.specs.Checks.{Lent}
 use Rattle.origins.specs.Reading.{Sheets, panicked, sheets_of, sheets_rows, sheets_texts, sheets_rules, sheets_answer, SheetsRoom}
-use Rattle.origins.specs.declared.reading.SheetsRules.{SheetsRules}
+use Rattle.origins.specs.Reading.{SheetsRules}
 use Rattle.std.specs.Prelude.{Result, Ok, Err}
 use Rattle.origins.specs.declared.reading.SheetPanic.{SheetPanic}
 use Rattle.origins.proofs.SheetsKnown.{zeros_of, room-cleared, Came, came, panic-known, rows_held, texts_held, texts-length, texts-lie}
@@ -27,6 +27,10 @@ use Rattle.compiler.specs.declared.compile.CompileError.{CompileError}
 use Rattle.compiler.specs.declared.compile.CompileError.TheVariants.{Panic, NoRoom}
 use Rattle.compiler.proofs.SheetsLying.{selectors-are, lying}
 use Rattle.compiler.proofs.WritingLaws.{room_within}
+
+-- zeros in the place of a whole list clear it
+pub filled : {k : List ℕ} (l : List ℕ) → k ≡ replicate (length l) 0 → k ≡ cleared 0 l
+filled l e = e ∙ sym (zeros_of l l refl)
 
 -- ---- bytes within the room
 -- the fill tells that they fit

@@ -1,26 +1,19 @@
 -- A loop that reads values one behind the other and writes the bytes of each, until the store is full.
 use Rattle.combinators.specs.Choice.{is}
-use mathlib.Core.Path.{◌≡◌, refl, sym, ap, ap₂, ◌∙◌}
+use mathlib.Core.Path.{◌≡◌, refl, sym, ap, ◌∙◌}
 use mathlib.Core.Bool.{Bool, true}
-use mathlib.Core.List.{List, [], ◌∷◌, ◌++◌}
-use mathlib.Core.Logic.{⊎_elim, ◌⊎◌, inl, inr}
+use mathlib.Core.List.{List, [], ◌++◌}
+use mathlib.Core.Logic.{⊎_elim}
 use borrow.Author.Tests.{le-ltb, eq-eqb, ne_eqb}
 use lib.Dec.{eqb, ltb}
 use Prim.Native.Nat.{ℕ, zero, suc, ◌+◌, ◌-◌, ◌≤◌, ◌<◌}
 use native.Mathlib.Omega.{arith}
 use lib.ListN.{length, drop}
 use Rattle.combinators.specs.Store.{Store, emits}
-use Rattle.combinators.proofs.Emitted.{emits_none, emits-append, emits-bytes, emits-over, sets-out, onto}
-use Rattle.combinators.proofs.Rules.{is-no, is_true}
+use Rattle.combinators.proofs.Emitted.{emits_none, onto, full}
+use Rattle.combinators.proofs.Rules.{is-no, is_true, same-or-other}
 use Rattle.syntax.specs.Stream.{Read, read_many, texts_many}
 use Rattle.compiler.specs.Writing.{past}
-
--- two numbers are the same or not
-same_or : (a b : ℕ) → (a ≡ b) ⊎ (¬ (a ≡ b))
-same_or zero zero = inl refl
-same_or zero (suc b) = inr (λ e. absurd (omega arith))
-same_or (suc a) zero = inr (λ e. absurd (omega arith))
-same_or (suc a) (suc b) = ⊎_elim (λ e. inl (ap suc e)) (λ n. inr (λ e. n (omega arith))) (same_or a b)
 
 -- ---- bytes passed the end of a store
 module _ (n f : ℕ) where
@@ -33,23 +26,12 @@ module _ (n f : ℕ) where
   pub beyond-end : n < f → eqb (f - n) 1 ≡ past n f
   unfolding past is
   beyond-end h =
-      ⊎_elim (λ (e : f - n ≡ 1). eq-eqb _ _ e ∙ sym (eq-eqb f (n + 1) (omega arith))) (λ (e : ¬ (f - n ≡ 1)). ne_eqb _ _ e ∙ sym (ne_eqb f (n + 1) (λ k. e (omega arith)))) (same_or (f - n) 1)
+      ⊎_elim (λ (e : f - n ≡ 1). eq-eqb _ _ e ∙ sym (eq-eqb f (n + 1) (omega arith))) (λ (e : ¬ (f - n ≡ 1)). ne_eqb _ _ e ∙ sym (ne_eqb f (n + 1) (λ k. e (omega arith)))) (same-or-other (f - n) 1)
 
   -- where the test says that bytes passed the end, the fill is one past the room
   pub past-known : {r : Bool} → r ≡ past n f → r ≡ true → f ≡ n + 1
   unfolding past
   past-known e t = is_true f (n + 1) (sym e ∙ t)
-
--- a byte more at the end, and whatever stands behind it
-out : (l ys : List ℕ) → emits (record { bytes = l; fill = length l }) (0 ∷ ys) ≡ record { bytes = l; fill = length l + 1 }
-out l ys =
-    ap₂ (λ (b : List ℕ) (f : ℕ). record { bytes = b; fill = f })
-    (emits-bytes (0 ∷ ys) l (length l) ∙ sets-out (0 ∷ ys) l (length l) (omega arith)) (emits-over (0 ∷ ys) l (length l) (omega arith) (omega arith))
-
--- what is written behind them changes nothing
-pub past_end : (l xs : List ℕ) → emits (record { bytes = l; fill = length l + 1 }) xs ≡ record { bytes = l; fill = length l + 1 }
-past_end l xs =
-    ap (λ (o : Store ℕ). emits o xs) (sym (out l [])) ∙ emits-append (record { bytes = l; fill = length l }) (0 ∷ []) xs ∙ out l xs
 
 -- ---- a loop
 
@@ -90,7 +72,7 @@ module _ {A : Type 0} (u : List ℕ → Read A) (w : A → List ℕ) (rows : Lis
     emitting-past h =
         let xs : List ℕ = texts_many w (read_many u n (drop place rows)).value in
         let f : o ≡ record { bytes = o.bytes; fill = length o.bytes + 1 } = ap (λ (k : ℕ). record { bytes = o.bytes; fill = k }) h in
-        f ∙ sym (past_end o.bytes xs) ∙ sym (ap (λ (x : Store ℕ). emits x xs) f) ∙ c.left
+        f ∙ sym (full o.bytes xs) ∙ sym (ap (λ (x : Store ℕ). emits x xs) f) ∙ c.left
 
   -- a turn, by how many values were read before
   pub emitting-next : (i place : ℕ) (o : Store ℕ) → Emitting (count - i) place o → i < count → (o₁ : Store ℕ)

@@ -47,10 +47,6 @@ module _ (rows : List ℕ) (at count : ℕ) (texts : List ℕ) (o₀ : Store ℕ
   pub record Returning (n : ℕ) (o : Store ℕ) : Type 0 where
     pub left : emits o (backwards n) ≡ emits o₀ (backwards count)
 
-  -- with none written so far all of them are left
-  pub returning-all : Returning (count - 0) o₀
-  returning-all = let e : count - 0 ≡ count = omega arith in record { left = rw e }
-
   -- the bytes of n components, the last first, are those of the n-th and then of the n - 1 before it
   last-first : (n place : ℕ) → 0 < n → drop place rows ≡ drop (at + component_width * (n - 1)) rows
       → backwards n ≡ component_bytes (read_component texts (drop place rows)).value ++ backwards (n - 1)
@@ -80,14 +76,6 @@ module _ (rows : List ℕ) (at count : ℕ) (texts : List ℕ) (o₀ : Store ℕ
     -- with none left the components are written, the last first
     pub returning-done : n ≤ 0 → o ≡ emits o₀ (backwards count)
     returning-done h = sym (ap (emits o) (none_left n h) ∙ emits_none _) ∙ c.left
-
-  -- a turn, by how many components were written before
-  pub returning-next : (i : ℕ) (o : Store ℕ) → Returning (count - i) o → i < count → (place : ℕ) → drop place rows ≡ drop (at + component_width * (count - 1 - i)) rows
-      → (o₁ : Store ℕ) → o₁ ≡ emits o (component_bytes (read_component texts (drop place rows)).value) → Returning (count - (i + 1)) o₁
-  returning-next i o c h place d o₁ e =
-      let q : count - (i + 1) ≡ count - i - 1 = omega arith in
-      let l : count - 1 - i ≡ count - i - 1 = omega arith in
-      rw q (returning-more (count - i) o c (omega arith) place (rw l at d) o₁ e)
 
 -- ---- pseudo elements
 -- a number above that of `::after` stands for it

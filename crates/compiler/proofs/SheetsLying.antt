@@ -6,10 +6,10 @@ use lib.ListN.{length}
 use lib.Seq.{sets}
 use Rattle.combinators.specs.Store.{cleared, Zeros}
 use Rattle.combinators.proofs.Cleared.{length-cleared}
+use Rattle.combinators.proofs.ZeroLaws.{clear-zeros}
 use Rattle.origins.specs.Checks.{Lent}
-use Rattle.origins.specs.Reading.{sheets_of}
-use Rattle.origins.specs.declared.reading.SheetsRules.{SheetsRules}
-use Rattle.origins.proofs.SheetsKnown.{clear-zeros, Came, known, rows_held, texts_held, agent-back, user-back, author-back, agent-styled, user-styled, author-styled, texts-within}
+use Rattle.origins.specs.Reading.{SheetsRules, sheets_of}
+use Rattle.origins.proofs.SheetsKnown.{Came, known, rows_held, texts_held, agent-back, user-back, author-back, agent-styled, user-styled, author-styled, texts-within}
 use Rattle.compiler.specs.Selectors.{selectors_of}
 use Rattle.compiler.specs.Written.{selectors_from, Lying}
 use Rattle.compiler.proofs.Range.{selectors-bits}

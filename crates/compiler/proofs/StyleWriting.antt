@@ -119,10 +119,10 @@ module _ (rows : List ℕ) (count at own : ℕ) (height-zero overflow-hidden : B
           or-false overflow-hidden _ (any_none hidden_row n (drop place rows) h),
         )
 
-    -- the styles of the declarations themselves, with the one that both flags add, are all styles
-    total-is : (f : ℕ) → f ≡ flag (height-zero && overflow-hidden) → own + f ≡ style_count (drop at rows) count
+    -- with none left the styles of the declarations themselves, with the one that both flags add, are all styles
+    pub finding-done : (f : ℕ) → f ≡ flag (height-zero && overflow-hidden) → own + f ≡ style_count (drop at rows) count
     unfolding style_count style_numbers
-    total-is f e =
+    finding-done f e =
         let t = drop at rows in
         let g : f ≡ flag both = e ∙ ap flag both_is in
         let o : style_width * own ≡ length (own_rows count t) = omega (arith, c.left, ap length (rows_none n (drop place rows) h)) in
@@ -134,11 +134,7 @@ module _ (rows : List ℕ) (count at own : ℕ) (height-zero overflow-hidden : B
     unfolding declarations_at
     finding-fits f e l =
         let ds = declarations_at (drop at rows) [] count in
-        omega (arith, total-is f e, count-styles [] (drop at rows) count, styles-few ds, many-length (read_declaration []) count (drop at rows))
-
-    -- with none left the styles are counted, the display of a zero height with a hidden overflow among them
-    pub finding-done : (f : ℕ) → f ≡ flag (height-zero && overflow-hidden) → own + f ≡ style_count (drop at rows) count
-    finding-done f e = total-is f e
+        omega (arith, finding-done f e, count-styles [] (drop at rows) count, styles-few ds, many-length (read_declaration []) count (drop at rows))
 
 -- ---- styles from their rows
 module _ (rows : List ℕ) (at : ℕ) (texts : List ℕ) where

@@ -17,7 +17,7 @@ use Rattle.syntax.specs.Stream.{read_many, texts_many}
 use Rattle.syntax.specs.Style.{agent_origin, user_origin, author_origin}
 use Rattle.origins.specs.Reading.{rules_from}
 use Rattle.origins.specs.declared.reading.SheetRules.{SheetRules}
-use Rattle.origins.specs.declared.reading.SheetsRules.{SheetsRules}
+use Rattle.origins.specs.Reading.{SheetsRules}
 use Rattle.compiled.specs.Number.{number_limit, number_bytes}
 use Rattle.compiled.specs.Sheet.{CompiledSelector, selector_bytes, encode}
 use Rattle.compiler.specs.Selectors.{sheet_selectors, selectors_of}

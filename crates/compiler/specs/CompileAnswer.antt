@@ -1,12 +1,13 @@
 -- What `compile` answers and leaves: the refusals of document 01 in the order of their numbers, or the compiled sheet.
 use Rattle.std.specs.Prelude.{ℕ, ◌+◌, Result, Ok, Err, List, leb, ltb, length, replicate}
+use Rattle.combinators.specs.declared.lent.SheetTexts.{SheetTexts}
 use Rattle.combinators.specs.declared.lent.Stores.{Stores}
 use Rattle.combinators.specs.Choice.{pick}
 use Rattle.combinators.specs.LeastLengths.{stores_suffice}
 use Rattle.combinators.specs.Refusal.{no_refusal, refused, refused_in, too_long, short_store, not_utf8, panic, no_room}
 use Rattle.combinators.specs.declared.refusals.Refusal.{Refusal}
 use Rattle.sheets.specs.SheetAnswer.{padded}
-use Rattle.origins.specs.Checks.{any_too_long, all_valid}
+use Rattle.origins.specs.Checks.{Lent, any_too_long, all_valid}
 use Rattle.origins.specs.Reading.{Sheets, rules, panicked, sheets_of, sheets_texts}
 use Rattle.compiled.specs.Sheet.{compiled_limit, encode}
 use Rattle.compiler.specs.Selectors.{selectors_of}
@@ -96,3 +97,15 @@ compile_of agent user author compiled texts rules₀ tokens brackets =
     (pick (all_valid agent user author) (compiled_left compiled texts rules₀ tokens brackets (sheets_of agent user author))
     (unchanged compiled texts rules₀ tokens brackets (refused not_utf8)))
     (unchanged compiled texts rules₀ tokens brackets (refused short_store)))
+
+-- ---- the same of what is lent: the sheets, and the stores
+-- whether the stores suffice for the sheets
+abbrev pub LentOf : SheetTexts → Stores → Type 0
+LentOf x s = Lent x.agent.now x.user.now x.author.now s.rules.now s.tokens.now s.brackets.now s.texts.now
+
+-- of sheets for which they do
+abbrev pub compiled_left_of : SheetTexts → List ℕ → Stores → CompileLeft
+compiled_left_of x compiled s = compiled_left compiled s.texts.now s.rules.now s.tokens.now s.brackets.now (sheets_of x.agent.now x.user.now x.author.now)
+
+abbrev pub compile_call_of : SheetTexts → List ℕ → Stores → CompileLeft
+compile_call_of x compiled s = compile_of x.agent.now x.user.now x.author.now compiled s.texts.now s.rules.now s.tokens.now s.brackets.now

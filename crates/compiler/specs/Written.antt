@@ -4,7 +4,7 @@ use Rattle.std.proofs.lemmas.List.Edits.{sets}
 use Rattle.combinators.specs.Choice.{pick}
 use Rattle.origins.specs.Reading.{rules_from}
 use Rattle.origins.specs.declared.reading.SheetRules.{SheetRules}
-use Rattle.origins.specs.declared.reading.SheetsRules.{SheetsRules}
+use Rattle.origins.specs.Reading.{SheetsRules}
 use Rattle.compiled.specs.Number.{number_limit}
 use Rattle.compiled.specs.Sheet.{CompiledSelector}
 use Rattle.compiler.specs.Selectors.{selectors_of}

@@ -7,8 +7,8 @@ use combinators::refusals::{
     NO_ROOM, NOT_UTF8, PANIC, Refusal, SHORT_STORE, TOO_LONG, no_refusal, refused, refused_in,
 };
 
-// The refusal; of sheets that were compiled how many bytes they take, and those of the texts that their rules name. What does not apply is 0, as C has
-// it.
+// The refusal; of sheets that were compiled how many bytes they take, and those of the texts that their rules name. What does not apply is 0, as C has it.
+// C's struct is in a crate above: this one is what the contracts of compiling say an answer in.
 #[derive(Clone, Copy)]
 pub struct CompileNumbers {
     pub refusal: Refusal,
@@ -43,16 +43,18 @@ fn refused_compile(refusal: Refusal) -> CompileNumbers
 }
 
 // What an answer stands for.
-#[tactic(auto, unfolding(crate::specs::CompileAnswer::numbers_of))]
-pub fn numbers_of(answer: Result<Compiled, CompileError>) -> CompileNumbers
-    ensures { result ≡ numbers_of answer }
-{
-    match answer {
-        Ok(compiled) => CompileNumbers {
-            refusal: no_refusal(),
-            bytes: compiled.bytes,
-            texts: compiled.texts,
-        },
-        Err(error) => refused_compile(Refusal::from(error)),
+impl From<Result<Compiled, CompileError>> for CompileNumbers {
+    ghost from_gives = { λ answer numbers. numbers ≡ numbers_of answer };
+
+    #[tactic(auto, unfolding(crate::specs::CompileAnswer::numbers_of))]
+    fn from(answer: Result<Compiled, CompileError>) -> CompileNumbers {
+        match answer {
+            Ok(compiled) => CompileNumbers {
+                refusal: no_refusal(),
+                bytes: compiled.bytes,
+                texts: compiled.texts,
+            },
+            Err(error) => refused_compile(Refusal::from(error)),
+        }
     }
 }

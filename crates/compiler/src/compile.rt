@@ -3,15 +3,11 @@
 ghost use Rattle.std.specs.Prelude.{◌≡◌};
 ghost use Rattle.compiler.specs.declared.compile.CompileError.TheVariants as CompileError;
 ghost use Rattle.combinators.specs.Lent.{SameStores};
-ghost use Rattle.origins.specs.Checks.{Lent};
-ghost use Rattle.origins.specs.Reading.{sheets_of};
-ghost use Rattle.compiler.specs.CompileAnswer.{numbers_of, leaving, compiled_left, compile_of};
+ghost use Rattle.compiler.specs.CompileAnswer.{numbers_of, leaving, LentOf, compiled_left_of, compile_call_of};
 
 use crate::lent::Rows;
 use crate::writing::{room_of, write_within};
-use combinators::least::stores_suffice;
 use combinators::lent::{SheetTexts, Stores};
-use combinators::stores::fill_from;
 use origins::checks::{all_valid, any_too_long};
 use origins::reading::{SheetPanic, read_sheets};
 
@@ -47,12 +43,11 @@ fn compile_texts(
     compiled: &mut [u8],
     stores: &mut Stores<'_>,
 ) -> Result<Compiled, CompileError>
-    requires { Lent sheets.agent.now sheets.user.now sheets.author.now stores.old.rules.now stores.old.tokens.now stores.old.brackets.now stores.old.texts.now }
+    requires { LentOf sheets stores.old }
     ensures same { SameStores stores.old stores.new }
-    ensures buffers_after { leaving (numbers_of result) compiled.new stores.new
-        ≡ compiled_left compiled.old stores.old.texts.now stores.old.rules.now stores.old.tokens.now stores.old.brackets.now (sheets_of sheets.entry.agent.now sheets.entry.user.now sheets.entry.author.now) }
+    ensures buffers_after { leaving (numbers_of result) compiled.new stores.new ≡ compiled_left_of sheets.entry compiled.old stores.old }
 {
-    fill_from(compiled, 0, 0);
+    compiled.fill(0);
     stores.clear();
     let read = read_sheets(sheets, stores)?;
     let rules = &mut *stores.rules;
@@ -62,10 +57,10 @@ fn compile_texts(
         texts,
     };
     let bytes = write_within(rows, read, stores.tokens, compiled);
-    fill_from(rules, 0, 0);
+    rules.fill(0);
     if bytes > room_of(compiled.len()) {
-        fill_from(compiled, 0, 0);
-        fill_from(texts, 0, 0);
+        compiled.fill(0);
+        texts.fill(0);
         return Err(CompileError::NoRoom);
     }
     Ok(Compiled {
@@ -81,19 +76,12 @@ pub fn compile(
     stores: &mut Stores<'_>,
 ) -> Result<Compiled, CompileError>
     ensures same { SameStores stores.old stores.new }
-    ensures buffers_after { leaving (numbers_of result) compiled.new stores.new
-        ≡ compile_of sheets.entry.agent.now sheets.entry.user.now sheets.entry.author.now compiled.old stores.old.texts.now stores.old.rules.now stores.old.tokens.now stores.old.brackets.now }
+    ensures buffers_after { leaving (numbers_of result) compiled.new stores.new ≡ compile_call_of sheets.entry compiled.old stores.old }
 {
-    if any_too_long(sheets.agent.len(), sheets.user.len(), sheets.author.len()) {
+    if any_too_long(sheets) {
         return Err(CompileError::TooLong);
     }
-    if !stores_suffice(
-        sheets.agent.len() + sheets.user.len() + sheets.author.len(),
-        stores.rules.len(),
-        stores.tokens.len(),
-        stores.brackets.len(),
-        stores.texts.len(),
-    ) {
+    if !stores.suffice(sheets.bytes()) {
         return Err(CompileError::ShortStore);
     }
     if !all_valid(sheets) {

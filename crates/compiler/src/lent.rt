@@ -7,7 +7,8 @@ pub struct Rows<'a> {
     pub texts: &'a [u8],
 }
 
-// What a rule gives each of its selectors: its origin, and its styles, which are the first `count` rows.
+// What a rule gives each of its selectors: its origin, and its styles, which are the first `count` rows. In chunks cut to them the count would be their
+// length, and only a clause would say that it is a number of 32 bits, as it is written.
 #[derive(Clone, Copy)]
 pub struct Given<'a> {
     pub origin: u32,

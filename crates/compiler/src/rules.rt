@@ -1,10 +1,12 @@
-// Rules from their rows as the bytes of their selectors, and how many selectors that are.
+// Rules from their rows as the bytes of their selectors, and how many selectors that are. Rows are lent with any content: rules and selectors differ in
+// width, and there may be fewer than a count says, so it is no length of a slice, and the rows are told with a place in them, as `forward` and `skip_rule`
+// answer one, which may be the end. That the tokens are left as they were stands in each contract that is lent them: what a call leaves behind a `&mut` has
+// no type to go to.
 ghost use Rattle.std.specs.Prelude.{◌≡◌, List, ℕ, length, drop};
-ghost use Rattle.combinators.specs.Store.{emits};
-ghost use Rattle.combinators.specs.Writer.{written, SameStore};
 ghost use Rattle.syntax.specs.RuleLayout.{read_selector, read_rule};
 ghost use Rattle.syntax.specs.Stream.{read_many, texts_many};
 ghost use Rattle.compiled.specs.Sheet.{selector_bytes};
+ghost use Rattle.compiled.specs.Wrote.{Wrote};
 ghost use Rattle.compiler.specs.Selectors.{styled_selectors, rule_selectors, sheet_selectors};
 ghost use Rattle.compiler.specs.Given.{given_styles};
 ghost use Rattle.compiler.specs.Writing.{styled_bytes, rule_bytes, SelectorsFew, RuleLent, RulesLent};
@@ -28,10 +30,7 @@ fn emit_selectors(
     given: Given<'_>,
     writer: &mut Writer<'_>,
 )
-    ensures same_store { SameStore writer.old writer.new }
-    ensures written { written writer.new
-        ≡ emits (written writer.old)
-        (texts_many (styled_bytes given.entry.origin (given_styles given.entry))
+    ensures { Wrote writer.old writer.new (texts_many (styled_bytes given.entry.origin (given_styles given.entry))
         (read_many (read_selector rows.entry.texts.now) selectors (drop at rows.entry.numbers.now)).value) }
 {
     let mut place = at;
@@ -46,10 +45,7 @@ fn emit_selectors(
 
 // Writes the selectors of the rule at `at`, if it gives them a style.
 fn emit_styled(rows: Rows<'_>, at: usize, given: Given<'_>, writer: &mut Writer<'_>)
-    ensures same_store { SameStore writer.old writer.new }
-    ensures written { written writer.new
-        ≡ emits (written writer.old)
-        (texts_many selector_bytes (styled_selectors given.entry.origin (given_styles given.entry)
+    ensures { Wrote writer.old writer.new (texts_many selector_bytes (styled_selectors given.entry.origin (given_styles given.entry)
         (read_rule rows.entry.texts.now (drop at rows.entry.numbers.now)).value.selectors)) }
 {
     if given.count == 0 {
@@ -60,15 +56,12 @@ fn emit_styled(rows: Rows<'_>, at: usize, given: Given<'_>, writer: &mut Writer<
     emit_selectors(rows, first, selectors, given, writer);
 }
 
-// Writes the selectors of the rule at `at`, if it has a style. Its styles lie in `tokens` meanwhile. Origin, store and writer are no struct: they come from
-// `write_sheet` through `emit_rules` alone, and part here.
+// Writes the selectors of the rule at `at`, if it has a style. Its styles lie in `tokens` meanwhile. (`fill_part`, no slice: that so many numbers are there is known
+// in `styles_of_rule` alone.) Origin, tokens and writer are no struct: they come from `write_sheet` through `emit_rules` alone, and part here.
 fn emit_rule(rows: Rows<'_>, at: usize, origin: u32, tokens: &mut [u32], writer: &mut Writer<'_>)
     requires { RuleLent (drop at rows.numbers.now) tokens.old }
     ensures tokens_unchanged { tokens.new ≡ tokens.old }
-    ensures same_store { SameStore writer.old writer.new }
-    ensures written { written writer.new
-        ≡ emits (written writer.old)
-        (rule_bytes origin (read_rule rows.entry.texts.now (drop at rows.entry.numbers.now)).value) }
+    ensures wrote { Wrote writer.old writer.new (rule_bytes origin (read_rule rows.entry.texts.now (drop at rows.entry.numbers.now)).value) }
 {
     let count = styles_of_rule(rows.numbers, at, tokens);
     let styles = Rows {
@@ -95,10 +88,7 @@ pub fn emit_rules(
 )
     requires { RulesLent count (drop at rows.numbers.now) tokens.old }
     ensures tokens_unchanged { tokens.new ≡ tokens.old }
-    ensures same_store { SameStore writer.old writer.new }
-    ensures written { written writer.new
-        ≡ emits (written writer.old)
-        (texts_many selector_bytes (sheet_selectors origin (read_many (read_rule rows.entry.texts.now) count (drop at rows.entry.numbers.now)).value)) }
+    ensures wrote { Wrote writer.old writer.new (texts_many selector_bytes (sheet_selectors origin (read_many (read_rule rows.entry.texts.now) count (drop at rows.entry.numbers.now)).value)) }
 {
     let mut place = at;
     for _ in 0..count {
@@ -122,8 +112,7 @@ fn count_rule(rows: &[u32], at: usize) -> u32
     number_at(rows, at, RULE_SELECTORS)
 }
 
-// How many selectors `emit_rules` writes. Rows are lent with any content: rules differ in width, and there may be fewer than a count says, so it is no length
-// of a slice, and the rows are told with a place in them.
+// How many selectors `emit_rules` writes.
 pub fn count_selectors(rows: &[u32], at: usize, count: usize) -> usize
     requires { SelectorsFew (drop at rows.now) count }
     ensures { (origin : ℕ) (texts : List ℕ) → result ≡ length (sheet_selectors origin (read_many (read_rule texts) count (drop at rows.now)).value) }

@@ -1,11 +1,10 @@
 // A selector of a rule, from its row and the rule's style rows, as its bytes.
 ghost use Rattle.std.specs.Prelude.{◌≡◌, reverse, get_or, drop};
-ghost use Rattle.combinators.specs.Store.{emits};
-ghost use Rattle.combinators.specs.Writer.{written, SameStore};
 ghost use Rattle.syntax.specs.RuleLayout.{selector_components, selector_pseudo, read_component, pseudo_number, pseudo_from, read_selector};
 ghost use Rattle.syntax.specs.Stream.{read_many, texts_many};
 ghost use Rattle.compiled.specs.Component.{component_bytes};
 ghost use Rattle.compiled.specs.Sheet.{head_bytes};
+ghost use Rattle.compiled.specs.Wrote.{Wrote};
 ghost use Rattle.compiler.specs.Given.{given_styles};
 ghost use Rattle.compiler.specs.Writing.{styled_bytes};
 
@@ -23,10 +22,7 @@ use syntax::walk::forward;
 
 // Writes the component whose row starts at `at`.
 fn emit_component_at(rows: Rows<'_>, at: usize, writer: &mut Writer<'_>)
-    ensures same_store { SameStore writer.old writer.new }
-    ensures written { written writer.new
-        ≡ emits (written writer.old)
-        (component_bytes (read_component rows.entry.texts.now (drop at rows.entry.numbers.now)).value) }
+    ensures { Wrote writer.old writer.new (component_bytes (read_component rows.entry.texts.now (drop at rows.entry.numbers.now)).value) }
 {
     emit_component(
         number_at(rows.numbers, at, COMPONENT_KIND),
@@ -38,15 +34,11 @@ fn emit_component_at(rows: Rows<'_>, at: usize, writer: &mut Writer<'_>)
     );
 }
 
-// Writes `count` components whose rows start at `at`, the last first.
+// Writes `count` components whose rows start at `at`, the last first. The count is what the selector's row says, and there may be fewer (as in rules.rt).
 fn emit_components(rows: Rows<'_>, at: usize, count: u32, writer: &mut Writer<'_>)
-    ensures same_store { SameStore writer.old writer.new }
-    ensures written { written writer.new
-        ≡ emits (written writer.old)
-        (texts_many component_bytes (reverse (read_many (read_component rows.entry.texts.now) count (drop at rows.entry.numbers.now)).value)) }
+    ensures { Wrote writer.old writer.new (texts_many component_bytes (reverse (read_many (read_component rows.entry.texts.now) count (drop at rows.entry.numbers.now)).value)) }
 {
-    for i in 0..count {
-        let before = count - 1 - i;
+    for before in (0..count).rev() {
         let place = forward(rows.numbers, at, COMPONENT_WIDTH * before as usize);
         emit_component_at(rows, place, writer);
     }
@@ -61,10 +53,7 @@ fn pseudo_number(pseudo: u32) -> u32
 
 // Writes what stands before the components of the selector whose row starts at `at`.
 fn emit_selector_head(rows: &[u32], at: usize, origin: u32, writer: &mut Writer<'_>)
-    ensures same_store { SameStore writer.old writer.new }
-    ensures written { written writer.new
-        ≡ emits (written writer.old)
-        (head_bytes origin (pseudo_number (pseudo_from (get_or (drop at rows.now) selector_pseudo 0))) (get_or (drop at rows.now) selector_components 0)) }
+    ensures { Wrote writer.old writer.new (head_bytes origin (pseudo_number (pseudo_from (get_or (drop at rows.now) selector_pseudo 0))) (get_or (drop at rows.now) selector_components 0)) }
 {
     let pseudo = pseudo_number(number_at(rows, at, SELECTOR_PSEUDO));
     emit_head(
@@ -77,10 +66,7 @@ fn emit_selector_head(rows: &[u32], at: usize, origin: u32, writer: &mut Writer<
 
 // Writes the selector whose row starts at `at`, with what its rule gives it.
 pub fn emit_selector(rows: Rows<'_>, at: usize, given: Given<'_>, writer: &mut Writer<'_>)
-    ensures same_store { SameStore writer.old writer.new }
-    ensures written { written writer.new
-        ≡ emits (written writer.old)
-        (styled_bytes given.entry.origin (given_styles given.entry) (read_selector rows.entry.texts.now (drop at rows.entry.numbers.now)).value) }
+    ensures { Wrote writer.old writer.new (styled_bytes given.entry.origin (given_styles given.entry) (read_selector rows.entry.texts.now (drop at rows.entry.numbers.now)).value) }
 {
     emit_selector_head(rows.numbers, at, given.origin, writer);
     let components = number_at(rows.numbers, at, SELECTOR_COMPONENTS);

@@ -1,12 +1,11 @@
 // The styles of a rule: how many its declaration rows ask for, and the bytes of its style rows.
 ghost use Rattle.std.specs.Prelude.{◌≡◌, ◌*◌, ◌≤◌, length, drop};
-ghost use Rattle.combinators.specs.Store.{emits};
-ghost use Rattle.combinators.specs.Writer.{written, SameStore};
 ghost use Rattle.syntax.specs.Layout.{read_style, styles_at, style_width};
 ghost use Rattle.syntax.specs.Stream.{texts_many};
 ghost use Rattle.declarations.specs.StyleNumbers.{own_row, style_count};
 ghost use Rattle.compiled.specs.Style.{style_bytes};
 ghost use Rattle.compiled.specs.Sheet.{styles_bytes};
+ghost use Rattle.compiled.specs.Wrote.{Wrote};
 
 use crate::lent::Rows;
 use crate::past::is_past;
@@ -14,7 +13,7 @@ use combinators::writer::Writer;
 use compiled::numbers::emit_number;
 use compiled::styles::emit_style;
 use declarations::styles::{hides_overflow, is_zero_height, own_style_at};
-use syntax::rows::{DECLARATION_WIDTH, STYLE_WIDTH, flag_of};
+use syntax::rows::{DECLARATION_WIDTH, STYLE_WIDTH};
 use syntax::styles::style_at;
 use syntax::walk::forward;
 
@@ -40,25 +39,19 @@ pub fn count_styles(rows: &[u32], at: usize, count: u32) -> u32
         overflow_hidden |= hides_overflow(rows, place);
         place = forward(rows, place, DECLARATION_WIDTH);
     }
-    own + flag_of(height_zero & overflow_hidden)
+    own + u32::from(height_zero && overflow_hidden)
 }
 
-// Writes the style whose row starts at `at`, with its text in `texts`.
+// Writes the style whose row starts at `at`, with its text in the store of the rows.
 fn emit_style_at(rows: Rows<'_>, at: usize, writer: &mut Writer<'_>)
-    ensures same_store { SameStore writer.old writer.new }
-    ensures written { written writer.new
-        ≡ emits (written writer.old)
-        (style_bytes (read_style rows.entry.texts.now (drop at rows.entry.numbers.now)).value) }
+    ensures { Wrote writer.old writer.new (style_bytes (read_style rows.entry.texts.now (drop at rows.entry.numbers.now)).value) }
 {
     emit_style(style_at(rows.numbers, at), rows.texts, writer);
 }
 
 // Writes the styles of `count` rows.
 fn emit_style_rows(rows: Rows<'_>, count: u32, writer: &mut Writer<'_>)
-    ensures same_store { SameStore writer.old writer.new }
-    ensures written { written writer.new
-        ≡ emits (written writer.old)
-        (texts_many style_bytes (styles_at rows.entry.numbers.now rows.entry.texts.now count)) }
+    ensures { Wrote writer.old writer.new (texts_many style_bytes (styles_at rows.entry.numbers.now rows.entry.texts.now count)) }
 {
     let mut place = 0;
     for _ in 0..count {
@@ -72,10 +65,7 @@ fn emit_style_rows(rows: Rows<'_>, count: u32, writer: &mut Writer<'_>)
 
 // Writes how many rows there are and their styles.
 pub fn emit_styles(rows: Rows<'_>, count: u32, writer: &mut Writer<'_>)
-    ensures same_store { SameStore writer.old writer.new }
-    ensures written { written writer.new
-        ≡ emits (written writer.old)
-        (styles_bytes (styles_at rows.entry.numbers.now rows.entry.texts.now count)) }
+    ensures { Wrote writer.old writer.new (styles_bytes (styles_at rows.entry.numbers.now rows.entry.texts.now count)) }
 {
     emit_number(count, writer);
     emit_style_rows(rows, count, writer);

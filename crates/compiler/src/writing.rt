@@ -1,11 +1,11 @@
 // The bytes of a compiled sheet from the rows of three sheets, one behind the other.
 ghost use Rattle.std.specs.Prelude.{◌≡◌, ◌<◌, length};
 ghost use Rattle.combinators.specs.Store.{emits};
-ghost use Rattle.combinators.specs.Writer.{written, SameStore};
 ghost use Rattle.syntax.specs.Stream.{texts_many};
 ghost use Rattle.origins.specs.Reading.{rules_from};
 ghost use Rattle.compiled.specs.Number.{number_limit};
 ghost use Rattle.compiled.specs.Sheet.{selector_bytes, encode};
+ghost use Rattle.compiled.specs.Wrote.{Wrote};
 ghost use Rattle.compiler.specs.Selectors.{sheet_selectors};
 ghost use Rattle.compiler.specs.CompileAnswer.{room_of};
 ghost use Rattle.compiler.specs.Written.{selectors_from, SheetLying, Lying, fill_of, written_in};
@@ -49,10 +49,7 @@ fn write_sheet(
 )
     requires { SheetLying rows.numbers.now rows.texts.now tokens.old sheet }
     ensures tokens_unchanged { tokens.new ≡ tokens.old }
-    ensures same_store { SameStore writer.old writer.new }
-    ensures written { written writer.new
-        ≡ emits (written writer.old)
-        (texts_many selector_bytes (sheet_selectors origin (rules_from rows.entry.numbers.now rows.entry.texts.now sheet))) }
+    ensures wrote { Wrote writer.old writer.new (texts_many selector_bytes (sheet_selectors origin (rules_from rows.entry.numbers.now rows.entry.texts.now sheet))) }
 {
     let from = sheet.from;
     let own = Rows {

@@ -1,8 +1,8 @@
 -- The zero test looks at no digit too few and at none too many: what specs/Decided.antt claims, of whole numbers and of decimals.
 use Prim.Native.Nat.{ℕ, zero, suc, ◌+◌, ◌<◌}
 use mathlib.Core.Path.{◌≡◌, refl, sym, ap, ◌∙◌}
-use mathlib.Core.Bool.{Bool, true, false}
-use mathlib.Core.Logic.{◌⊎◌, inl, inr, ⊎_elim}
+use mathlib.Core.Bool.{Bool, false}
+use mathlib.Core.Logic.{⊎_elim}
 use mathlib.Core.List.{List, [], ◌∷◌, ◌++◌}
 use native.Mathlib.Nat.{le_of_suc-le-suc}
 use native.Mathlib.Omega.{arith}
@@ -11,7 +11,7 @@ use lib.Seq.{get_or-drop, drop-drop}
 use Rattle.combinators.specs.All.{All}
 use Rattle.combinators.specs.Ascii.{digit_zero, digit_nine}
 use Rattle.combinators.specs.Choice.{and, is}
-use Rattle.combinators.proofs.Rules.{never, pick_true, within-yes, is_true, is_false}
+use Rattle.combinators.proofs.Rules.{never, pick_true, within-yes, same-or-other}
 use Rattle.decimal.specs.Decimal.{digit, digits, rounds_to_zero}
 use Rattle.decimal.specs.Places.{places, all_zero, at_most}
 use Rattle.decimal.specs.Looked.{looked_at, digits_test, zero_test, written}
@@ -22,14 +22,6 @@ use Rattle.decimal.proofs.Steps.{at-most-same, at-most-other, looked-same, looke
 use Rattle.decimal.proofs.Parts.{looked-within, whole-test, decimals-test}
 
 -- ---- digits ds against the table ts
--- a digit is the table's or another
-same-or-other : (x y : ℕ) → (x ≡ y) ⊎ (¬ (x ≡ y))
-same-or-other x y = go (is x y) refl
-  where
-    go : (t : Bool) → is x y ≡ t → (x ≡ y) ⊎ (¬ (x ≡ y))
-    go true e = inl (is_true x y e)
-    go false e = inr (is_false x y e)
-
 -- what follows the digits that were looked at does not matter
 looked-settles : (ds ts es : List ℕ) → looked_at ds ts < length ds → at_most (take (looked_at ds ts) ds ++ es) ts ≡ at_most ds ts
 looked-settles [] ts es h = absurd (omega arith)

@@ -28,7 +28,7 @@ pub struct ZeroTest {
     pub looked: usize,
 }
 
-// What a digit is worth; any other byte counts as 0.
+// What a digit is worth; any other byte counts as 0. The arms are the definition's own.
 #[tactic(auto, unfolding(crate::specs::Decimal::digit, combinators::specs::Choice::pick, combinators::specs::Choice::within, combinators::specs::Choice::and))]
 fn digit_of(b: u8) -> u8
     ensures { result ≡ digit b }
@@ -44,8 +44,8 @@ fn digit_of(b: u8) -> u8
 fn test_digits(s: &[u8], table: &[u8]) -> ZeroTest
     ensures { result ≡ digits_test table.now s.now }
 {
-    for i in 0..s.len() {
-        let d = digit_of(s[i]);
+    for (i, b) in s.iter().enumerate() {
+        let d = digit_of(*b);
         let t = peek(table, i);
         if d != t {
             return ZeroTest {

@@ -2,7 +2,7 @@
 use mathlib.Core.Path.{◌≡◌, sym, subst, ◌∙◌}
 use mathlib.Core.Bool.{Bool, true, false}
 use mathlib.Core.List.{List}
-use Prim.Native.Nat.{ℕ, ◌-◌, ◌*◌, ◌^◌, ◌<◌}
+use Prim.Native.Nat.{ℕ, ◌-◌, ◌*◌, ◌^◌, ◌≤◌, ◌<◌}
 use native.Mathlib.Omega.{arith}
 use lib.ListN.{length}
 use Rattle.combinators.specs.Choice.{pick}
@@ -14,7 +14,7 @@ use Rattle.syntax.specs.Declaration.{Colour}
 use Rattle.values.specs.Words.{Found, found, missing, on_found}
 use Rattle.values.specs.Value.{Statement, statement_of, tokens_of, without_mark, value_from, value_of}
 use Rattle.values.specs.Layout.{texts_of, value_left, Room}
-use Rattle.values.specs.View.{Counted, tokens_at}
+use Rattle.values.specs.View.{tokens_at}
 use Rattle.values.specs.Colour.{colour_of}
 use Rattle.values.specs.ColourAnswer.{colour_answer}
 use Rattle.std.specs.Prelude.{Option, Some, None, Result, Ok, Err, MatchOption}
@@ -62,7 +62,7 @@ module _ (s tokens brackets store : List ℕ) (fill : ℕ) (room : Room (length 
         rw (ec, declaring.tokens-wiped s tokens brackets store fill e ek ex, declaring.brackets-zero s tokens brackets store fill e ek eb, store-wiped ez)
 
   -- ---- a bracket is wrong
-  module _ {u k m : ℕ} (ea : a ≡ Err (record { taken = u; count = k; text = m })) where
+  module _ {u k m : ℕ} (ea : a ≡ Err (record { 0 = record { taken = u; count = k; text = m } })) where
     -- the answer tells how many tokens, and how many bytes of text, were used
     none_here : declaring.Unvalued r k m
     none_here = declaring.none_said s tokens brackets store fill e ea
@@ -77,7 +77,7 @@ module _ (s tokens brackets store : List ℕ) (fill : ℕ) (room : Room (length 
     none_left ex eb ez = attribute-left none_here.count none_here.text (sym (attribute-none s none_here.balanced)) ex eb ez
 
   -- ---- a value was read: its colour is looked for
-  module _ {t k m : ℕ} {i : Bool} (ea : a ≡ Ok (record { taken = t; count = k; text = m; important = i })) where
+  module _ {t k m : ℕ} {i : Bool} (ea : a ≡ Ok (record { statement = record { taken = t; count = k; text = m }; important = i })) where
     -- the answer tells the bytes taken, how many tokens and bytes of text there are, and the mark
     some-here : declaring.Valued r t k m i
     some-here = declaring.some-said s tokens brackets store fill e ea
@@ -88,7 +88,7 @@ module _ (s tokens brackets store : List ℕ) (fill : ℕ) (room : Room (length 
 
     module _ {j : ℕ} (ej : j ≡ pick i (k - 2) k) where
       -- the rows hold the tokens without the mark
-      pub some-counted : Counted x j
+      pub some-counted : token_width * j ≤ length x
       some-counted = declaring.left-counted s tokens brackets store fill e some-here.count room some-here.important ej
 
       -- the rows without the mark read back as the tokens of the value

@@ -20,15 +20,17 @@ use Rattle.lexer.specs.Token.{Token, text_of}
 use Rattle.lexer.specs.TokenRow.{token_width}
 use Rattle.lexer.specs.Whitespace.{skip_whitespace}
 use Rattle.lexer.proofs.Comments.{skip-le}
-use Rattle.syntax.specs.Declaration.{Decl, color, background_color, height, max_height, overflow, overflow_y, display, white_space, content, unknown, Declaration}
-use Rattle.syntax.specs.Layout.{flag, decl_text, declaration_text, decl_row, declaration_row, declaration_rows, declaration_texts}
+use Rattle.lexer.proofs.NameAnswers.{NameRead}
+use Rattle.syntax.specs.Declaration.{visible, hidden, scroll, auto, normal, pre, pre_wrap, Decl, color, background_color, height, max_height, overflow, overflow_y, display, white_space, content, unknown, Declaration}
+use Rattle.syntax.specs.Layout.{flag, overflow_number, white_space_number, decl_text, declaration_text, decl_row, declaration_row, declaration_rows, declaration_texts}
 use Rattle.syntax.specs.Stream.{texts_many, rows_many}
 use Rattle.syntax.proofs.Streams.{Held, held-part, sets-held}
 use Rattle.values.specs.Value.{Statement, statement_of, tokens_of, is_important, without_mark, value_from, value_of}
 use Rattle.values.specs.Layout.{rows_of, texts_of, brackets_after, left, ValueLeft, value_answer, value_left, Room}
-use Rattle.values.specs.View.{Counted, tokens_at}
+use Rattle.values.specs.View.{tokens_at}
 use Rattle.values.specs.Property.{decl_of}
 use Rattle.values.specs.DeclAnswer.{decl_answer, text_length}
+use Rattle.values.specs.KeywordAnswer.{overflow_word, overflow_meant, white_space_word, white_space_meant}
 use Rattle.std.specs.Prelude.{Option, Some, None, Result, Ok, Err}
 use Rattle.values.specs.declared.statements.Unbalanced.{Unbalanced}
 use Rattle.values.specs.declared.statements.Value as value
@@ -40,7 +42,7 @@ use Rattle.values.proofs.Unmarked.{tokens-count, tokens-unmarked, texts-same, Be
 use Rattle.declarations.specs.Rules.{property_of, value_behind, declaration_of}
 use Rattle.declarations.specs.DeclRow.{named_decl, shift, kept_text, kind_of, row_value, row_by}
 use Rattle.declarations.specs.Leaving.{kept, kept_of, Used, used_by, text_kept, Leaves, leaves, property_answer, declaration_answer, declaration_left, PutRoom, decl_said, Put, PropertyRead, RulesRoom}
-use Rattle.declarations.specs.declared.rules.Property.{Property}
+use Rattle.declarations.specs.declared.rules.PropertyHead.{PropertyHead}
 use Rattle.declarations.specs.declared.rules.NoProperty.{NoProperty}
 use Rattle.declarations.specs.declared.rules.DeclarationRead.{DeclarationRead}
 use Rattle.declarations.proofs.PropertyLaws.{Headed, headed}
@@ -52,15 +54,23 @@ held-begin l f xs ys b h = record { more = b.more ++ h.more; held = h.held ∙ a
 -- ---- a declaration's row and text
 -- its row, from the code's numbers
 row_is : (i s f : ℕ) (d : Decl) → row_by i s f (decl_answer d) ≡ decl_row i s f d
-unfolding row_by kind_of row_value text_length decl_answer decl_row
+unfolding row_by kind_of row_value text_length decl_answer decl_row overflow_word overflow_meant overflow_number white_space_word white_space_meant white_space_number
 row_is i s f (color c) = refl
 row_is i s f (background_color c) = refl
 row_is i s f (height z) = refl
 row_is i s f (max_height z) = refl
-row_is i s f (overflow o) = refl
-row_is i s f (overflow_y o) = refl
+row_is i s f (overflow visible) = refl
+row_is i s f (overflow hidden) = refl
+row_is i s f (overflow scroll) = refl
+row_is i s f (overflow auto) = refl
+row_is i s f (overflow_y visible) = refl
+row_is i s f (overflow_y hidden) = refl
+row_is i s f (overflow_y scroll) = refl
+row_is i s f (overflow_y auto) = refl
 row_is i s f (display n) = refl
-row_is i s f (white_space w) = refl
+row_is i s f (white_space normal) = refl
+row_is i s f (white_space pre) = refl
+row_is i s f (white_space pre_wrap) = refl
 row_is i s f (content t) = refl
 row_is i s f (unknown t) = refl
 
@@ -151,19 +161,19 @@ pub record Valued (r : Statement) (n k m : ℕ) (i : Bool) : Type 0 where
   pub important : i ≡ is_important (tokens_of r.tokens)
 
 -- an answer with a value comes of right brackets alone, and says the statement's bytes, tokens, length of text and mark
-valued : (r : Statement) (n : value.Value) → Ok n ≡ value_answer r → Valued r n.taken n.count n.text n.important
+valued : (r : Statement) (n : value.Value) → Ok n ≡ value_answer r → Valued r n.statement.taken n.statement.count n.statement.text n.important
 unfolding value_answer
 valued r n e = go r.balanced refl e
   where
-    go : (b : Bool) → r.balanced ≡ b → ◌≡◌ {A = Result value.Value Unbalanced} (Ok n) (pick b (Ok (record { taken = r.taken; count = length r.tokens; text = length (texts_of r.tokens); important = is_important (tokens_of r.tokens) })) (Err (record { taken = r.taken; count = length r.tokens; text = length (texts_of r.tokens) }))) → Valued r n.taken n.count n.text n.important
+    go : (b : Bool) → r.balanced ≡ b → ◌≡◌ {A = Result value.Value Unbalanced} (Ok n) (pick b (Ok (record { statement = record { taken = r.taken; count = length r.tokens; text = length (texts_of r.tokens) }; important = is_important (tokens_of r.tokens) })) (Err (record { 0 = record { taken = r.taken; count = length r.tokens; text = length (texts_of r.tokens) } }))) → Valued r n.statement.taken n.statement.count n.statement.text n.important
     go true h e =
         unfold pick in
-        let q : n ≡ record { taken = r.taken; count = length r.tokens; text = length (texts_of r.tokens); important = is_important (tokens_of r.tokens) } = cc in
+        let q : n ≡ record { statement = record { taken = r.taken; count = length r.tokens; text = length (texts_of r.tokens) }; important = is_important (tokens_of r.tokens) } = cc in
         record {
           balanced = h;
-          taken = ap (λ (m : value.Value). m.taken) q;
-          count = ap (λ (m : value.Value). m.count) q;
-          text = ap (λ (m : value.Value). m.text) q;
+          taken = ap (λ (m : value.Value). m.statement.taken) q;
+          count = ap (λ (m : value.Value). m.statement.count) q;
+          text = ap (λ (m : value.Value). m.statement.text) q;
           important = ap (λ (m : value.Value). m.important) q;
         }
     go false h e = unfold pick in absurd (cc)
@@ -174,16 +184,16 @@ pub record Unvalued (r : Statement) (k m : ℕ) : Type 0 where
   pub text : m ≡ length (texts_of r.tokens)
 
 -- an answer without a value comes of a wrong bracket alone, and says how many tokens were read, and how long their texts are
-unvalued : (r : Statement) (n : Unbalanced) → Err n ≡ value_answer r → Unvalued r n.count n.text
+unvalued : (r : Statement) (n : Unbalanced) → Err n ≡ value_answer r → Unvalued r n.0.count n.0.text
 unfolding value_answer
 unvalued r n e = go r.balanced refl e
   where
-    go : (b : Bool) → r.balanced ≡ b → ◌≡◌ {A = Result value.Value Unbalanced} (Err n) (pick b (Ok (record { taken = r.taken; count = length r.tokens; text = length (texts_of r.tokens); important = is_important (tokens_of r.tokens) })) (Err (record { taken = r.taken; count = length r.tokens; text = length (texts_of r.tokens) }))) → Unvalued r n.count n.text
+    go : (b : Bool) → r.balanced ≡ b → ◌≡◌ {A = Result value.Value Unbalanced} (Err n) (pick b (Ok (record { statement = record { taken = r.taken; count = length r.tokens; text = length (texts_of r.tokens) }; important = is_important (tokens_of r.tokens) })) (Err (record { 0 = record { taken = r.taken; count = length r.tokens; text = length (texts_of r.tokens) } }))) → Unvalued r n.0.count n.0.text
     go true h e = unfold pick in absurd (cc)
     go false h e =
         unfold pick in
-        let q : n ≡ record { taken = r.taken; count = length r.tokens; text = length (texts_of r.tokens) } = cc in
-        record { balanced = h; count = ap (λ (m : Unbalanced). m.count) q; text = ap (λ (m : Unbalanced). m.text) q }
+        let q : n ≡ record { 0 = record { taken = r.taken; count = length r.tokens; text = length (texts_of r.tokens) } } = cc in
+        record { balanced = h; count = ap (λ (m : Unbalanced). m.0.count) q; text = ap (λ (m : Unbalanced). m.0.text) q }
 
 -- ---- what `parse_value` left of a text
 module _ (s tokens brackets store : List ℕ) (fill : ℕ) {a : Result value.Value Unbalanced} {x b z : List ℕ}
@@ -212,11 +222,11 @@ module _ (s tokens brackets store : List ℕ) (fill : ℕ) {a : Result value.Val
   store_is = ap (λ (l : ValueLeft). l.store) e
 
   -- the answer's numbers, where a bracket is wrong
-  pub none_said : {u k m : ℕ} → a ≡ Err (record { taken = u; count = k; text = m }) → Unvalued stated k m
+  pub none_said : {u k m : ℕ} → a ≡ Err (record { 0 = record { taken = u; count = k; text = m } }) → Unvalued stated k m
   none_said ea = unvalued stated _ (sym ea ∙ answer-is)
 
   -- an answer with a value says that the brackets are right, and has the value's numbers
-  pub some-said : {t k m : ℕ} {i : Bool} → a ≡ Ok (record { taken = t; count = k; text = m; important = i }) → Valued stated t k m i
+  pub some-said : {t k m : ℕ} {i : Bool} → a ≡ Ok (record { statement = record { taken = t; count = k; text = m }; important = i }) → Valued stated t k m i
   some-said ea = valued stated _ (sym ea ∙ answer-is)
 
   module _ {k : ℕ} (ek : k ≡ length stated.tokens) where
@@ -260,8 +270,8 @@ module _ (s tokens brackets store : List ℕ) (fill : ℕ) {a : Result value.Val
         tokens-long = ap length tokens-are ∙ length-sets tokens 0 (rows_of fill stated.tokens)
 
         -- the store holds the rows of the tokens without the mark
-        pub left-counted : Counted x j
-        left-counted = record { inside = omega (arith, unmarked-le, tokens-long, ek, sized.counted, sized.within, room.for-tokens) }
+        pub left-counted : token_width * j ≤ length x
+        left-counted = omega (arith, unmarked-le, tokens-long, ek, sized.counted, sized.within, room.for-tokens)
 
 -- ---- `parse_declared`: the value behind a property that was read
 module _ (names : Bool) (at : ℕ) (s rules : List ℕ) (place : ℕ) (tokens brackets store : List ℕ) (fill v n : ℕ)
@@ -332,7 +342,7 @@ module _ (names : Bool) (at : ℕ) (s rules : List ℕ) (place : ℕ) (tokens br
       store-wiped = rw (em, read.long, stored) (wiped-inner store fill n (length (texts_of value-of.tokens)) (texts_of value-of.tokens) (omega arith))
 
     -- a bracket is wrong
-    module _ {o k m : ℕ} (ea : a ≡ Err (record { taken = o; count = k; text = m })) where
+    module _ {o k m : ℕ} (ea : a ≡ Err (record { 0 = record { taken = o; count = k; text = m } })) where
       -- the answer's numbers are the counts of a value with a wrong bracket
       none_here : Unvalued value-of k m
       none_here = none_said (drop v s) tokens brackets store (fill + n) left_is ea
@@ -355,7 +365,7 @@ module _ (names : Bool) (at : ℕ) (s rules : List ℕ) (place : ℕ) (tokens br
           (brackets-zero (drop v s) tokens brackets store (fill + n) left_is u.count eb) (ez ∙ store-wiped u.text))
 
     -- a value was read, of k tokens and m bytes of text
-    module _ {t k m : ℕ} {i : Bool} (ea : a ≡ Ok (record { taken = t; count = k; text = m; important = i })) where
+    module _ {t k m : ℕ} {i : Bool} (ea : a ≡ Ok (record { statement = record { taken = t; count = k; text = m }; important = i })) where
       -- the answer's numbers are those of a value with right brackets
       some-here : Valued value-of t k m i
       some-here = some-said (drop v s) tokens brackets store (fill + n) left_is ea
@@ -399,7 +409,7 @@ module _ (names : Bool) (at : ℕ) (s rules : List ℕ) (place : ℕ) (tokens br
           pub put-room : PutRoom (at + w) x j z fill n m
           put-room =
               record {
-                for-tokens = (left-counted (drop v s) tokens brackets store (fill + n) left_is some-here.count rest-room some-here.important ej).inside;
+                for-tokens = left-counted (drop v s) tokens brackets store (fill + n) left_is some-here.count rest-room some-here.important ej;
                 texts = omega (arith, ap (λ (l : List Token). length (texts_many text_of l)) tokens-read, texts-le);
                 inside = omega (arith, store_long, some-here.text, texts-inside);
                 bits = omega (arith, some-here.text, texts-bits false (drop v s) tokens brackets store (fill + n) rest-room);
@@ -455,27 +465,22 @@ module _ (names : Bool) (at : ℕ) (s rules : List ℕ) (place : ℕ) (tokens br
               (brackets-zero (drop v s) tokens brackets store (fill + n) left_is u.count eb) ez)
 
 -- ---- `parse_declaration`: what the answer of `parse_property` says
-record Headword (p : Parsed (List ℕ)) (v n : ℕ) : Type 0 where
-  name : List ℕ
-  reads : p ≡ ok v name
-  long : n ≡ length name
-
 -- an answer with a name comes of a property that reads, and has its place and the length of its name
-headword : (p : Parsed (List ℕ)) (m : ℕ) (n : Property) → ◌≡◌ {A = Result Property NoProperty} (Ok n) (on_parsed p (λ w name. Ok (record { value = w; name = length name })) (Err (record { name = m }))) → Headword p n.value n.name
+headword : (p : Parsed (List ℕ)) (m : ℕ) (n : PropertyHead) → ◌≡◌ {A = Result PropertyHead NoProperty} (Ok n) (on_parsed p (λ w name. Ok (record { value = w; name = length name })) (Err (record { name = m }))) → NameRead p n.value n.name
 unfolding on_parsed
 headword (ok w b) m n e =
     let q : n ≡ record { value = w; name = length b } = cc in
-    record { name = b; reads = ap (λ (x : Property). ok x.value b) (sym q); long = ap (λ (x : Property). x.name) q }
+    record { name = b; reads = ap (λ (x : PropertyHead). ok x.value b) (sym q); long = ap (λ (x : PropertyHead). x.name) q }
 headword err m n e = absurd (cc)
 
 -- an answer without a name comes of a property that does not read
-headless : (p : Parsed (List ℕ)) (m : ℕ) (n : NoProperty) → ◌≡◌ {A = Result Property NoProperty} (Err n) (on_parsed p (λ w name. Ok (record { value = w; name = length name })) (Err (record { name = m }))) → (p ≡ err) × (n.name ≡ m)
+headless : (p : Parsed (List ℕ)) (m : ℕ) (n : NoProperty) → ◌≡◌ {A = Result PropertyHead NoProperty} (Err n) (on_parsed p (λ w name. Ok (record { value = w; name = length name })) (Err (record { name = m }))) → (p ≡ err) × (n.name ≡ m)
 unfolding on_parsed
 headless (ok w b) m n e = absurd (cc)
 headless err m n e = let q : n ≡ record { name = m } = cc in (refl, ap (λ (x : NoProperty). x.name) q)
 
 module _ (names : Bool) (at : ℕ) (s rules : List ℕ) (place : ℕ) (tokens brackets store : List ℕ) (fill : ℕ)
-    (room : RulesRoom s at rules place tokens brackets store fill) {p : Result Property NoProperty} (ep : p ≡ property_answer s) {z : List ℕ} (ez : z ≡ sets store fill (name_text (ident_of s))) where
+    (room : RulesRoom s at rules place tokens brackets store fill) {p : Result PropertyHead NoProperty} (ep : p ≡ property_answer s) {z : List ℕ} (ez : z ≡ sets store fill (name_text (ident_of s))) where
   -- the store keeps its length, and so the room
   z-long : length z ≡ length store
   z-long = ap length ez ∙ length-sets store fill (name_text (ident_of s))
@@ -494,7 +499,7 @@ module _ (names : Bool) (at : ℕ) (s rules : List ℕ) (place : ℕ) (tokens br
   -- a name and ':'
   module _ {v n : ℕ} (ea : p ≡ Ok (record { value = v; name = n })) where
     -- the answer has the property's value place and the length of its name
-    word : Headword (property_of s) v n
+    word : NameRead (property_of s) v n
     unfolding property_answer
     word = headword (property_of s) (length (name_text (ident_of s))) _ (sym ea ∙ ep)
 

@@ -1,17 +1,16 @@
 -- Three pairs of hex digits, and the colour that they are.
 use Prim.Native.Nat.{ℕ, ◌<◌, ◌≤◌}
 use mathlib.Core.Path.{◌≡◌, refl, sym}
-use mathlib.Core.List.{List}
+use mathlib.Core.List.{List, [], ◌∷◌}
 use lib.ListN.{length, take, drop}
 use Rattle.combinators.proofs.Rules.{at_most, above}
-use Rattle.lexer.specs.Name.{is_hex_digit, hex_digit}
 use Rattle.syntax.specs.Declaration.{Colour}
 use Rattle.syntax.specs.Layout.{colour_number}
 use Rattle.values.specs.Words.{Found, found, missing, on_found}
-use Rattle.values.specs.Colour.{rgb, without_plus, parse_hex}
+use Rattle.values.specs.Colour.{rgb, parse_hex}
 use Rattle.values.specs.ColourAnswer.{number_answer, colour_answer}
 use Rattle.std.specs.Prelude.{Option, Some, None}
-use Rattle.values.proofs.ColourLaws.{no-colour, a-colour, number-found, number-missing, read-le}
+use Rattle.values.proofs.ColourLaws.{no-colour, a-colour, number-found, number-missing}
 use Rattle.values.proofs.WordLaws.{found-holds}
 use Rattle.declarations.specs.Attribute.{pairs, faulty_colour}
 
@@ -53,12 +52,18 @@ module _ (t : List ℕ) where
   unfolding faulty_colour
   long h = sym (at_most _ _ _ 6 (length t) h refl)
 
--- ---- `pair_colour`
+-- the pairs are among the first six bytes
+pub first-six : (t : List ℕ) → pairs (take 6 t) ≡ pairs t
+unfolding pairs
+first-six [] = refl
+first-six (a ∷ []) = refl
+first-six (a ∷ b ∷ []) = refl
+first-six (a ∷ b ∷ c ∷ []) = refl
+first-six (a ∷ b ∷ c ∷ d ∷ []) = refl
+first-six (a ∷ b ∷ c ∷ d ∷ e ∷ []) = refl
+first-six (a ∷ b ∷ c ∷ d ∷ e ∷ f ∷ r) = refl
 
--- a number that is read from a pair is a byte
-pub pair-le : (s : List ℕ) (x : Option ℕ) (v : ℕ) → x ≡ number_answer (parse_hex 255 s) → x ≡ Some v → v ≤ 255
-unfolding parse_hex
-pair-le s x v e h = read-le is_hex_digit 16 hex_digit 255 (without_plus s) v (number-found x _ e v h)
+-- ---- `pair_colour`
 
 module _ (t : List ℕ) where
   -- the returns: the first pair is no number

@@ -4,11 +4,12 @@ use mathlib.Core.Bool.{Bool, true, false}
 use mathlib.Core.List.{List}
 use Prim.Native.Nat.{ℕ, ◌+◌, ◌≤◌}
 use native.Mathlib.Omega.{arith}
-use lib.ListN.{length, drop, length-take}
+use lib.ListN.{length}
 use lib.Seq.{sets}
 use Rattle.combinators.specs.Choice.{pick}
 use Rattle.combinators.specs.Store.{wiped}
 use Rattle.combinators.specs.Part.{part}
+use Rattle.combinators.proofs.Parts.{part-le}
 use Rattle.lexer.specs.Token.{Token, text_of}
 use Rattle.syntax.specs.Declaration.{Decl, color, background_color, height, max_height, overflow, overflow_y, display, white_space, content, unknown}
 use Rattle.syntax.specs.Layout.{flag, decl_text}
@@ -64,11 +65,6 @@ text-among names n t (white_space w) b = omega arith
 text-among names n t (content x) b = omega arith
 text-among true n t (unknown x) b = omega arith
 text-among false n t (unknown x) b = omega arith
-
--- a part of a store is no longer than asked
-part-le : (store : List ℕ) (f n : ℕ) → length (part store f n) ≤ n
-unfolding part
-part-le store f n = omega (arith, length-take n (drop f store))
 
 -- a declaration without a text is within any bounds
 textless-bounded : (n t : ℕ) (d : Decl) → Textless d → Bounded n t d

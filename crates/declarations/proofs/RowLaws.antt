@@ -1,17 +1,16 @@
 -- Declarations written to rows, and their texts kept.
 use mathlib.Core.Path.{◌≡◌, refl, sym, ap, ◌∙◌}
-use mathlib.Core.List.{List, [], ◌∷◌}
+use mathlib.Core.List.{List}
 use Prim.Native.Nat.{ℕ, ◌+◌, ◌-◌}
 use native.Mathlib.Omega.{arith}
 use lib.ListN.{length, drop, replicate, length-replicate, length-drop}
 use lib.Seq.{sets, length-take-le}
-use Rattle.combinators.specs.Store.{filled_part, emits, wiped}
+use Rattle.combinators.specs.Store.{filled_part, wiped}
 use Rattle.combinators.specs.Part.{part}
-use Rattle.combinators.proofs.Emitted.{then, sets-emitted}
 use Rattle.combinators.proofs.Wiped.{sets_over, wiped-apart, wiped-add}
 use Rattle.values.specs.DeclAnswer.{text_length}
 use Rattle.values.specs.declared.properties.Decl as declared
-use Rattle.declarations.specs.DeclRow.{shift, kept_text, Keeping, kind_of, row_value, row_by}
+use Rattle.declarations.specs.DeclRow.{shift, kept_text, Keeping}
 
 -- ---- `keep_text`: the text of a declaration moved down to the fill, and zeros behind it
 module _ (d : declared.Decl) (store : List ℕ) (f n t : ℕ) (k : Keeping d store f n t) where
@@ -42,18 +41,3 @@ module _ (d : declared.Decl) (store : List ℕ) (f n t : ℕ) (k : Keeping d sto
       sets_over (wiped (f + N) M store) f (replicate N 0) x (omega (arith, length-replicate {A = ℕ} N 0))
       in
       ez ∙ ap (wiped (f + N) M) (ey ∙ ap (λ j. sets store f (part store (f + j) N)) em) ∙ p ∙ sym o ∙ ap (λ l. sets l f x) (sym q)
-
--- ---- `put_declaration`: the five numbers of its row, one behind the other
-module _ (d : declared.Decl) (l : List ℕ) (at i s f : ℕ) (v : ℕ) (ev : v ≡ row_value f d) (m : ℕ) (em : m ≡ i) where
-  -- five numbers emitted in turn, kind, mark, start, value and length of text, leave the declaration's row
-  pub row-left : (l₁ l₂ l₃ l₄ l₅ : List ℕ) (f₁ f₂ f₃ f₄ f₅ : ℕ)
-      → record { bytes = l₁; fill = f₁ } ≡ emits (record { bytes = l; fill = at }) (kind_of d ∷ [])
-      → record { bytes = l₂; fill = f₂ } ≡ emits (record { bytes = l₁; fill = f₁ }) (m ∷ [])
-      → record { bytes = l₃; fill = f₃ } ≡ emits (record { bytes = l₂; fill = f₂ }) (s ∷ [])
-      → record { bytes = l₄; fill = f₄ } ≡ emits (record { bytes = l₃; fill = f₃ }) (v ∷ [])
-      → record { bytes = l₅; fill = f₅ } ≡ emits (record { bytes = l₄; fill = f₄ }) ((text_length d) ∷ [])
-      → l₅ ≡ sets l at (row_by i s f d)
-  unfolding row_by
-  row-left l₁ l₂ l₃ l₄ l₅ f₁ f₂ f₃ f₄ f₅ a b c e g =
-      let o = then _ _ _ _ _ (then _ _ _ _ _ (then _ _ _ _ _ (then _ _ _ _ _ a b) c) e) g in
-      sets-emitted l l₅ _ at f₅ o ∙ rw (ev, em)

@@ -19,7 +19,7 @@ use Rattle.lexer.specs.TokenRow.{token_width}
 use Rattle.lexer.specs.Whitespace.{skip_whitespace}
 use Rattle.lexer.proofs.Comments.{skip-le}
 use Rattle.syntax.specs.Declaration.{Decl, color, background_color, height, max_height, overflow, overflow_y, display, white_space, content, unknown, Declaration}
-use Rattle.syntax.specs.Layout.{declaration_width, declaration_text, declaration_rows, declaration_texts, style_rows, style_texts, styles_at}
+use Rattle.syntax.specs.Layout.{declaration_width, style_width, declaration_text, declaration_rows, declaration_texts, style_rows, style_texts, styles_at}
 use Rattle.syntax.specs.Stream.{texts_many}
 use Rattle.syntax.proofs.Streams.{sets-drop}
 use Rattle.syntax.proofs.RowSizes.{length-declarations, length-styles}
@@ -30,7 +30,7 @@ use Rattle.declarations.specs.Attribute.{style_attribute}
 use Rattle.declarations.specs.DeclRow.{named_decl}
 use Rattle.declarations.specs.Rules.{property_of, value_behind, declaration_of, Rules, starts_at, more_rules, declarations_of}
 use Rattle.declarations.specs.Leaving.{kept, text_kept, used_rules, Leaves, leaves, rules_answer, rules_of, rules_left, styles_answer, style_left, StyleRoom}
-use Rattle.declarations.specs.StyleNumbers.{style_numbers, style_count, StylesRoom}
+use Rattle.declarations.specs.StyleNumbers.{style_numbers, style_count}
 use Rattle.declarations.specs.Styles.{one, style_of, hides_overflow, zero_height, any_decl, own_styles, first_zero, styles_of}
 use Rattle.declarations.specs.declared.rules.RulesRead.{RulesRead}
 use Rattle.declarations.proofs.Declaring.{takes}
@@ -283,16 +283,14 @@ module _ (s : List ℕ) where
       pub count_fits : declaration_width * r.count < 2 ^ 64
       count_fits = omega (arith, count-is, ds-long, declarations-count s, o.for-declarations.row-bits)
 
+      -- the rows of the declarations are there
+      pub rows-there : declaration_width * r.count ≤ length y
+      rows-there = omega (arith, ap length rules-are, length-sets rules 0 (declaration_rows fill ds), o.for-declarations.for-rules, count-is, ds-long, declarations-count s)
+
       -- there is room for the rows of the styles
-      pub styles-room : StylesRoom y r.count x
-      styles-room =
-          let n = count-is in
-          let m = ds-long in
-          let k = declarations-count s in
-          record {
-            for-declarations = omega (arith, ap length rules-are, length-sets rules 0 (declaration_rows fill ds), o.for-declarations.for-rules);
-            for-styles = omega (arith, ap length tokens-are, length-wiped 0 (token_width * (used_rules false s).tokens) tokens, o.for-styles);
-          }
+      pub styles-room : (rows : List (List ℕ)) → length rows ≡ r.count → style_width * (length rows + 1) ≤ length x
+      styles-room rows e =
+          omega (arith, count-is, ds-long, declarations-count s, ap length tokens-are, length-wiped 0 (token_width * (used_rules false s).tokens) tokens, o.for-styles)
 
       -- the rows of the styles
       numbers-are : style_numbers y r.count ≡ style_rows fill (style_attribute s)

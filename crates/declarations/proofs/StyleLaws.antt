@@ -3,7 +3,6 @@ use mathlib.Core.Path.{◌≡◌, refl, ap, sym, ◌∙◌}
 use mathlib.Core.Bool.{Bool, true, false}
 use mathlib.Core.List.{List, [], ◌∷◌, ◌++◌, append_assoc, append-nil}
 use Prim.Native.Nat.{ℕ, zero, suc, ◌+◌, ◌*◌, ◌≤◌}
-use native.Mathlib.Nat.{add-zero}
 use native.Mathlib.Omega.{arith}
 use lib.ListN.{length, get_or, drop, length-append}
 use Rattle.combinators.specs.Choice.{pick, or, and, is}
@@ -19,6 +18,7 @@ use Rattle.syntax.specs.declared.styles.Value.{Value}
 use Rattle.syntax.specs.declared.styles.StyleNumbers.{StyleNumbers}
 use Rattle.syntax.proofs.Back.{flag-back, row-numbers-back, row-numbers-rest}
 use Rattle.syntax.proofs.RowSizes.{length-style}
+use Rattle.syntax.proofs.Streams.{texts-append, rows_append}
 use Rattle.declarations.specs.Styles.{one, style_of, hides, hides_overflow, zero_height, any_decl, own_styles, first_zero, styles_of}
 use Rattle.declarations.specs.StyleNumbers.{no_value, added_style, style_for, own_numbers, declared_value, own_numbers_at, row_of_own, own_row, has_value, zero_row, hidden_row, own_rows, any_row, first_zero_row, style_numbers, style_count}
 use Rattle.std.specs.Prelude.{Option, Some, None}
@@ -320,21 +320,6 @@ NamelessDecl (unknown n) = n ≡ []
 abbrev pub Nameless : List Declaration → Type 0
 Nameless ds = All (λ d. NamelessDecl d.decl) ds
 
-module _ {A : Type 0} (x : A → List ℕ) where
-  -- the texts of values behind values
-  texts-behind : (xs ys : List A) → texts_many x (xs ++ ys) ≡ texts_many x xs ++ texts_many x ys
-  unfolding texts_many
-  texts-behind [] ys = refl
-  texts-behind (a ∷ xs) ys = rw (texts-behind xs ys, append_assoc (x a) (texts_many x xs) (texts_many x ys))
-
-  -- the rows of two lists, one behind the other, are those of the lists joined
-  rows_behind : (w : ℕ → A → List ℕ) (xs ys : List A) (f : ℕ) → rows_many w x f (xs ++ ys) ≡ rows_many w x f xs ++ rows_many w x (f + length (texts_many x xs)) ys
-  unfolding texts_many rows_many
-  rows_behind w [] ys f = rw (add-zero f)
-  rows_behind w (a ∷ xs) ys f =
-      let e : f + length (x a ++ texts_many x xs) ≡ f + length (x a) + length (texts_many x xs) = omega (arith, length-append (x a) (texts_many x xs)) in
-      rw (rows_behind w xs ys (f + length (x a)), e, append_assoc (w f a) (rows_many w x (f + length (x a)) xs) (rows_many w x (f + length (x a) + length (texts_many x xs)) ys))
-
 -- ---- one declaration
 
 -- the numbers behind its row
@@ -451,7 +436,7 @@ own-rows-only (d ∷ ds) f t u =
       own-row d.important d.start f d.decl (rows_many declaration_row declaration_text g ds ++ t),
       row-behind (flag d.important) d.start f d.decl (rows_many declaration_row declaration_text g ds ++ t),
       own-rows-only ds g t u.1,
-      rows_behind style_text style_row (style_of d.important d.start d.decl) (own_styles ds) f,
+      rows_append style_row style_text (style_of d.important d.start d.decl) (own_styles ds) f,
       own-text d.important d.start d.decl u.0,
     )
 
@@ -489,7 +474,7 @@ own-texts-only : (ds : List Declaration) → Nameless ds → texts_many style_te
 unfolding own_styles texts_many declaration_text
 own-texts-only [] u = refl
 own-texts-only (d ∷ ds) u =
-    rw (texts-behind style_text (style_of d.important d.start d.decl) (own_styles ds), own-text d.important d.start d.decl u.0, own-texts-only ds u.1)
+    rw (texts-append style_row style_text (style_of d.important d.start d.decl) (own_styles ds), own-text d.important d.start d.decl u.0, own-texts-only ds u.1)
 
 -- the row of the style that is added
 added-row : (z : Bool) (s f : ℕ) → rows_many style_row style_text f (pick z (one false s style.display_none) []) ≡ pick z (row_of_numbers (added_style s)) []
@@ -512,7 +497,7 @@ own-rows ds f t u =
       any-declared zero_row zero_height zero_row_lem ds f t,
       any-declared hidden_row hides_overflow hidden-row ds f t,
       first-declared ds f t,
-      rows_behind style_text style_row (own_styles ds) (pick (and (any_decl zero_height ds) (any_decl hides_overflow ds)) (one false (first_zero ds) style.display_none) []) f,
+      rows_append style_row style_text (own_styles ds) (pick (and (any_decl zero_height ds) (any_decl hides_overflow ds)) (one false (first_zero ds) style.display_none) []) f,
       added-row (and (any_decl zero_height ds) (any_decl hides_overflow ds)) (first_zero ds) (f + length (texts_many style_text (own_styles ds))),
     )
 
@@ -521,7 +506,7 @@ pub own-texts : (ds : List Declaration) → Nameless ds → style_texts (styles_
 unfolding style_texts styles_of declaration_texts
 own-texts ds u =
     rw (
-      texts-behind style_text (own_styles ds) (pick (and (any_decl zero_height ds) (any_decl hides_overflow ds)) (one false (first_zero ds) style.display_none) []),
+      texts-append style_row style_text (own_styles ds) (pick (and (any_decl zero_height ds) (any_decl hides_overflow ds)) (one false (first_zero ds) style.display_none) []),
       added-text (and (any_decl zero_height ds) (any_decl hides_overflow ds)) (first_zero ds),
       append-nil (texts_many style_text (own_styles ds)),
       own-texts-only ds u,

@@ -2,30 +2,27 @@
 use mathlib.Core.Path.{◌≡◌, refl, ap, sym, ◌∙◌}
 use mathlib.Core.Bool.{Bool, true, false, ◌||◌, ◌&&◌}
 use mathlib.Core.List.{List, [], ◌∷◌, ◌++◌}
-use Prim.Native.Nat.{ℕ, suc, ◌+◌, ◌*◌, ◌-◌, ◌/◌, ◌≤◌, ◌<◌}
+use Prim.Native.Nat.{ℕ, zero, suc, ◌+◌, ◌*◌, ◌-◌, ◌/◌, ◌≤◌, ◌<◌}
 use native.Mathlib.Omega.{arith}
 use lib.Dec.{eqb}
-use lib.ListN.{length, get_or, drop}
-use lib.Seq.{sets, get_or-drop, drop-drop}
+use lib.ListN.{length, get_or, take, drop}
+use lib.Seq.{sets, get_or-drop, get_or-take, take-take, drop-drop, length-take-le}
+use Rattle.std.specs.Simd.{first_chunks}
+use Rattle.std.proofs.lemmas.List.{drop-take}
 use Rattle.combinators.specs.Choice.{pick, or, and, is}
 use Rattle.combinators.specs.Store.{Store, emits}
 use Rattle.combinators.proofs.Rules.{pick_true, pick-false, is-yes, is-no, or_left, and-gives, and-gives-false, or_assoc, or-false}
 use Rattle.combinators.proofs.Emitted.{emits_none, onto, then, sets-emitted, emits-fill}
-use Rattle.syntax.specs.Layout.{flag, flag_of, declaration_width, declaration_kind, declaration_important, declaration_start, declaration_value, declaration_second, declarations_at, style_width, value_numbers, row_of_numbers, styles_at}
+use Rattle.syntax.specs.Declaration.{hidden}
+use Rattle.syntax.specs.Layout.{flag, height_kind, max_height_kind, overflow_kind, overflow_yKind, overflow_number, flag_of, declaration_width, declaration_kind, declaration_important, declaration_start, declaration_value, declaration_second, declarations_at, style_width, row_of_numbers, styles_at}
 use Rattle.syntax.specs.declared.styles.StyleNumbers.{StyleNumbers}
 use Rattle.syntax.proofs.Streams.{sets-drop}
 use Rattle.declarations.specs.Styles.{styles_of}
-use Rattle.declarations.specs.StyleNumbers.{added_style, own_numbers, declared_value, own_numbers_at, row_of_own, own_row, has_value, zero_row, hidden_row, own_rows, any_row, first_zero_row, style_numbers, style_count, StylesRoom}
+use Rattle.declarations.specs.StyleNumbers.{added_style, own_numbers, declared_value, own_numbers_at, row_of_own, own_row, has_value, zero_row, hidden_row, own_rows, any_row, first_zero_row, style_numbers, style_count, Cut, StylesLeft}
 use Rattle.std.specs.Prelude.{Option, Some, None, is_some, unwrap_or}
 use Rattle.std.specs.Option.{option_or}
 use Rattle.std.specs.Bool.{then_some}
 use Rattle.declarations.proofs.StyleLaws.{styles-meant, numbers-long, count-le}
-
--- the row of a style, one number behind the other
-pub row_put : (x : StyleNumbers) (i : ℕ) → i ≡ flag x.important → (o₀ o₁ o₂ o₃ o₄ o₅ : Store ℕ) → o₁ ≡ emits o₀ (x.slot ∷ []) → o₂ ≡ emits o₁ (i ∷ [])
-    → o₃ ≡ emits o₂ (x.value.number ∷ []) → o₄ ≡ emits o₃ (x.value.second ∷ []) → o₅ ≡ emits o₄ (x.value.start ∷ []) → o₅ ≡ emits o₀ (row_of_numbers x)
-unfolding row_of_numbers value_numbers
-row_put x i e o₀ o₁ o₂ o₃ o₄ o₅ p q r s u = then _ _ _ _ _ (then _ _ _ _ _ (then _ _ _ _ _ (then _ _ _ _ _ p (q ∙ ap (λ (n : ℕ). emits o₁ (n ∷ [])) e)) r) s) u
 
 -- ---- the row of a declaration at a place
 module _ (rows : List ℕ) (at k a : ℕ) (ek : k ≡ get_or rows (at + declaration_kind) 0) (ea : a ≡ get_or rows (at + declaration_value) 0) where
@@ -165,22 +162,16 @@ first_step rows count at i o v h w =
     first-noted o x n k ∙ ap (unwrap_or o) q ∙ w
 
 -- ---- what `styles_from_properties` leaves
-abbrev pub Styled : List ℕ → ℕ → List ℕ → List ℕ → ℕ → Type 0
-Styled rows count styles₀ styles r =
-    (styles ≡ sets styles₀ 0 (style_numbers rows count))
-    × ((r ≡ style_count rows count)
-    × (((store : List ℕ) → styles_at styles store r ≡ styles_of (declarations_at rows store count))
-    × (r ≤ count + 1)))
 
 -- where all rows were emitted
-styled : (rows : List ℕ) (count : ℕ) (styles₀ styles : List ℕ) (place : ℕ) → StylesRoom rows count styles₀
+styled : (rows : List ℕ) (count : ℕ) (styles₀ styles : List ℕ) (place : ℕ) → style_width * (count + 1) ≤ length styles₀
     → record { bytes = styles; fill = place } ≡ emits (record { bytes = styles₀; fill = 0 }) (style_numbers rows count)
-    → Styled rows count styles₀ styles (place / style_width)
+    → StylesLeft rows count styles₀ styles (place / style_width)
 unfolding style_count
-styled rows count styles₀ styles place room e = (stored, (counted, (meant, rw counted (count-le rows count))))
+styled rows count styles₀ styles place room e = record { stored = stored; counted = counted; meant = meant; few = rw counted (count-le rows count) }
   where
     long : 0 + length (style_numbers rows count) ≤ length styles₀
-    long = omega (arith, numbers-long rows count, room.for-styles)
+    long = omega (arith, numbers-long rows count, room)
 
     stored : styles ≡ sets styles₀ 0 (style_numbers rows count)
     stored = sets-emitted styles₀ styles (style_numbers rows count) 0 place e
@@ -190,6 +181,67 @@ styled rows count styles₀ styles place room e = (stored, (counted, (meant, rw 
 
     meant : (store : List ℕ) → styles_at styles store (place / style_width) ≡ styles_of (declarations_at rows store count)
     meant store = rw (stored, counted, sets-drop styles₀ 0 (style_numbers rows count) long) (styles-meant store rows count _)
+
+-- ---- a row that is cut from a stream
+-- the i-th of k
+cut-row : (k i : ℕ) (t : List ℕ) → i < k → get_or (first_chunks declaration_width k t) i [] ≡ take declaration_width (drop (i * declaration_width) t)
+cut-row zero i t h = absurd (omega arith)
+cut-row (suc k) zero t h = refl
+cut-row (suc k) (suc i) t h =
+    let d : i * declaration_width + declaration_width ≡ suc i * declaration_width = omega arith in
+    let c : declaration_width + i * declaration_width ≡ suc i * declaration_width = omega arith in
+    cut-row k i (drop declaration_width t) (omega arith) ∙ ap (take declaration_width) (drop-drop (i * declaration_width) declaration_width t ∙ ap (λ n. drop n t) c)
+
+-- the rows of as many numbers as they have are those of the stream
+rows-of : (k : ℕ) (t : List ℕ) → first_chunks declaration_width k (take (declaration_width * k) t) ≡ first_chunks declaration_width k t
+rows-of zero t = refl
+rows-of (suc k) t =
+    let w : declaration_width * suc k ≡ declaration_width + declaration_width * k = omega arith in
+    rw (w, take-take declaration_width (declaration_width + declaration_width * k) t (omega arith), drop-take declaration_width (declaration_width * k) t)
+    (ap (λ (l : List (List ℕ)). take declaration_width t ∷ l) (rows-of k (drop declaration_width t)))
+
+-- they are as many as are asked for
+length-rows : (k : ℕ) (t : List ℕ) → length (first_chunks declaration_width k t) ≡ k
+length-rows zero t = refl
+length-rows (suc k) t = ap suc (length-rows k (drop declaration_width t))
+
+-- the rows of so many declarations as a stream has numbers for are cut from its start
+module _ (k : ℕ) (t : List ℕ) (h : declaration_width * k ≤ length t) (rows : List (List ℕ))
+    (e : rows ≡ first_chunks declaration_width (length (take (declaration_width * k) t) / declaration_width) (take (declaration_width * k) t)) where
+  rows-are : rows ≡ first_chunks declaration_width k t
+  rows-are =
+      let n : length (take (declaration_width * k) t) / declaration_width ≡ k = omega (arith, length-take-le (declaration_width * k) t h) in
+      e ∙ ap (λ m. first_chunks declaration_width m (take (declaration_width * k) t)) n ∙ rows-of k t
+
+  pub rows-counted : length rows ≡ k
+  rows-counted = ap length rows-are ∙ length-rows k t
+
+  pub rows-cut : Cut rows t
+  rows-cut = rows-are ∙ ap (λ m. first_chunks declaration_width m t) (sym rows-counted)
+
+module _ (t : List ℕ) where
+  -- has the numbers of the stream
+  cut-number : (k : ℕ) → k < declaration_width → get_or (take declaration_width t) k 0 ≡ get_or t k 0
+  cut-number k h = get_or-take declaration_width t k 0 h
+
+  -- and so asks for the same style
+  cut-own : own_row (take declaration_width t) ≡ own_row t
+  unfolding own_row own_numbers_at declared_value
+  cut-own = rw (cut-number 0 (omega arith), cut-number 1 (omega arith), cut-number 2 (omega arith), cut-number 3 (omega arith), cut-number 4 (omega arith)) refl
+
+  -- has the same values
+  cut-value : (k j v : ℕ) → has_value k j v (take declaration_width t) ≡ has_value k j v t
+  unfolding has_value
+  cut-value k j v = rw (cut-number 0 (omega arith), cut-number 3 (omega arith)) refl
+
+  -- so it sets a height to zero, and hides what overflows, where the stream's does
+  cut-zero : zero_row (take declaration_width t) ≡ zero_row t
+  unfolding zero_row
+  cut-zero = cut-value height_kind max_height_kind (flag true)
+
+  cut-hidden : hidden_row (take declaration_width t) ≡ hidden_row t
+  unfolding hidden_row
+  cut-hidden = cut-value overflow_kind overflow_yKind (overflow_number hidden)
 
 -- ---- turns of `styles_from_properties`: where the first zero height starts is noted, and whether an overflow is hidden
 module _ (rows : List ℕ) (count : ℕ) (styles₀ : List ℕ) where
@@ -233,7 +285,7 @@ module _ (rows : List ℕ) (count : ℕ) (styles₀ : List ℕ) where
         }
 
     -- when all declarations are passed, the styles are those of the rows, with the one that is added where it is asked for
-    module _ (h : count ≤ i) (room : StylesRoom rows count styles₀) where
+    module _ (h : count ≤ i) (room : style_width * (count + 1) ≤ length styles₀) where
       -- behind the last declaration none is left
       none_left : count - i ≡ 0
       none_left = omega arith
@@ -249,7 +301,7 @@ module _ (rows : List ℕ) (count : ℕ) (styles₀ : List ℕ) where
       -- a zero height was found and a hidden overflow: the style that is added is put behind the others
       pub styling-added : (s : ℕ) → noted ≡ Some s → overflow-hidden ≡ true → (x : StyleNumbers) → x ≡ added_style s → (styles₁ : List ℕ) (place₁ : ℕ)
           → record { bytes = styles₁; fill = place₁ } ≡ emits (record { bytes = styles; fill = place }) (row_of_numbers x)
-          → Styled rows count styles₀ styles₁ (place₁ / style_width)
+          → StylesLeft rows count styles₀ styles₁ (place₁ / style_width)
       unfolding style_numbers and
       styling-added s es eh x ex styles₁ place₁ e =
           let start : s ≡ first_zero_row count rows = sym (ap (λ o. unwrap_or o (first_zero_row (count - i) (behind i))) es) ∙ c.first in
@@ -258,9 +310,36 @@ module _ (rows : List ℕ) (count : ℕ) (styles₀ : List ℕ) where
           (then _ _ _ _ _ own-styled (e ∙ ap (λ (y : StyleNumbers). emits (record { bytes = styles; fill = place }) (row_of_numbers y)) (ex ∙ ap added_style start)) ∙ ap (λ l. emits (record { bytes = styles₀; fill = 0 }) (own_rows count rows ++ l)) (pick_true _ _ _ _ both refl))
 
       -- without both the rows are all styles
-      pub styling-done : and (is_some noted) overflow-hidden ≡ false → Styled rows count styles₀ styles (place / style_width)
+      pub styling-done : and (is_some noted) overflow-hidden ≡ false → StylesLeft rows count styles₀ styles (place / style_width)
       unfolding style_numbers
       styling-done b =
           styled rows count styles₀ styles place room
           (then _ _ _ _ _ own-styled (sym (emits_none _))
           ∙ ap (λ l. emits (record { bytes = styles₀; fill = 0 }) (own_rows count rows ++ l)) (pick-false _ _ _ _ (sym added ∙ b) refl))
+
+-- ---- the rows, by every stream that they are cut from
+module _ (rows : List (List ℕ)) (styles₀ : List ℕ) where
+  -- before the i-th row
+  pub record Turning (styles : List ℕ) (place : ℕ) (noted : Option ℕ) (overflow-hidden : Bool) (i : ℕ) : Type 0 where
+    pub by : (t : List ℕ) → Cut rows t → Styling t (length rows) styles₀ styles place noted overflow-hidden i
+
+  -- before the first one
+  pub turning-begin : Turning styles₀ 0 None false 0
+  turning-begin = record { by = λ t e. styling-begin t (length rows) styles₀ }
+
+  module _ (styles : List ℕ) (place : ℕ) (noted : Option ℕ) (overflow-hidden : Bool) (i : ℕ) (c : Turning styles place noted overflow-hidden i) where
+    -- a turn
+    pub turning-more : i < length rows → (row : List ℕ) → row ≡ get_or rows i [] → (styles₁ : List ℕ) (place₁ : ℕ)
+        → record { bytes = styles₁; fill = place₁ } ≡ emits (record { bytes = styles; fill = place }) (own_row row) → length styles₁ ≡ length styles
+        → (o z : Option ℕ) → o ≡ option_or noted z → z ≡ then_some (zero_row row) (get_or row declaration_start 0) → (y : Bool) → y ≡ hidden_row row
+        → Turning styles₁ place₁ o (overflow-hidden || y) (i + 1)
+    turning-more h row er styles₁ place₁ e k o z eo ez y ey = record { by = λ t q. turned t q }
+      where
+        turned : (t : List ℕ) → Cut rows t → Styling t (length rows) styles₀ styles₁ place₁ o (overflow-hidden || y) (i + 1)
+        turned t q =
+            let u = drop (i * declaration_width) t in
+            let w : row ≡ take declaration_width u = er ∙ ap (λ (l : List (List ℕ)). get_or l i []) q ∙ cut-row (length rows) i t h in
+            styling-more t (length rows) styles₀ styles place noted overflow-hidden i (c.by t q) h styles₁ place₁
+            (e ∙ ap (emits (record { bytes = styles; fill = place })) (ap own_row w ∙ cut-own u)) k o z eo
+            (ez ∙ ap (λ l. then_some (zero_row l) (get_or l declaration_start 0)) w ∙ rw (cut-zero u, cut-number u declaration_start (omega arith)) refl)
+            y (ey ∙ ap hidden_row w ∙ cut-hidden u)

@@ -1,5 +1,5 @@
 -- Of well-formed text, `trimmed_end` takes the characters of White_Space at the end: it is `str::trim_end`.
-use Prim.Native.Nat.{ℕ, ◌+◌, ◌/◌, ◌%◌, ◌≤◌}
+use Prim.Native.Nat.{ℕ, ◌+◌, ◌/◌, ◌≤◌}
 use mathlib.Core.Path.{◌≡◌, refl, sym, ap, ap₂, ◌∙◌}
 use mathlib.Core.Bool.{Bool, true, false}
 use mathlib.Core.List.{List, [], ◌∷◌, ◌++◌}
@@ -8,7 +8,7 @@ use lib.ListN.{length, length-append}
 use lib.Seq.{drop-append_seam}
 use Rattle.combinators.specs.Choice.{pick, and, is}
 use Rattle.combinators.specs.Repeat.{many}
-use Rattle.combinators.proofs.Rules.{pick_true, pick-false, pick-holds, at_most, above, and_both, and-gives, and-gives-false, and-true, is-no, is-from, within-yes}
+use Rattle.combinators.proofs.Rules.{pick_true, pick-false, pick-holds, at_most, and_both, and-gives, and-gives-false, and-true, is-no, is-from}
 use Rattle.combinators.proofs.Repeats.{many-took, many-stop, many-from}
 use Rattle.characters.specs.Trim.{white_taken}
 use Rattle.characters.specs.Utf8.{utf8, continuation, is_continuation, is_scalar, lead_of, scalar_of, encode, Scalars}
@@ -16,7 +16,7 @@ use Rattle.characters.specs.Utf8.Scalars.{none, more}
 use Rattle.characters.specs.WhiteSpace.{is_white_space}
 use Rattle.std.specs.Prelude.{None}
 use Rattle.characters.proofs.Scalars.{utf8-some, continuation-range}
-use Rattle.characters.proofs.RoundTrip.{read_back}
+use Rattle.characters.proofs.RoundTrip.{read_back, continues}
 use Rattle.characters.proofs.Reading.{at_none}
 use Rattle.characters.proofs.Trimming.{white-value, white-none}
 use Rattle.values.specs.Colour.{all_of}
@@ -71,8 +71,7 @@ no-character : (x : ℕ) (r : List ℕ) → is_continuation x ≡ true → None 
 unfolding lead_of
 no-character x r e =
     let c = continuation-range x e in
-    at_none (x ∷ r) (λ z. omega arith) x refl (record { long = 0; low = 0; high = 0 })
-    (above _ _ _ x 0x7f (omega arith) (at_most _ _ _ x 0xc1 (omega arith) refl)) refl
+    at_none (x ∷ r) (λ z. omega arith) x refl (omega arith) (at_most _ _ _ x 0xc1 (omega arith) refl)
 
 -- a continuation byte begins no White_Space
 continuation-first : (x : ℕ) (r : List ℕ) → is_continuation x ≡ true → all_white (x ∷ r) ≡ false
@@ -90,24 +89,19 @@ pass (c ∷ cs) t e =
 data Formed : List ℕ → Type 0 where
   formed : {b : ℕ} {cs : List ℕ} → all_of is_continuation cs ≡ true → Formed (b ∷ cs)
 
--- what `utf8` writes behind the first byte is one
-continuation-is : (v : ℕ) → is_continuation (continuation v) ≡ true
-unfolding is_continuation continuation
-continuation-is v = within-yes (0x80 + v % 64) 0x80 0xbf (omega arith) (omega arith)
-
 -- such are the bytes of a character
 utf8-formed : (v : ℕ) → Formed (utf8 v)
 unfolding utf8 all_of
 utf8-formed v =
     pick-holds Formed _ _ _ (λ _. formed refl)
     (λ _. pick-holds Formed _ _ _ (λ _. formed (one v))
-    (λ _. pick-holds Formed _ _ _ (λ _. formed (two (v / 64) v)) (λ _. formed (and_both _ _ (continuation-is (v / 4096)) (two (v / 64) v)))))
+    (λ _. pick-holds Formed _ _ _ (λ _. formed (two (v / 64) v)) (λ _. formed (and_both _ _ (continues (v / 4096)) (two (v / 64) v)))))
   where
     one : (a : ℕ) → all_of is_continuation (continuation a ∷ []) ≡ true
-    one a = and_both _ _ (continuation-is a) refl
+    one a = and_both _ _ (continues a) refl
 
     two : (a b : ℕ) → all_of is_continuation (continuation a ∷ continuation b ∷ []) ≡ true
-    two a b = and_both _ _ (continuation-is a) (one b)
+    two a b = and_both _ _ (continues a) (one b)
 
 -- the end of a text that begins with a character is before it or behind it
 end-behind : (l t : List ℕ) → Formed l → trimmed_end (l ++ t) ≡ pick (all_white (l ++ t)) [] (l ++ trimmed_end t)

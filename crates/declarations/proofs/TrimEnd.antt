@@ -10,15 +10,14 @@ use lib.Seq.{get_or-drop, take-take, take_all, length-take-le}
 use Rattle.combinators.specs.Ascii.{plus_sign, digit_zero, digit_nine, capital_a, capital_f, small_a, small_f}
 use Rattle.combinators.specs.Choice.{pick, or, and, is, within}
 use Rattle.combinators.specs.Repeat.{many}
+use Rattle.combinators.specs.All.{member}
 use Rattle.combinators.proofs.Rules.{never, pick_true, pick-false, pick-holds, either, or-none, and_both, and_left, and_right, and-true, is-no, is_true, within-past, lt-or-ge}
 use Rattle.combinators.proofs.Lists.{rest, front-two}
 use Rattle.combinators.proofs.Repeats.{many-stop}
 use Rattle.characters.specs.Trim.{white_taken, trimmed_start}
-use Rattle.characters.specs.Utf8.{scalar_of}
-use Rattle.characters.specs.WhiteSpace.{white_space, member, is_white_space}
-use Rattle.std.specs.Prelude.{Option, Some, None}
-use Rattle.characters.proofs.Scalars.{utf8-ascii, scalar-low}
-use Rattle.characters.proofs.RoundTrip.{read_back}
+use Rattle.characters.specs.WhiteSpace.{white_space, is_white_space}
+use Rattle.std.specs.Prelude.{Option, None}
+use Rattle.characters.proofs.RoundTrip.{ascii-read}
 use Rattle.characters.proofs.Trimming.{white-value}
 use Rattle.lexer.specs.Name.{is_hex_digit, hex_digit}
 use Rattle.values.specs.Words.{missing}
@@ -26,7 +25,8 @@ use Rattle.values.specs.Colour.{all_of, without_plus, digits_in, parse_hex}
 use Rattle.values.specs.ColourAnswer.{colour_answer}
 use Rattle.values.proofs.ColourLaws.{no-colour, bad-read, no_plus}
 use Rattle.declarations.specs.Attribute.{all_white, trimmed_end, trimmed, pairs, faulty_colour}
-use Rattle.declarations.proofs.PairLaws.{first-missing, second-missing, third-missing, short, long}
+use Rattle.std.specs.Array.{IsFirstChunk}
+use Rattle.declarations.proofs.PairLaws.{first-six, first-missing, second-missing, third-missing, short, long}
 
 -- ---- bytes that no pair has
 
@@ -81,10 +81,6 @@ table-unread = refl
 white-unread : (x : ℕ) → is_white_space x ≡ true → unread x ≡ true
 unfolding is_white_space
 white-unread x e = member-holds unread x white_space table-unread e
-
--- a byte of ASCII is read as itself
-ascii-read : (x : ℕ) (r : List ℕ) → x ≤ 0x7f → scalar_of (x ∷ r) ≡ Some (record { taken = 1; value = x })
-ascii-read x r h = rw (utf8-ascii x h) at (read_back x r (scalar-low x (omega arith)))
 
 -- a text that begins with White_Space begins with such a byte
 white-first : (x : ℕ) (r : List ℕ) → ¬ (white_taken (x ∷ r) ≡ 0) → unread x ≡ true
@@ -204,7 +200,7 @@ module _ (s : List ℕ) (n : ℕ) (e : n ≡ many white_taken 0 0 s) where
   pub trimmed-short : length (take (length s - n) (drop n s)) < 6 → None ≡ colour_answer (faulty_colour (trimmed s))
   trimmed-short h = no-colour _ (sym (short _ h) ∙ lent-trimmed)
 
-  -- where six bytes or more are left, the pairs are those of the text trimmed at both ends
-  pub trimmed-long : 6 ≤ length (take (length s - n) (drop n s)) → (r : Option ℕ) → r ≡ colour_answer (pairs (take (length s - n) (drop n s)))
+  -- where six bytes or more are left, the pairs of the first six are those of the text trimmed at both ends
+  pub trimmed-long : (ds : List ℕ) → IsFirstChunk (take (length s - n) (drop n s)) ds 6 → (r : Option ℕ) → r ≡ colour_answer (pairs ds)
       → r ≡ colour_answer (faulty_colour (trimmed s))
-  trimmed-long h r er = er ∙ ap colour_answer (sym (long _ h) ∙ lent-trimmed)
+  trimmed-long ds h r er = er ∙ ap colour_answer (ap pairs h.same ∙ first-six _ ∙ sym (long _ h.enough) ∙ lent-trimmed)

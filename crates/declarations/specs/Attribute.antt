@@ -3,10 +3,11 @@ use Rattle.std.specs.Prelude.{ℕ, Bool, List, [], ◌∷◌, ◌≡◌, refl, l
 use Rattle.combinators.specs.Choice.{pick, or, and, is, within}
 use Rattle.combinators.specs.Parsed.{on_parsed}
 use Rattle.combinators.specs.Repeat.{many, took}
+use Rattle.combinators.specs.All.{member}
 use Rattle.characters.specs.Literal.{text}
 use Rattle.characters.specs.Trim.{white_of, white_taken, trimmed_start}
 use Rattle.characters.specs.Utf8.{utf8, continuation, is_continuation, lead_of, two, three, scalar_tail, scalar_by, scalar_of}
-use Rattle.characters.specs.WhiteSpace.{is_white_space, member}
+use Rattle.characters.specs.WhiteSpace.{is_white_space}
 use Rattle.lexer.specs.Name.{is_hex_digit, hex_digit}
 use Rattle.syntax.specs.Declaration.{Colour}
 use Rattle.syntax.specs.Style.{StyleDecl}

@@ -3,8 +3,9 @@ use Rattle.std.specs.Prelude.{ℕ, ◌+◌, ◌^◌, ◌≤◌, ◌<◌, Bool, L
 use Rattle.combinators.specs.Choice.{pick}
 use Rattle.combinators.specs.Part.{part}
 use Rattle.syntax.specs.Declaration.{Decl, color, background_color, height, max_height, overflow, overflow_y, display, white_space, content, unknown}
-use Rattle.syntax.specs.Layout.{color_kind, background_color_kind, height_kind, max_height_kind, overflow_kind, overflow_yKind, display_kind, white_space_kind, content_kind, unknown_kind, flag}
+use Rattle.syntax.specs.Layout.{color_kind, background_color_kind, height_kind, max_height_kind, overflow_kind, overflow_yKind, display_kind, white_space_kind, content_kind, unknown_kind, flag, overflow_number, white_space_number}
 use Rattle.values.specs.DeclAnswer.{text_length}
+use Rattle.values.specs.KeywordAnswer.{overflow_meant, white_space_meant}
 use Rattle.values.specs.declared.properties.Decl as declared
 use Rattle.values.specs.declared.properties.Decl.TheVariants as code
 
@@ -76,10 +77,10 @@ row_value f (code.Color v) = v
 row_value f (code.BackgroundColor v) = v
 row_value f (code.Height z) = flag z
 row_value f (code.MaxHeight z) = flag z
-row_value f (code.Overflow v) = v
-row_value f (code.OverflowY v) = v
+row_value f (code.Overflow v) = overflow_number (overflow_meant v)
+row_value f (code.OverflowY v) = overflow_number (overflow_meant v)
 row_value f (code.Display z) = flag z
-row_value f (code.WhiteSpace v) = v
+row_value f (code.WhiteSpace v) = white_space_number (white_space_meant v)
 row_value f (code.Content n) = f
 row_value f (code.Unknown n) = f
 

@@ -27,7 +27,7 @@ use Rattle.declarations.specs.Rules.{property_of, declaration_of, Rules, more_ru
 use Rattle.declarations.specs.DeclRow.{named_decl, kept_text, row_by}
 use Rattle.declarations.specs.Attribute.{style_attribute, colour_attribute}
 use Rattle.declarations.specs.declared.attributes.StylesRead.{StylesRead}
-use Rattle.declarations.specs.declared.rules.Property.{Property}
+use Rattle.declarations.specs.declared.rules.PropertyHead.{PropertyHead}
 use Rattle.declarations.specs.declared.rules.NoProperty.{NoProperty}
 use Rattle.declarations.specs.declared.rules.DeclarationRead.{DeclarationRead}
 use Rattle.declarations.specs.declared.rules.RulesRead.{RulesRead}
@@ -97,7 +97,7 @@ leaves a ds u rules place tokens brackets store fill =
     }
 
 -- by `parse_property`
-unfoldable pub property_answer : List ℕ → Result Property NoProperty
+unfoldable pub property_answer : List ℕ → Result PropertyHead NoProperty
 property_answer s = on_parsed (property_of s) (λ v name. Ok (record { value = v; name = length name })) (Err (record { name = length (name_text (ident_of s)) }))
 
 -- by `parse_declaration`

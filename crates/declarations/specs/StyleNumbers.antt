@@ -1,8 +1,11 @@
 -- Styles of declarations on rows: from the rows of declarations to the rows of the styles that they ask for. Any numbers are rows.
-use Rattle.std.specs.Prelude.{ℕ, zero, suc, ◌+◌, ◌*◌, ◌/◌, ◌≤◌, Bool, true, false, Option, Some, None, List, [], ◌∷◌, ◌++◌, ◌≡◌, refl, length, get_or, drop}
+use Rattle.std.specs.Prelude.{ℕ, zero, suc, ◌+◌, ◌/◌, ◌≤◌, Bool, true, false, Option, Some, None, List, [], ◌∷◌, ◌++◌, ◌≡◌, refl, length, get_or, drop}
+use Rattle.std.specs.Simd.{first_chunks}
+use Rattle.std.proofs.lemmas.List.Edits.{sets}
 use Rattle.combinators.specs.Choice.{pick, or, and, is}
 use Rattle.syntax.specs.Declaration.{hidden}
-use Rattle.syntax.specs.Layout.{color_kind, background_color_kind, height_kind, max_height_kind, overflow_kind, overflow_yKind, display_kind, white_space_kind, content_kind, flag, flag_of, overflow_number, declaration_width, declaration_kind, declaration_important, declaration_start, declaration_value, declaration_second, colour_slot, background_slot, display_slot, white_space_slot, content_slot, style_width, value_numbers, row_of_numbers}
+use Rattle.syntax.specs.Layout.{color_kind, background_color_kind, height_kind, max_height_kind, overflow_kind, overflow_yKind, display_kind, white_space_kind, content_kind, flag, flag_of, overflow_number, declaration_width, declaration_kind, declaration_important, declaration_start, declaration_value, declaration_second, colour_slot, background_slot, display_slot, white_space_slot, content_slot, style_width, value_numbers, row_of_numbers, declarations_at, styles_at}
+use Rattle.declarations.specs.Styles.{styles_of}
 use Rattle.syntax.specs.declared.styles.Value.{Value}
 use Rattle.syntax.specs.declared.styles.StyleNumbers.{StyleNumbers}
 
@@ -97,7 +100,13 @@ case-three : style_numbers declared 3 ≡ colour_slot ∷ 1 ∷ 0xff0000 ∷ 0 �
 unfolding declared style_numbers own_rows any_row first_zero_row own_row row_of_own own_numbers_at declared_value own_numbers row_of_numbers value_numbers zero_row hidden_row has_value overflow_number flag flag_of pick or and is
 case-three = refl
 
--- what `styles_from_properties` asks for: the rows that it reads, and a row for each declaration and one more
-pub record StylesRoom (rows : List ℕ) (count : ℕ) (styles : List ℕ) : Type 0 where
-  pub for-declarations : declaration_width * count ≤ length rows
-  pub for-styles : style_width * (count + 1) ≤ length styles
+-- rows that are cut from the start of a stream
+abbrev pub Cut : List (List ℕ) → List ℕ → Type 0
+Cut rows t = rows ≡ first_chunks declaration_width (length rows) t
+
+-- the styles of n declarations at the start of a stream, left in a store from 0 on: r of them, which read back as what is meant
+pub record StylesLeft (t : List ℕ) (n : ℕ) (styles styles' : List ℕ) (r : ℕ) : Type 0 where
+  pub stored : styles' ≡ sets styles 0 (style_numbers t n)
+  pub counted : r ≡ style_count t n
+  pub meant : (store : List ℕ) → styles_at styles' store r ≡ styles_of (declarations_at t store n)
+  pub few : r ≤ n + 1

@@ -1,22 +1,21 @@
 // Attributes: `parse_style_attribute` and `parse_color_attribute`, and the colour of a text that lacks its '#'. Each asks for the room of its own
 // text; `fill` stands beside the stores, whose texts alone are written behind others.
-ghost use Rattle.std.specs.Prelude.{◌≡◌, ◌≤◌, length};
+ghost use Rattle.std.specs.Prelude.{◌≡◌, length};
 ghost use Rattle.combinators.specs.Lent.{SameStores};
 ghost use Rattle.values.specs.Layout.{Room};
 ghost use Rattle.values.specs.ColourAnswer.{colour_answer};
 ghost use Rattle.declarations.specs.Attribute.{pairs, faulty_colour, trimmed};
 ghost use Rattle.declarations.specs.Leaving.{leaving, colour_left, style_left, StyleRoom};
 
-use crate::rules::{parse_rules, unmarked, wipe_work};
+use crate::rules::{parse_rules, wipe_statement};
 use crate::styles::styles_from_properties;
 use characters::trim::trim_start;
 use combinators::lent::Stores;
 use combinators::stores::fill_part;
 use syntax::rows::DECLARATION_WIDTH;
 use values::colour_values::parse_color;
-use values::colours::{MAXIMUM_BYTE, colour_number, parse_hex};
-use values::statements::{Unbalanced, Value, parse_value};
-use values::tokens::Tokens;
+use values::colours::{colour_number, parse_hex_u8};
+use values::statements::{Unbalanced, parse_value};
 
 // The count of styles, and the bytes of text that they keep.
 #[derive(Clone, Copy)]
@@ -25,24 +24,21 @@ pub struct StylesRead {
     pub text: usize,
 }
 
-// Where the pairs of hex digits start, and where the last ends.
-const RED: usize = 0;
-
+// Where the pairs of hex digits for green and for blue start, and where the last ends.
 const GREEN: usize = 2;
 
 const BLUE: usize = 4;
 
 const PAIRS_END: usize = 6;
 
-// The colour of three pairs of hex digits at the start of `s`. A '+' may stand in place of the first of a pair.
-fn pair_colour(s: &[u8]) -> Option<u32>
-    requires { 6 ≤ length s.now }
-    ensures { result ≡ colour_answer (pairs s.now) }
+// The colour of three pairs of hex digits. A '+' may stand in place of the first of a pair.
+fn pair_colour(digits: &[u8; PAIRS_END]) -> Option<u32>
+    ensures { result ≡ colour_answer (pairs digits.now) }
 {
-    let red = parse_hex(&s[RED..GREEN], MAXIMUM_BYTE)?;
-    let green = parse_hex(&s[GREEN..BLUE], MAXIMUM_BYTE)?;
-    let blue = parse_hex(&s[BLUE..PAIRS_END], MAXIMUM_BYTE)?;
-    Some(colour_number(red as u8, green as u8, blue as u8))
+    let red = parse_hex_u8(&digits[..GREEN])?;
+    let green = parse_hex_u8(&digits[GREEN..BLUE])?;
+    let blue = parse_hex_u8(&digits[BLUE..])?;
+    Some(colour_number(red, green, blue))
 }
 
 // `parse_faulty_color`: the pairs at the start of the text, behind White_Space. At the end of the text White_Space may stay: where
@@ -50,12 +46,7 @@ fn pair_colour(s: &[u8]) -> Option<u32>
 pub fn parse_faulty_color(s: &[u8]) -> Option<u32>
     ensures { result ≡ colour_answer (faulty_colour (trimmed s.now)) }
 {
-    let t = &s[trim_start(s)..];
-    if t.len() < PAIRS_END {
-        None
-    } else {
-        pair_colour(t)
-    }
+    pair_colour(s[trim_start(s)..].first_chunk()?)
 }
 
 // The colour of an attribute `color` or `bgcolor`. What was used of the stores is zero again.
@@ -67,28 +58,15 @@ pub fn parse_color_attribute(s: &[u8], stores: &mut Stores<'_>, fill: usize) -> 
         ≡ colour_left s.now stores.old.tokens.now stores.old.brackets.now stores.old.texts.now fill }
 {
     match parse_value(s, stores, fill) {
-        Err(Unbalanced { count, text, .. }) => {
-            wipe_work(stores.tokens, stores.brackets, count);
-            fill_part(stores.texts, fill, text, 0);
+        Err(Unbalanced(statement)) => {
+            wipe_statement(stores, statement, fill);
             None
         }
-        Ok(
-            Value {
-                count,
-                text,
-                important,
-                ..
-            },
-        ) => {
-            let rows = &mut *stores.tokens;
+        Ok(value) => {
+            let tokens = &mut *stores.tokens;
             let texts = &mut *stores.texts;
-            let colour = parse_color(Tokens {
-                rows,
-                count: unmarked(count, important),
-                store: texts,
-            });
-            wipe_work(stores.tokens, stores.brackets, count);
-            fill_part(stores.texts, fill, text, 0);
+            let colour = parse_color(value.tokens(tokens, texts));
+            wipe_statement(stores, value.statement, fill);
             colour.or_else(|| parse_faulty_color(s))
         }
     }
@@ -105,8 +83,10 @@ pub fn parse_style_attribute(s: &[u8], stores: &mut Stores<'_>, fill: usize) -> 
     let read = parse_rules(s, false, 0, stores, 0, fill);
     let rules = &mut *stores.rules;
     let tokens = &mut *stores.tokens;
-    let count = styles_from_properties(rules, read.count, tokens);
-    fill_part(rules, 0, DECLARATION_WIDTH * read.count, 0);
+    let numbers = DECLARATION_WIDTH * read.count;
+    let (rows, _) = rules[..numbers].as_chunks();
+    let count = styles_from_properties(rows, tokens);
+    fill_part(rules, 0, numbers, 0);
     StylesRead {
         count,
         text: read.text,

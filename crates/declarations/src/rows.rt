@@ -6,7 +6,7 @@ ghost use Rattle.syntax.specs.Layout.{flag};
 ghost use Rattle.declarations.specs.DeclRow.{named_by, shift, kept_text, Keeping, kind_of, row_value, row_by, Narrow};
 
 use crate::texts::move_down;
-use combinators::stores::{emit, fill_part};
+use combinators::stores::{emit_all, fill_part};
 use syntax::rows::{
     BACKGROUND_COLOR, COLOR, CONTENT, DISPLAY, HEIGHT, MAX_HEIGHT, OVERFLOW, OVERFLOW_Y, UNKNOWN,
     WHITE_SPACE, flag_of,
@@ -74,11 +74,9 @@ fn value_of(decl: Decl, fill: usize) -> u32
     ensures { result ≡ row_value fill decl }
 {
     match decl {
-        Decl::Color(number)
-        | Decl::BackgroundColor(number)
-        | Decl::Overflow(number)
-        | Decl::OverflowY(number)
-        | Decl::WhiteSpace(number) => number,
+        Decl::Color(number) | Decl::BackgroundColor(number) => number,
+        Decl::Overflow(overflow) | Decl::OverflowY(overflow) => u32::from(overflow),
+        Decl::WhiteSpace(white_space) => u32::from(white_space),
         Decl::Height(zero) | Decl::MaxHeight(zero) => flag_of(zero),
         Decl::Display(none) => flag_of(none),
         Decl::Content(_) | Decl::Unknown(_) => fill as u32,
@@ -97,9 +95,15 @@ pub fn put_declaration(
     requires { Narrow decl start fill }
     ensures { rules.new ≡ sets rules.old place (row_by (flag important) start fill decl) }
 {
-    let after_kind = emit(kind_of(decl), rules, place);
-    let after_mark = emit(flag_of(important), rules, after_kind);
-    let after_start = emit(start as u32, rules, after_mark);
-    let after_value = emit(value_of(decl, fill), rules, after_start);
-    emit(decl.text_length() as u32, rules, after_value);
+    emit_all(
+        &[
+            kind_of(decl),
+            flag_of(important),
+            start as u32,
+            value_of(decl, fill),
+            decl.text_length() as u32,
+        ],
+        rules,
+        place,
+    );
 }

@@ -1,14 +1,15 @@
 // Declarations: `parse_declaration` and `parse_rules`. Each writes the rows of what it read to the stores' rules from `place` on and its texts to
 // their texts from `fill` on; tokens, brackets and the rest of what was used of the texts are zero again.
-// `place` and `fill` stand beside the stores, and the room from them on is asked of each reader: each hands on other ones. Who writes texts alone
-// is lent the texts.
-ghost use Rattle.std.specs.Prelude.{◌≡◌, ◌+◌, ◌-◌, ◌*◌, ◌^◌, ◌<◌, length};
+// `place` and `fill` stand beside the stores, and the room from them on is asked of each reader: each hands on other ones. `names`, whether the
+// names of unknown declarations are kept, goes through all of them unchanged: a struct around this one word would be no plainer. `s` starts at the
+// byte `at` of the text: both go on together, and each reader hands on another part. Who writes texts alone is lent the texts.
+ghost use Rattle.std.specs.Prelude.{◌≡◌, ◌+◌, ◌*◌, ◌^◌, ◌<◌, length};
 ghost use Rattle.std.proofs.lemmas.List.Edits.{sets};
-ghost use Rattle.combinators.specs.Choice.{pick};
 ghost use Rattle.combinators.specs.Lent.{SameStores, SameWork, of_stores, OfStores};
 ghost use Rattle.combinators.specs.Store.{wiped};
 ghost use Rattle.lexer.specs.Name.{ident_of, name_text};
 ghost use Rattle.lexer.specs.TokenRow.{token_width};
+ghost use Rattle.values.specs.Layout.{unmarked};
 ghost use Rattle.declarations.specs.Leaving.{property_answer, PutRoom, Put, PropertyRead, RulesRoom, MoreRoom, MoreRead, leaving, declaration_left, more_left, rules_left};
 
 use crate::rows::{keep_text, named, put_declaration};
@@ -21,12 +22,11 @@ use lexer::rows::TOKEN_WIDTH;
 use lexer::whitespace::{skip_from, skip_optional_whitespace};
 use syntax::rows::DECLARATION_WIDTH;
 use values::properties::decl_of;
-use values::statements::{Unbalanced, Value, parse_value};
-use values::tokens::Tokens;
+use values::statements::{Statement, Unbalanced, Value, parse_value};
 
 // Where the value of a property starts, and the length of its name.
 #[derive(Clone, Copy)]
-pub struct Property {
+pub struct PropertyHead {
     pub value: usize,
     pub name: usize,
 }
@@ -44,7 +44,8 @@ pub struct DeclarationRead {
     pub text: usize,
 }
 
-// The first byte not read, the count of declarations, and the bytes of text that they keep.
+// The first byte not read, the count of declarations, and the bytes of text that they keep. A statement's fields again: here declarations are
+// counted, there tokens.
 #[derive(Clone, Copy)]
 pub struct RulesRead {
     pub taken: usize,
@@ -53,7 +54,7 @@ pub struct RulesRead {
 }
 
 // Reads a property's name and all up to its value; the name goes to the store from `fill` on.
-fn parse_property(s: &[u8], store: &mut [u8], fill: usize) -> Result<Property, NoProperty>
+fn parse_property(s: &[u8], store: &mut [u8], fill: usize) -> Result<PropertyHead, NoProperty>
     ensures value { result ≡ property_answer s.now }
     ensures store_after { store.new ≡ sets store.old fill (name_text (ident_of s.now)) }
 {
@@ -62,7 +63,7 @@ fn parse_property(s: &[u8], store: &mut [u8], fill: usize) -> Result<Property, N
     };
     let colon = skip_from(s, name.taken);
     if byte_is(s, colon, b':') {
-        Ok(Property {
+        Ok(PropertyHead {
             value: skip_from(s, colon + 1),
             name: name.length,
         })
@@ -71,58 +72,55 @@ fn parse_property(s: &[u8], store: &mut [u8], fill: usize) -> Result<Property, N
     }
 }
 
-// The tokens of a value, without the mark `!important`.
-#[tactic(auto, unfolding(combinators::specs::Choice::pick))]
-pub fn unmarked(count: usize, important: bool) -> usize
-    ensures { result ≡ pick important (count - 2) count }
-{
-    if important {
-        count.saturating_sub(2)
-    } else {
-        count
-    }
-}
-
-// Zeros over the rows of `count` tokens, which lie at the start of a lent store, and over as many brackets.
-pub fn wipe_work(tokens: &mut [u32], brackets: &mut [u8], count: usize)
+// Zeros over the rows of `count` tokens, which lie at the start of their store, and over as many brackets.
+fn wipe_work(stores: &mut Stores<'_>, count: usize)
     requires { token_width * count < 2 ^ 64 }
-    ensures tokens_after { tokens.new ≡ wiped 0 (token_width * count) tokens.old }
-    ensures brackets_after { brackets.new ≡ wiped 0 count brackets.old }
+    ensures same { SameStores stores.old stores.new }
+    ensures rules_unchanged { stores.new.rules.now ≡ stores.old.rules.now }
+    ensures tokens_after { stores.new.tokens.now ≡ wiped 0 (token_width * count) stores.old.tokens.now }
+    ensures brackets_after { stores.new.brackets.now ≡ wiped 0 count stores.old.brackets.now }
+    ensures texts_unchanged { stores.new.texts.now ≡ stores.old.texts.now }
 {
-    fill_part(tokens, 0, TOKEN_WIDTH * count, 0);
-    fill_part(brackets, 0, count, 0);
+    fill_part(stores.tokens, 0, TOKEN_WIDTH * count, 0);
+    fill_part(stores.brackets, 0, count, 0);
 }
 
-// Puts down the declaration whose name of `length` bytes lies at `fill`, before the `text` bytes of the tokens of its value; the bytes of
-// text that it keeps.
+// Zeros over all that a statement was read into: its rows and brackets, and its texts from `fill` on.
+pub fn wipe_statement(stores: &mut Stores<'_>, statement: Statement, fill: usize)
+    requires { token_width * statement.count < 2 ^ 64 }
+    ensures same { SameStores stores.old stores.new }
+    ensures rules_unchanged { stores.new.rules.now ≡ stores.old.rules.now }
+    ensures tokens_after { stores.new.tokens.now ≡ wiped 0 (token_width * statement.count) stores.old.tokens.now }
+    ensures brackets_after { stores.new.brackets.now ≡ wiped 0 statement.count stores.old.brackets.now }
+    ensures texts_after { stores.new.texts.now ≡ wiped fill statement.text stores.old.texts.now }
+{
+    wipe_work(stores, statement.count);
+    fill_part(stores.texts, fill, statement.text, 0);
+}
+
+// Puts down the declaration whose name of `length` bytes lies at `fill`, before the texts of the tokens of its value; the bytes of text that it
+// keeps.
 fn put_declared(
+    value: Value,
     names: bool,
-    important: bool,
     start: usize,
-    count: usize,
     stores: &mut Stores<'_>,
     place: usize,
     fill: usize,
     length: usize,
-    text: usize,
 ) -> usize
-    requires { PutRoom start stores.old.tokens.now count stores.old.texts.now fill length text }
+    requires { PutRoom start stores.old.tokens.now (unmarked value) stores.old.texts.now fill length value.statement.text }
     ensures same { SameStores stores.old stores.new }
-    ensures put { Put names important start stores.old.tokens.now count stores.old.rules.now place stores.old.texts.now fill length text result stores.new.rules.now stores.new.texts.now }
+    ensures put { Put names value.important start stores.old.tokens.now (unmarked value) stores.old.rules.now place stores.old.texts.now fill length value.statement.text result stores.new.rules.now stores.new.texts.now }
     ensures work_unchanged { SameWork stores.old stores.new }
 {
     // taken into variables first: no loan of one field is covered where another is read
     let tokens = &mut *stores.tokens;
     let texts = &mut *stores.texts;
-    let value = Tokens {
-        rows: tokens,
-        count,
-        store: texts,
-    };
-    let read = decl_of(part_of(texts, fill, length), value);
+    let read = decl_of(part_of(texts, fill, length), value.tokens(tokens, texts));
     let decl = named(read, names);
-    keep_text(decl, texts, fill, length, text);
-    put_declaration(decl, important, start, fill, stores.rules, place);
+    keep_text(decl, texts, fill, length, value.statement.text);
+    put_declaration(decl, value.important, start, fill, stores.rules, place);
     decl.text_length()
 }
 
@@ -130,7 +128,7 @@ fn put_declared(
 // first byte that is no white space.
 fn parse_declared(
     s: &[u8],
-    property: Property,
+    property: PropertyHead,
     names: bool,
     at: usize,
     stores: &mut Stores<'_>,
@@ -143,35 +141,18 @@ fn parse_declared(
     ensures stores_after { leaving result stores.new ≡ of_stores (declaration_left names at s.now) stores.old place fill }
 {
     match parse_value(&s[property.value..], stores, fill + property.name) {
-        Err(Unbalanced { count, text, .. }) => {
-            wipe_work(stores.tokens, stores.brackets, count);
+        Err(Unbalanced(Statement { count, text, .. })) => {
+            wipe_work(stores, count);
             fill_part(stores.texts, fill, property.name + text, 0);
             None
         }
-        Ok(
-            Value {
-                taken,
-                count,
-                text,
-                important,
-            },
-        ) => {
+        Ok(value) => {
             let start = at + skip_optional_whitespace(s);
-            let kept = put_declared(
-                names,
-                important,
-                start,
-                unmarked(count, important),
-                stores,
-                place,
-                fill,
-                property.name,
-                text,
-            );
-            wipe_work(stores.tokens, stores.brackets, count);
+            let text = put_declared(value, names, start, stores, place, fill, property.name);
+            wipe_work(stores, value.statement.count);
             Some(DeclarationRead {
-                taken: property.value + taken,
-                text: kept,
+                taken: property.value + value.statement.taken,
+                text,
             })
         }
     }
@@ -222,7 +203,7 @@ fn more_rules(
         let w = skip_from(s, taken + 1);
         let row = place + DECLARATION_WIDTH * count;
         let Some(read) = parse_declaration(&s[w..], names, at + w, stores, row, fill + text) else {
-            return RulesRead { taken, count, text };
+            break;
         };
         taken = w + read.taken;
         count += 1;

@@ -1,34 +1,40 @@
-// Styles of declarations, from declaration rows to style rows.
-ghost use Rattle.std.specs.Prelude.{◌≡◌, List, ℕ, ◌+◌, ◌≤◌, get_or, drop};
-ghost use Rattle.std.proofs.lemmas.List.Edits.{sets};
+// Styles of declarations, from declaration rows to style rows. The readers of a row that other crates call are told its place, 0 where the row is
+// cut already: lent rows are also walked by counts that stand in them and may end before, so that a place may lie behind the end, where all numbers
+// are 0.
+ghost use Rattle.std.specs.Prelude.{◌≡◌, List, ℕ, ◌+◌, ◌*◌, ◌≤◌, length, get_or, drop};
 ghost use Rattle.std.specs.Bool.{then_some};
 ghost use Rattle.combinators.specs.Store.{emits};
-ghost use Rattle.syntax.specs.Layout.{declaration_start, declarations_at, row_of_numbers, styles_at};
-ghost use Rattle.declarations.specs.Styles.{styles_of};
-ghost use Rattle.declarations.specs.StyleNumbers.{added_style, style_for, own_numbers, own_numbers_at, own_row, has_value, zero_row, hidden_row, style_numbers, style_count, StylesRoom};
+ghost use Rattle.syntax.specs.Layout.{declaration_start, row_of_numbers, style_width};
+ghost use Rattle.declarations.specs.StyleNumbers.{no_value, added_style, style_for, own_numbers, own_numbers_at, own_row, has_value, zero_row, hidden_row, Cut, StylesLeft};
 
-use combinators::stores::{emit, number_at};
+use combinators::stores::{emit_all, number_at};
 use syntax::rows::{
     BACKGROUND_COLOR, BACKGROUND_SLOT, COLOR, COLOUR_SLOT, CONTENT, CONTENT_SLOT,
     DECLARATION_IMPORTANT, DECLARATION_KIND, DECLARATION_SECOND, DECLARATION_START,
     DECLARATION_VALUE, DECLARATION_WIDTH, DISPLAY, DISPLAY_SLOT, FLAG_TRUE, HEIGHT, MAX_HEIGHT,
-    OVERFLOW, OVERFLOW_HIDDEN, OVERFLOW_Y, STYLE_WIDTH, WHITE_SPACE, WHITE_SPACE_SLOT, flag_of,
+    OVERFLOW, OVERFLOW_HIDDEN, OVERFLOW_Y, STYLE_WIDTH, WHITE_SPACE, WHITE_SPACE_SLOT,
 };
 use syntax::styles::{StyleNumbers, Value};
+
+// What `display: none` gives its slot: where it starts, and no numbers.
+fn no_value(start: u32) -> Value
+    ensures { result ≡ no_value start }
+{
+    Value {
+        number: 0,
+        second: 0,
+        start,
+    }
+}
 
 // The `display: none` that zero height with hidden overflow adds. It is never important.
 fn added_style(start: u32) -> StyleNumbers
     ensures { result ≡ added_style start }
 {
-    let value = Value {
-        number: 0,
-        second: 0,
-        start,
-    };
     StyleNumbers {
         slot: DISPLAY_SLOT,
         important: false,
-        value,
+        value: no_value(start),
     }
 }
 
@@ -50,16 +56,8 @@ fn own_style(kind: u32, important: bool, value: Value) -> Option<StyleNumbers>
     match kind {
         COLOR => style_for(COLOUR_SLOT, important, value),
         BACKGROUND_COLOR => style_for(BACKGROUND_SLOT, important, value),
-        DISPLAY => {
-            if value.number != FLAG_TRUE {
-                return None;
-            }
-            let none = Value {
-                number: 0,
-                second: 0,
-                start: value.start,
-            };
-            style_for(DISPLAY_SLOT, important, none)
+        DISPLAY if value.number == FLAG_TRUE => {
+            style_for(DISPLAY_SLOT, important, no_value(value.start))
         }
         WHITE_SPACE => style_for(WHITE_SPACE_SLOT, important, value),
         CONTENT => style_for(CONTENT_SLOT, important, value),
@@ -88,19 +86,15 @@ fn put_style(style: StyleNumbers, styles: &mut [u32], place: usize) -> usize
     ensures { record { bytes = styles.new; fill = result }
         ≡ emits (record { bytes = styles.old; fill = place }) (row_of_numbers style) }
 {
-    let after_slot = emit(style.slot, styles, place);
-    let after_important = emit(flag_of(style.important), styles, after_slot);
-    let after_number = emit(style.value.number, styles, after_important);
-    let after_second = emit(style.value.second, styles, after_number);
-    emit(style.value.start, styles, after_second)
+    emit_all(&style.row(), styles, place)
 }
 
-// Writes the row of the style that the declaration asks for whose row starts at `at`, if it asks for one; the place behind it.
-fn put_own_style(rows: &[u32], at: usize, styles: &mut [u32], place: usize) -> usize
+// Writes the row of the style that the declaration of a row asks for, if it asks for one; the place behind it.
+fn put_own_style(row: &[u32], styles: &mut [u32], place: usize) -> usize
     ensures { record { bytes = styles.new; fill = result }
-        ≡ emits (record { bytes = styles.old; fill = place }) (own_row (drop at rows.now)) }
+        ≡ emits (record { bytes = styles.old; fill = place }) (own_row row.now) }
 {
-    match own_style_at(rows, at) {
+    match own_style_at(row, 0) {
         Some(style) => put_style(style, styles, place),
         None => place,
     }
@@ -123,11 +117,11 @@ pub fn is_zero_height(rows: &[u32], at: usize) -> bool
     has_value(rows, at, HEIGHT, MAX_HEIGHT, FLAG_TRUE)
 }
 
-// Where it starts, if it sets a height to zero.
-fn zero_height_start(rows: &[u32], at: usize) -> Option<u32>
-    ensures { result ≡ then_some (zero_row (drop at rows.now)) (get_or (drop at rows.now) declaration_start 0) }
+// Where the declaration of a row starts, if it sets a height to zero.
+fn zero_height_start(row: &[u32]) -> Option<u32>
+    ensures { result ≡ then_some (zero_row row.now) (get_or row.now declaration_start 0) }
 {
-    is_zero_height(rows, at).then_some(number_at(rows, at, DECLARATION_START))
+    is_zero_height(row, 0).then_some(number_at(row, 0, DECLARATION_START))
 }
 
 // Whether it hides what overflows.
@@ -138,23 +132,19 @@ pub fn hides_overflow(rows: &[u32], at: usize) -> bool
     has_value(rows, at, OVERFLOW, OVERFLOW_Y, OVERFLOW_HIDDEN)
 }
 
-// Writes the rows of the styles that the first `count` declarations of `rows`, a lent store, ask for to `styles` from 0 on; how many there are. A zero
-// height and a hidden overflow among them add `display: none`, which is never important and starts where the first zero height does.
-pub fn styles_from_properties(rows: &[u32], count: usize, styles: &mut [u32]) -> usize
-    requires { StylesRoom rows.now count styles.old }
-    ensures styles_after { styles.new ≡ sets styles.old 0 (style_numbers rows.now count) }
-    ensures value { result ≡ style_count rows.now count }
-    ensures by_index { (store : List ℕ) → styles_at styles.new store result ≡ styles_of (declarations_at rows.now store count) }
-    ensures upper_bound { result ≤ count + 1 }
+// Writes the rows of the styles that the declarations of `rows` ask for to `styles` from 0 on; how many there are. A zero height and a hidden overflow
+// among them add `display: none`, which is never important and starts where the first zero height does.
+pub fn styles_from_properties(rows: &[[u32; DECLARATION_WIDTH]], styles: &mut [u32]) -> usize
+    requires { style_width * (length rows.now + 1) ≤ length styles.old }
+    ensures { (numbers : List ℕ) → Cut rows.now numbers → StylesLeft numbers (length rows.now) styles.old styles.new result }
 {
     let mut place = 0;
     let mut zero_start = None;
     let mut overflow_hidden = false;
-    for i in 0..count {
-        let at = i * DECLARATION_WIDTH;
-        place = put_own_style(rows, at, styles, place);
-        zero_start = zero_start.or(zero_height_start(rows, at));
-        overflow_hidden |= hides_overflow(rows, at);
+    for row in rows {
+        place = put_own_style(row, styles, place);
+        zero_start = zero_start.or(zero_height_start(row));
+        overflow_hidden |= hides_overflow(row, 0);
     }
     match zero_start {
         Some(start) if overflow_hidden => {

@@ -2,13 +2,13 @@
 use Prim.Native.Nat.{ℕ}
 use mathlib.Core.Bool.{Bool, true, false, not}
 use mathlib.Core.Path.{◌≡◌, refl, sym, ap, ◌∙◌}
-use Rattle.combinators.specs.Refusal.{refused_in, refused_at}
+use Rattle.combinators.specs.Refusal.{refused_in, refused_at, Refuses}
 use Rattle.combinators.specs.declared.refusals.Refusal.{Refusal}
 use Rattle.sheets.specs.SheetAnswer as sheets
 use Rattle.sheets.specs.SheetAnswer.{numbers_of}
 use Rattle.std.proofs.Common.{Option, Some, None, Result, Ok, Err}
 use Rattle.sheets.specs.declared.answers.SheetNumbers.{SheetNumbers}
-use Rattle.sheets.specs.declared.sheet.Sheet.{Sheet}
+use Rattle.selectors.specs.declared.readings.Read.{Read}
 use Rattle.sheets.specs.declared.sheet.SheetError.{SheetError}
 use Rattle.sheets.specs.declared.sheet.SheetError.TheVariants as sheet
 use Rattle.lengths.specs.HeightLength as lengths
@@ -33,7 +33,7 @@ one-text : (r : Refusal) → r.text ≡ 0 → refused_at r.number r.place ≡ r
 one-text r e = ap (λ (n : ℕ). refused_in r.number n r.place) (sym e)
 
 -- the refusals of a sheet have the text 0
-sheet-text : (a : Result Sheet SheetError) → (numbers_of a).refusal.text ≡ 0
+sheet-text : (a : Result Read SheetError) → (numbers_of a).refusal.text ≡ 0
 unfolding numbers_of sheets.refusal_of
 sheet-text (Ok sheet) = refl
 sheet-text (Err sheet.TooLong) = refl
@@ -61,7 +61,7 @@ page-text (Err (page.BadText row)) = refl
 
 -- ---- the numbers of a sheet, without the text
 -- the numbers of a sheet, with the refusal made of its number and place, are those of the answer
-pub sheet-numbers : (a : Result Sheet SheetError) {n : SheetNumbers} → n ≡ numbers_of a
+pub sheet-numbers : (a : Result Read SheetError) {n : SheetNumbers} → n ≡ numbers_of a
     → ◌≡◌ {A = SheetNumbers}
     (record { refusal = refused_at n.refusal.number n.refusal.place; count = n.count; stop = n.stop; numbers = n.numbers; bytes = n.bytes }) (numbers_of a)
 sheet-numbers a {n} e =
@@ -75,6 +75,12 @@ pub length-numbers : (a : Result (Option Length) LengthError) {n : LengthNumbers
 length-numbers a {n} e =
     let t : n.refusal.text ≡ 0 = ap (λ (m : LengthNumbers). m.refusal.text) e ∙ length-text a in
     ap (λ (r : Refusal). record { refusal = r; kind = n.kind; amount = n.amount }) (one-text n.refusal t) ∙ e
+
+-- a refusal that an answer stands for is the page's
+pub page-told : (a : Result Unit PageError) {r : Refusal} → Refuses (λ e told. told ≡ error_refusal e) a r → r ≡ refusal_of a
+unfolding Refuses refusal_of
+page-told (Ok accepted) h = h
+page-told (Err error) h = h
 
 -- the refusal of a page, made of its number and place, is that of the answer
 pub page-refused : (a : Result Unit PageError) {r : Refusal} → r ≡ refusal_of a → refused_at r.number r.place ≡ refusal_of a

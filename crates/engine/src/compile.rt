@@ -4,7 +4,7 @@ ghost use Rattle.compiler.specs.CompileAnswer.{numbers_of, compile_of};
 ghost use Rattle.engine.specs.Compile.{numbers_in};
 
 use combinators::lent::{SheetTexts, Stores};
-use compiler::answers::{CompileNumbers, numbers_of};
+use compiler::answers::CompileNumbers;
 use compiler::compile::{CompileError, Compiled, compile};
 
 // The refusal's number, text and place; of sheets that were compiled how many bytes they take, and those of the texts that their rules name. What does
@@ -22,12 +22,13 @@ pub struct CompileResult {
 impl From<Result<Compiled, CompileError>> for CompileResult {
     ghost from_gives = { λ answer told. numbers_in told ≡ numbers_of answer };
 
+    #[tactic(auto, unfolding(crate::specs::Compile::numbers_in))]
     fn from(answer: Result<Compiled, CompileError>) -> CompileResult {
         let CompileNumbers {
             refusal,
             bytes,
             texts,
-        } = numbers_of(answer);
+        } = CompileNumbers::from(answer);
         CompileResult {
             refusal: refusal.number,
             text: refusal.text,

@@ -4,7 +4,7 @@ ghost use Rattle.lengths.specs.HeightLength.{numbers_of, height_length};
 ghost use Rattle.engine.specs.Length.{numbers_in};
 
 use combinators::lent::Stores;
-use lengths::answers::{Length, LengthError, LengthNumbers, numbers_of};
+use lengths::answers::{Length, LengthError, LengthNumbers};
 use lengths::height::height_length;
 
 // The refusal's number and place; of a length what it counts, and how much of it. What does not apply is 0.
@@ -26,7 +26,7 @@ impl From<Result<Option<Length>, LengthError>> for LengthResult {
             refusal,
             kind,
             amount,
-        } = numbers_of(answer);
+        } = LengthNumbers::from(answer);
         LengthResult {
             refusal: refusal.number,
             place: refusal.place,

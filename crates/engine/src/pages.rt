@@ -3,10 +3,12 @@ ghost use Rattle.std.specs.Prelude.{◌≡◌};
 ghost use Rattle.page.specs.Accepted.{refusal_of, page_refusal};
 ghost use Rattle.engine.specs.Page.{refusal_in};
 
-use page::check::{PageError, check_page, refusal_of};
+use combinators::refusals::refusal_of;
+use page::check::{PageError, check_page};
 use page::lent::Page;
 
-// The refusal's number, and the first row that is refused. Numbers, for C has no `Result`.
+// The refusal's number, and the first row that is refused. Numbers, for C has no `Result`. `BytesResult` of comparison has the same two: each header declares
+// structs of its own.
 #[repr(C)]
 #[derive(Clone, Copy)]
 pub struct PageResult {

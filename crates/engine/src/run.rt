@@ -6,7 +6,7 @@ ghost use Rattle.engine.specs.Run.{answer_in};
 
 use crate::style::settings_from;
 use combinators::lent::Stores;
-use combinators::refusals::{NO_REFUSAL, Refusal};
+use combinators::refusals::{Refusal, no_refusal};
 use page::lent::Page;
 use running::input::RunInput;
 use running::run::{RunError, run};
@@ -25,20 +25,14 @@ impl From<Result<usize, RunError>> for RunResult {
     ghost from_gives = { λ answer told. answer_in told ≡ numbers_of answer };
 
     fn from(answer: Result<usize, RunError>) -> RunResult {
-        match answer {
-            Ok(texts) => RunResult {
-                refusal: NO_REFUSAL,
-                place: 0,
-                texts,
-            },
-            Err(error) => {
-                let refusal = Refusal::from(error);
-                RunResult {
-                    refusal: refusal.number,
-                    place: refusal.place,
-                    texts: 0,
-                }
-            }
+        let (refusal, texts) = match answer {
+            Ok(texts) => (no_refusal(), texts),
+            Err(error) => (Refusal::from(error), 0),
+        };
+        RunResult {
+            refusal: refusal.number,
+            place: refusal.place,
+            texts,
         }
     }
 }

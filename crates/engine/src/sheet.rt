@@ -4,8 +4,9 @@ ghost use Rattle.sheets.specs.SheetAnswer.{numbers_of, read_sheet};
 ghost use Rattle.engine.specs.Sheet.{numbers_in};
 
 use combinators::lent::Stores;
-use sheets::answers::{SheetNumbers, numbers_of};
-use sheets::sheet::{Sheet, SheetError, read_sheet};
+use selectors::readings::Read;
+use sheets::answers::SheetNumbers;
+use sheets::sheet::{SheetError, read_sheet};
 
 // The refusal's number and place; of a sheet that was read the count of its rules, the first byte not read, the numbers that the rules take and
 // the bytes of their texts. What does not apply is 0. Numbers, for C has no `Result`.
@@ -20,17 +21,17 @@ pub struct SheetResult {
     pub bytes: usize,
 }
 
-impl From<Result<Sheet, SheetError>> for SheetResult {
+impl From<Result<Read, SheetError>> for SheetResult {
     ghost from_gives = { λ answer told. numbers_in told ≡ numbers_of answer };
 
-    fn from(answer: Result<Sheet, SheetError>) -> SheetResult {
+    fn from(answer: Result<Read, SheetError>) -> SheetResult {
         let SheetNumbers {
             refusal,
             count,
             stop,
             numbers,
             bytes,
-        } = numbers_of(answer);
+        } = SheetNumbers::from(answer);
         SheetResult {
             refusal: refusal.number,
             place: refusal.place,

@@ -5,7 +5,7 @@ ghost use Rattle.styling.specs.StyleAnswer.{numbers_of, style_of};
 ghost use Rattle.engine.specs.Style.{settings_from, answer_in};
 
 use combinators::lent::{SheetTexts, Stores};
-use combinators::refusals::{NO_REFUSAL, Refusal};
+use combinators::refusals::{Refusal, no_refusal};
 use page::lent::Page;
 use styles::settings::Settings;
 use styling::style::{StyleError, style, style_book};
@@ -24,7 +24,7 @@ pub struct StyleResult {
     pub texts: usize,
 }
 
-// The settings that a number stands for.
+// The settings that a number stands for. A function and no `From`: neither `Settings` nor a number is of this crate.
 pub fn settings_from(switch: u32) -> Settings
     ensures { result ≡ settings_from switch }
 {
@@ -36,23 +36,17 @@ pub fn settings_from(switch: u32) -> Settings
 impl From<Result<usize, StyleError>> for StyleResult {
     ghost from_gives = { λ answer told. answer_in told ≡ numbers_of answer };
 
+    #[tactic(auto, unfolding(crate::specs::Style::answer_in, styling::specs::StyleAnswer::numbers_of))]
     fn from(answer: Result<usize, StyleError>) -> StyleResult {
-        match answer {
-            Ok(texts) => StyleResult {
-                refusal: NO_REFUSAL,
-                text: 0,
-                place: 0,
-                texts,
-            },
-            Err(error) => {
-                let refusal = Refusal::from(error);
-                StyleResult {
-                    refusal: refusal.number,
-                    text: refusal.text,
-                    place: refusal.place,
-                    texts: 0,
-                }
-            }
+        let (refusal, texts) = match answer {
+            Ok(texts) => (no_refusal(), texts),
+            Err(error) => (Refusal::from(error), 0),
+        };
+        StyleResult {
+            refusal: refusal.number,
+            text: refusal.text,
+            place: refusal.place,
+            texts,
         }
     }
 }

@@ -5,7 +5,7 @@ use mathlib.Core.List.{List, [], ◌∷◌, ◌++◌, append_assoc}
 use Prim.Native.Nat.{ℕ, suc, ◌+◌, ◌≤◌, ◌<◌}
 use native.Mathlib.Omega.{arith}
 use lib.ListN.{length, get_or, take, drop}
-use borrow.Author.Tests.{leb-true}
+use borrow.Author.Tests.{leb-true, not-true}
 use lib.Seq.{drop-append_seam, drop-drop}
 use Rattle.combinators.specs.Ascii as ascii
 use Rattle.combinators.specs.Choice.{pick, or, and, is, within}
@@ -13,14 +13,14 @@ use Rattle.combinators.specs.Parsed.{Parsed, ok, err, on_parsed, or_else}
 use Rattle.combinators.specs.Parsed as parser
 use Rattle.combinators.specs.Repeat.{many, took}
 use Rattle.combinators.specs.Word.{starts_with, same_text}
+use Rattle.combinators.specs.All.{member}
 use Rattle.combinators.proofs.Lists.{first}
 use Rattle.combinators.proofs.Repeats.{many-took, many-stop, many-from}
 use Rattle.combinators.proofs.Rules as rules
-use Rattle.combinators.proofs.Rules.{never, and-true, is_true, is-no, within-true, pick-holds, or-none}
+use Rattle.combinators.proofs.Rules.{never, and-true, is_true, is-no, within-true, pick-holds, or-none, neither, or-second}
 use Rattle.characters.specs.Literal.{text}
 use Rattle.characters.specs.Utf8.{utf8, taken_of}
-use Rattle.characters.specs.WhiteSpace.{member}
-use Rattle.characters.specs.declared.utf8.Scalar.{Scalar}
+use Rattle.combinators.specs.declared.taken.Taken.{Taken}
 use Rattle.std.specs.Prelude as option
 use Rattle.std.specs.Prelude.{Option, None}
 use Rattle.lexer.specs.Name.{is_nmstart, is_nmchar, folded_char, nmstart_char_of, nmchar_char_of, ident_escape_of, escaped_of, either, nmstart_of, nmchar_of, char_taken, chars_end, chars_text, chars_of, lower, name_from, dash, name_of, ident_of, identstring_of}
@@ -42,9 +42,7 @@ use Rattle.values.specs.Words.{kind_of, token_first, is_kind, is_delim}
 use Rattle.grammar.specs.Nth.{Blanks}
 use Rattle.grammar.specs.Balanced.{tilde, is_plain, Bracket, round, square, curly, Balanced, end, space, remark, plain, quoted, semicolon, bang, block, opens, closes, written_balanced, is_mark, Clear, Outside, Tight, Calm}
 use Rattle.grammar.proofs.NthRead.{starts-not}
-use Rattle.grammar.proofs.StringsRead.{untrue}
 use Rattle.grammar.proofs.Places.{differs, Unblank, white-first, comment-first, blank-first}
-use Rattle.grammar.proofs.TokensRead.{neither}
 use Rattle.grammar.proofs.ValuesRead.{blank-append, Closes, Halts, halts, nothing, closed, at-semicolon, at-bang, at-brace}
 use Rattle.grammar.specs.Tokens as grammar
 
@@ -71,7 +69,7 @@ unfolding is_plain member text utf8 pick
 plain_byte x e =
     let p = and-true _ _ e in
     let w = within-true x ascii.exclamation_mark tilde p.0 in
-    let a = neither _ _ (untrue _ p.1) in
+    let a = neither _ _ (not-true _ p.1) in
     let b = neither _ _ a.1 in
     let c = neither _ _ b.1 in
     let d = neither _ _ c.1 in
@@ -320,12 +318,6 @@ eat-one p k t h (bang v) d = never (sym (head-fails p k t h (bang v) tt) ∙ d)
 eat-one p k t h (block b w v) d = never (sym (head-fails p k t h (block b w v) tt) ∙ d)
 
 -- ---- tests
--- the second of two tests is enough
-or-second : (a b : Bool) → b ≡ true → or a b ≡ true
-unfolding or
-or-second true b e = refl
-or-second false b e = e
-
 -- a test that three brackets fail fails all
 all-brackets : (p : ℕ → Bool) (f : Bracket → ℕ) → p (f round) ≡ false → p (f square) ≡ false → p (f curly) ≡ false → (b : Bracket) → p (f b) ≡ false
 all-brackets p f x y z round = x
@@ -593,7 +585,7 @@ data NameIn (v : Balanced) (t : List ℕ) : Parsed (List ℕ) → Type 0 where
 name_in : (t : List ℕ) → Halts t → (v : Balanced) → NameIn v t (name_of (written_balanced v ++ t))
 name_in t h v = by-start (nmstart_of (drop (dash (written_balanced v ++ t)) (written_balanced v ++ t))) refl
   where
-    by-start : (x : Option Scalar) → nmstart_of (drop (dash (written_balanced v ++ t)) (written_balanced v ++ t)) ≡ x → NameIn v t (name_of (written_balanced v ++ t))
+    by-start : (x : Option (Taken ℕ)) → nmstart_of (drop (dash (written_balanced v ++ t)) (written_balanced v ++ t)) ≡ x → NameIn v t (name_of (written_balanced v ++ t))
     by-start (option.Some c) e = subst (NameIn v t) (sym (name-some (written_balanced v ++ t) c.taken c.value e)) (named _ _ (eat-chars v t h))
     by-start None e = subst (NameIn v t) (sym (name-none (written_balanced v ++ t) e)) unnamed
 

@@ -8,10 +8,10 @@ use lib.IntN.{pos}
 use Rattle.combinators.specs.Ascii as ascii
 use Rattle.combinators.specs.Choice.{pick, or, and, is, within}
 use Rattle.combinators.specs.Word.{starts_with, same_text}
+use Rattle.combinators.specs.All.{member}
 use Rattle.combinators.proofs.Rules.{never, and-true}
 use Rattle.characters.specs.Literal.{text}
 use Rattle.characters.specs.Utf8.{utf8, continuation}
-use Rattle.characters.specs.WhiteSpace.{member}
 use Rattle.lexer.specs.Name.{is_hex_digit, hex_digit, lower}
 use Rattle.lexer.specs.Number.{is_digit}
 use Rattle.lexer.specs.Token as tokens

@@ -7,12 +7,13 @@ use native.Mathlib.Nat.{zero-add, add-zero}
 use native.Mathlib.Omega.{arith}
 use lib.ListN.{length, get_or, drop, length-append, drop_of_length-le}
 use lib.Seq.{drop-append-add, drop-append_seam, drop-drop}
+use borrow.Author.Tests.{not-true}
 use Rattle.combinators.specs.Ascii as ascii
 use Rattle.combinators.specs.Choice.{pick, or, and, is, within}
 use Rattle.combinators.specs.Parsed.{ok, on_parsed}
 use Rattle.combinators.specs.Parsed as parser
 use Rattle.combinators.specs.Repeat.{many, took}
-use Rattle.combinators.proofs.Rules.{never}
+use Rattle.combinators.proofs.Rules.{never, neither}
 use Rattle.lexer.specs.Name.{is_nmstart, folded_char, nmstart_char_of, ident_escape_of, either, nmstart_of, name_from, dash, name_of, ident_of}
 use Rattle.lexer.specs.Token.{Token, token_of, coded}
 use Rattle.lexer.specs.Token as tokens
@@ -37,8 +38,7 @@ use Rattle.grammar.specs.Sheets as sheets
 use Rattle.grammar.proofs.ComponentsRead.{behind-blank}
 use Rattle.grammar.proofs.Places.{rest-on, rest-one, byte-on, spaced-on, spaced-none}
 use Rattle.grammar.proofs.GroupsRead.{group-item, group-read}
-use Rattle.grammar.proofs.StringsRead.{untrue}
-use Rattle.grammar.proofs.TokensRead.{name-item, token-read, neither, semicolon-token, opening-begins, closer-read}
+use Rattle.grammar.proofs.TokensRead.{name-item, token-read, semicolon-token, opening-begins, closer-read}
 use Rattle.grammar.proofs.ValuesRead.{unspaced, conses, Passes, passes_on, passes-token, opening-goes, Halts, halts, closed, at-semicolon, at-brace, halts-ends}
 use Rattle.grammar.proofs.BalancedRead.{Level, balanced-pass}
 use Rattle.grammar.proofs.DeclarationsRead.{block-items}
@@ -143,7 +143,7 @@ at-halts g (braces w c t b) x =
 name-ends : (x : ℕ) → ends_name x ≡ true → (ident_code_point x ≡ false) × ¬ (x ≡ ascii.reverse_solidus)
 unfolding ends_name
 name-ends x e =
-    let n = neither _ _ (untrue _ e) in
+    let n = neither _ _ (not-true _ e) in
     (n.0, λ q. never (sym n.1 ∙ ap (λ (y : ℕ). is y ascii.reverse_solidus) q ∙ (unfold is in refl)))
 
 -- the body of an at-rule ends its name

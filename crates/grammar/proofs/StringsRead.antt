@@ -1,12 +1,14 @@
 -- A string of the grammar is read whole, and is the text that it stands for.
+use Rattle.std.proofs.Common.{Some}
 use mathlib.Core.Path.{◌≡◌, refl, ap, sym, ◌∙◌}
-use mathlib.Core.Bool.{Bool, true, false, not}
+use mathlib.Core.Bool.{true, false, not}
 use mathlib.Core.List.{List, [], ◌∷◌, ◌++◌}
 use Prim.Native.Nat.{ℕ, suc, ◌+◌}
 use native.Mathlib.Nat.{add-zero}
 use native.Mathlib.Omega.{arith}
 use lib.ListN.{length, length-append}
 use lib.Seq.{get_or-append_seam}
+use borrow.Author.Tests.{not-true}
 use Rattle.combinators.specs.Ascii as ascii
 use Rattle.combinators.specs.Choice.{pick, or, is}
 use Rattle.combinators.specs.Parsed.{ok}
@@ -19,22 +21,17 @@ use Rattle.lexer.specs.declared.strings.Quoted.TheVariants.{Byte, Skip}
 use Rattle.lexer.proofs.SyntaxString.{ordinary, plain, string-quote}
 use Rattle.grammar.specs.Selectors.{Within, nothing, byte, escaped, continued, Quoted}
 
--- a test whose negation holds fails
-pub untrue : (b : Bool) → not b ≡ true → b ≡ false
-untrue true e = sym e
-untrue false e = refl
-
 -- an ordinary byte is read as itself
-byte-read : (q x : ℕ) (r : List ℕ) → ordinary q x ≡ true → quoted_of q (x ∷ r) ≡ Byte 1 x
+byte-read : (q x : ℕ) (r : List ℕ) → ordinary q x ≡ true → quoted_of q (x ∷ r) ≡ Some (Byte 1 x)
 unfolding ordinary quoted_of pick
 byte-read q x r h =
     let p = and-true (not (is x q)) _ h in
     let p' = and-true (not (is x ascii.line_feed)) _ p.1 in
     rw (
       is-no (suc (length r)) 0 (λ e. omega arith),
-      untrue (is x q) p.0,
-      untrue (is x ascii.line_feed) p'.0,
-      untrue (is x ascii.reverse_solidus) p'.1,
+      not-true (is x q) p.0,
+      not-true (is x ascii.line_feed) p'.0,
+      not-true (is x ascii.reverse_solidus) p'.1,
     )
 
 module _ (q : ℕ) (h : is_quote q ≡ true) where
@@ -43,7 +40,7 @@ module _ (q : ℕ) (h : is_quote q ≡ true) where
   unquoted = is-no ascii.reverse_solidus q (λ e. let p : is_quote ascii.reverse_solidus ≡ false = unfold is_quote or is in refl in never (sym p ∙ ap is_quote e ∙ h))
 
   -- so what it stands before is read as itself
-  escaped-read : (x : ℕ) (r : List ℕ) → is x ascii.line_feed ≡ false → quoted_of q (ascii.reverse_solidus ∷ x ∷ r) ≡ Byte 2 x
+  escaped-read : (x : ℕ) (r : List ℕ) → is x ascii.line_feed ≡ false → quoted_of q (ascii.reverse_solidus ∷ x ∷ r) ≡ Some (Byte 2 x)
   unfolding quoted_of escaped_byte pick
   escaped-read x r e =
       rw (
@@ -56,7 +53,7 @@ module _ (q : ℕ) (h : is_quote q ≡ true) where
       )
 
   -- and with a newline it is nothing
-  continued-read : (r : List ℕ) → quoted_of q (ascii.reverse_solidus ∷ ascii.line_feed ∷ r) ≡ Skip 2
+  continued-read : (r : List ℕ) → quoted_of q (ascii.reverse_solidus ∷ ascii.line_feed ∷ r) ≡ Some (Skip 2)
   unfolding quoted_of escaped_byte pick
   continued-read r =
       rw (

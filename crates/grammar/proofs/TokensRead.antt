@@ -3,10 +3,10 @@
 use mathlib.Core.Path.{◌≡◌, refl, ap, sym, subst, ◌∙◌}
 use mathlib.Core.Bool.{Bool, true, false, not}
 use mathlib.Core.List.{List, [], ◌∷◌, ◌++◌, append_assoc, map}
-use Prim.Native.Nat.{ℕ, suc, ◌+◌, ◌≤◌}
+use Prim.Native.Nat.{ℕ, ◌+◌, ◌≤◌}
 use native.Mathlib.Nat.{zero-add, add-zero}
 use native.Mathlib.Omega.{arith}
-use borrow.Author.Tests.{le-leb, lt-leb}
+use borrow.Author.Tests.{lt-leb, not-true}
 use lib.ListN.{length, get_or, drop, length-append}
 use lib.Seq.{get_or-drop, get_or-append-add, drop-append_seam, take-append_seam}
 use Rattle.combinators.specs.Ascii as ascii
@@ -14,13 +14,14 @@ use Rattle.combinators.specs.Choice.{pick, or, and, is, within}
 use Rattle.combinators.specs.Parsed.{Parsed, ok, err, on_parsed, behind, or_else}
 use Rattle.combinators.specs.Repeat.{many, took}
 use Rattle.combinators.specs.Word.{starts_with}
+use Rattle.combinators.specs.All.{member}
 use Rattle.combinators.proofs.Lists.{first}
-use Rattle.combinators.proofs.Rules.{never, pick_true, pick-false, either, and-true, is-yes, is-no, is_true, or-none, or-false, within-true, within-false, within-past}
+use Rattle.combinators.proofs.Rules.{never, pick_true, pick-false, either, and-true, is-yes, is-no, is_true, or-none, within-true, within-false, within-past, neither}
 use Rattle.combinators.proofs.Repeats.{many-stop, texts-stop}
 use Rattle.characters.specs.Literal.{text}
-use Rattle.characters.specs.Utf8.{utf8, scalar_of, scalar_by, lead_of, taken_of}
-use Rattle.characters.specs.WhiteSpace.{member}
-use Rattle.std.specs.Prelude.{Some, None}
+use Rattle.characters.specs.Utf8.{utf8, scalar_of, taken_of}
+use Rattle.characters.proofs.RoundTrip.{ascii-read}
+use Rattle.std.specs.Prelude.{None}
 use Rattle.lexer.specs.Name.{is_nmstart, is_nmchar, lower, nmstart_char_of, nmchar_char_of, nmstart_of, nmchar_of, char_taken, char_text, chars_end, chars_text, chars_of, dash, name_of, ident_of, identstring_of}
 use Rattle.lexer.specs.Number.{is_digit, one_digit, digits}
 use Rattle.lexer.specs.Number as numbers
@@ -29,7 +30,7 @@ use Rattle.lexer.specs.Token.{Token, numeric_from, numeric_of, ident_like_of, is
 use Rattle.lexer.specs.Whitespace.{is_whitespace, comment_of, whitespace_item, skip_whitespace}
 use Rattle.lexer.specs.declared.tokens.Start.{Start}
 use Rattle.lexer.specs.declared.tokens.Start.TheVariants.{Quote, Letter, Digit, Other}
-use Rattle.lexer.proofs.SyntaxName.{Each, none, more, IdentSequence, started, dashed, ident_start, ident_code_point, letter, start-code-point, code-point-item, hyphen-code-point, ident-sequence}
+use Rattle.lexer.proofs.SyntaxName.{Each, none, more, IdentSequence, started, dashed, ident_start, ident_code_point, letter, start-code-point, code-point-item, hyphen-code-point, ident-sequence, start_is, code-point-is}
 use Rattle.lexer.proofs.SyntaxWhitespace.{skips-blank}
 use Rattle.lexer.proofs.SyntaxWhitespace as blanks
 use Rattle.lexer.proofs.Escapes.{char-no, escape-no, either_second}
@@ -42,7 +43,7 @@ use Rattle.grammar.specs.Tokens.{Numeral, Hashed, is_delimiter, Atom, word, stri
 use Rattle.grammar.proofs.Places.{differs, Unblank, unblank-item}
 use Rattle.grammar.proofs.NthRead.{digits-read, starts-not}
 use Rattle.grammar.proofs.ComponentsRead.{behind-blank}
-use Rattle.grammar.proofs.StringsRead.{untrue, quoted-read}
+use Rattle.grammar.proofs.StringsRead.{quoted-read}
 
 -- ---- a token at the start of a text
 -- a text that does not begin with white space begins with the token k, of n bytes
@@ -60,21 +61,10 @@ module _ (b : Blanks) (t : List ℕ) (n : ℕ) (k : Token) (h : Begins t n k) wh
   unfolding token_of behind
   token-read = rw (token-skips, drop-append_seam b.bytes t, h.reads)
 
--- a byte of ASCII is a character
-ascii-scalar : (x : ℕ) (l : List ℕ) → x ≤ 0x7f → scalar_of (x ∷ l) ≡ Some (record { taken = 1; value = x })
-unfolding scalar_of scalar_by lead_of pick is
-ascii-scalar x l h = rw (is-no (suc (length l)) 0 (λ z. omega arith), le-leb x 0x7f h)
-
 -- the reader that it selects
 pub begins-by : (x : ℕ) (l : List ℕ) (n : ℕ) (k : Token) → whitespace_item (x ∷ l) ≡ 0 → x ≤ 0x7f → token_by (start_of x) 1 x (x ∷ l) ≡ ok n k → Begins (x ∷ l) n k
 unfolding token_at
-begins-by x l n k e h p = record { item = e; reads = rw (ascii-scalar x l h, p) }
-
--- neither of two tests holds
-pub neither : (a b : Bool) → or a b ≡ false → (a ≡ false) × (b ≡ false)
-unfolding or
-neither true b e = absurd (never (sym e))
-neither false b e = (refl, e)
+begins-by x l n k e h p = record { item = e; reads = rw (ascii-read x l h, p) }
 
 -- ---- names: 4.3.4, Consume an ident-like token
 -- no mark is an ident-start code point
@@ -166,7 +156,7 @@ pub record NameEnds (t : List ℕ) : Type 0 where
 name-ends : (t : List ℕ) → ends_name (get_or t 0 0) ≡ true → NameEnds t
 unfolding ends_name
 name-ends t e =
-    let n = neither _ _ (untrue _ e) in
+    let n = neither _ _ (not-true _ e) in
     record { no-character = n.0; no-escape = λ q. never (sym n.1 ∙ is-yes _ _ q) }
 
 -- a name is read whole, in small letters
@@ -199,33 +189,11 @@ pub function-token : (n : Ident) (t : List ℕ) → Begins (n.bytes ++ (ascii.le
 function-token n t = name-begins n.bytes (ascii.left_parenthesis ∷ t) _ _ n.sequence (like-function n t)
 
 -- ---- hashes: 4.3.1, U+0023 NUMBER SIGN
--- the document's ident code points are the crate's
-or_turned : (a b c d : Bool) → or (or (or a b) c) d ≡ or (or c (or b a)) d
-unfolding or
-or_turned true true true d = refl
-or_turned true true false d = refl
-or_turned true false true d = refl
-or_turned true false false d = refl
-or_turned false true true d = refl
-or_turned false true false d = refl
-or_turned false false true d = refl
-or_turned false false false d = refl
-
--- so is what starts a name
-start-nmstart : (x : ℕ) → ident_start x ≡ is_nmstart x
-unfolding ident_start letter is_nmstart
-start-nmstart x = sym (or-false _ _ refl) ∙ or_turned _ _ _ false ∙ or-false _ _ refl
-
--- and what stands in it
-code-point-nmchar : (x : ℕ) → ident_code_point x ≡ is_nmchar x
-unfolding ident_code_point ident_start letter is_nmchar is_nmstart
-code-point-nmchar x = or_turned _ _ _ _
-
 -- no character of a name is read where a name ends
 unread : (t : List ℕ) → NameEnds t → nmchar_of t ≡ None
 unfolding nmchar_of nmchar_char_of
 unread t h =
-    let p = char-no is_nmchar t _ refl _ refl (sym (code-point-nmchar _) ∙ h.no-character) in
+    let p = char-no is_nmchar t _ refl _ refl (sym (code-point-is _) ∙ h.no-character) in
     sym (either_second _ _ _ p refl _ (escape-no t _ refl (is-no _ _ h.no-escape)))
 
 -- ident code points before it are the characters of the name, each folded
@@ -235,7 +203,7 @@ characters t h none = unfold chars_end chars_text in (many-stop char_taken t 0 (
     untaken : (t : List ℕ) → NameEnds t → char_taken t ≡ 0
     untaken t h = unfold char_taken taken_of in ap taken_of (unread t h)
 characters t h (more {x} {r} e es) =
-    let c = sym (code-point-nmchar x) ∙ e in
+    let c = sym (code-point-is x) ∙ e in
     let k = char-plain (x ∷ (r ++ t)) c in
     let g = characters t h es in
     (chars-step _ 1 _ k ∙ omega (arith, g.0), chars-text-step _ 1 _ k ∙ ap (λ b. b ++ chars_text (r ++ t)) (lower-byte x c) ∙ ap (λ l. lower x ∷ l) g.1)
@@ -426,7 +394,7 @@ module _ (m u : List ℕ) where
 no_start : (t : List ℕ) → ident_start (get_or t 0 0) ≡ false → is (get_or t 0 0) ascii.reverse_solidus ≡ false → nmstart_of t ≡ None
 unfolding nmstart_of nmstart_char_of
 no_start t e d =
-    let p = char-no is_nmstart t _ refl _ refl (sym (start-nmstart (get_or t 0 0)) ∙ e) in
+    let p = char-no is_nmstart t _ refl _ refl (sym (start_is (get_or t 0 0)) ∙ e) in
     sym (either_second _ _ _ p refl _ (escape-no t _ refl d))
 
 -- a digit and a full stop start no name and no escape
@@ -571,7 +539,7 @@ number-ends n t e =
     let a = and-true (ends_name (get_or t 0 0)) _ e in
     let b = and-true (not (is (get_or t 0 0) ascii.full_stop)) _ a.1 in
     let c = and-true (not (is (get_or t 0 0) ascii.percent_sign)) _ b.1 in
-    record { no_digit = ended-digit _ (name-ends t a.0).no-character; no-percent = untrue _ c.0; no-name-behind = untrue _ c.1 }
+    record { no_digit = ended-digit _ (name-ends t a.0).no-character; no-percent = not-true _ c.0; no-name-behind = not-true _ c.1 }
 
 -- "Otherwise, create a <number-token> with the same value", where nothing goes on with it
 number-alone : (n : Numeral) (t : List ℕ) → NumberEnds t → Begins (written_numeral n ++ t) (length (written_numeral n)) (tokens.number (means_numeral n))
@@ -720,7 +688,7 @@ pub delim-token : (c : ℕ) (d : is_delimiter c ≡ true) (t : List ℕ) → End
 unfolding may_follow
 delim-token c d t e =
     let p = delimiter-plain c d in
-    subst (λ (k : Token). Begins (c ∷ t) 1 k) p.2 (mark-begins c t (no-comment c t p.3 (untrue _ e)) p.0 p.1)
+    subst (λ (k : Token). Begins (c ∷ t) 1 k) p.2 (mark-begins c t (no-comment c t p.3 (not-true _ e)) p.0 p.1)
 
 -- a full stop begins no number where no digit follows
 stop-none : (t : List ℕ) → is_digit (get_or t 0 0) ≡ false → numeric_of (ascii.full_stop ∷ t) ≡ err
@@ -787,7 +755,7 @@ pub atom-begins : (a : Atom) (t : List ℕ) → EndsBefore a t → Begins (writt
 unfolding written_atom means_atom may_follow
 atom-begins (word n) t e =
     let a = and-true (ends_name (get_or t 0 0)) _ e in
-    ident-token n t a.0 (untrue _ a.1)
+    ident-token n t a.0 (not-true _ a.1)
 atom-begins (string q) t e =
     let l : length (q.quote ∷ (q.bytes ++ (q.quote ∷ []))) ≡ 1 + length q.bytes + 1 = omega (arith, length-append q.bytes (q.quote ∷ [])) in
     subst (λ (i : ℕ). Begins ((q.quote ∷ (q.bytes ++ (q.quote ∷ []))) ++ t) i (tokens.string q.body)) (sym l)
@@ -809,9 +777,9 @@ atom-begins comma t e = comma-token t
 atom-begins colon t e = colon-token t
 atom-begins semicolon t e = semicolon-token t
 atom-begins (delimiter c d) t e = delim-token c d t e
-atom-begins point t e = point-token t (untrue _ e)
-atom-begins hyphen t e = let a = and-true (ends_name (get_or t 0 0)) _ e in hyphen-token t (name-ends t a.0) (untrue _ a.1)
-atom-begins addition t e = addition-token t (untrue _ e)
+atom-begins point t e = point-token t (not-true _ e)
+atom-begins hyphen t e = let a = and-true (ends_name (get_or t 0 0)) _ e in hyphen-token t (name-ends t a.0) (not-true _ a.1)
+atom-begins addition t e = addition-token t (not-true _ e)
 
 -- a function's name and its bracket
 function-begins : (n : Ident) (t : List ℕ)

@@ -7,15 +7,16 @@ use native.Mathlib.Nat.{zero-add, add-zero}
 use native.Mathlib.Omega.{arith}
 use lib.ListN.{length, get_or, drop, length-append, drop_of_length-le}
 use lib.Seq.{drop-append-add, drop-append_seam}
+use borrow.Author.Tests.{not-true}
 use Rattle.combinators.specs.Ascii as ascii
 use Rattle.combinators.specs.Choice.{pick, or, and, is, within}
 use Rattle.combinators.specs.Parsed.{ok, err, on_parsed}
 use Rattle.combinators.specs.Word.{same_text}
 use Rattle.combinators.specs.Parsed as parser
-use Rattle.combinators.proofs.Rules.{never, or-none, and_both, and_left, and_right, and-true}
+use Rattle.combinators.specs.All.{member}
+use Rattle.combinators.proofs.Rules.{never, or-none, and_both, and_left, and_right, and-true, neither}
 use Rattle.characters.specs.Literal.{text}
 use Rattle.characters.specs.Utf8.{utf8, scalar_of, scalar_by}
-use Rattle.characters.specs.WhiteSpace.{member}
 use Rattle.lexer.specs.Number.{is_digit}
 use Rattle.lexer.specs.Token as tokens
 use Rattle.lexer.specs.Token.{Token, token_at, token_of, coded, text_of}
@@ -30,8 +31,7 @@ use Rattle.grammar.specs.Nth.{Blanks}
 use Rattle.grammar.specs.Tokens.{is_delimiter, Atom, word, string, hash, number, percentage, dimension, comma, colon, semicolon, delimiter, point, hyphen, addition, Opening, function, round, square, brace, written_atom, written_opening, closer, means_atom, means_opening, means_closer, ends_name, begins_name, begins_number, may_follow, MayFollow, EndsBefore, Ident, folded}
 use Rattle.grammar.specs.Values.{Values, end, then, block, written_values, means_values, Follows, Apart, is_semicolon, is_bang, is_brace, Outermost, Unmarked, DeclarationValue, Importance, normal, important, written_importance, is_marked}
 use Rattle.grammar.proofs.Places.{Unblank, blank-first}
-use Rattle.grammar.proofs.StringsRead.{untrue}
-use Rattle.grammar.proofs.TokensRead.{ended-digit, Begins, token-read, semicolon-token, closer-token, atom-begins, opening-begins, closer-read, ends-behind, neither}
+use Rattle.grammar.proofs.TokensRead.{ended-digit, Begins, token-read, semicolon-token, closer-token, atom-begins, opening-begins, closer-read, ends-behind}
 
 -- white space that is empty
 abbrev pub unspaced : Blanks
@@ -299,7 +299,7 @@ any-follows (number n) x y e z =
     let a = and-true (ends_name x) _ e in
     let b = and-true (not (is x ascii.full_stop)) _ a.1 in
     let c = and-true (not (is x ascii.percent_sign)) _ b.1 in
-    and_both _ _ a.0 (and_both _ _ b.0 (and_both _ _ c.0 (ap not (any-second y (untrue _ c.1) z))))
+    and_both _ _ a.0 (and_both _ _ b.0 (and_both _ _ c.0 (ap not (any-second y (not-true _ c.1) z))))
 any-follows (percentage n) x y e z = e
 any-follows (dimension n u) x y e z = e
 any-follows comma x y e z = e

@@ -6,9 +6,9 @@ use Rattle.std.specs.Prelude.{◌≡◌, refl, Bool, true, false, not, List, [],
 use Rattle.combinators.specs.Ascii as ascii
 use Rattle.combinators.specs.Choice.{pick, or, and, is, within}
 use Rattle.combinators.specs.Word.{starts_with, same_text}
+use Rattle.combinators.specs.All.{member}
 use Rattle.characters.specs.Literal.{text}
 use Rattle.characters.specs.Utf8.{utf8}
-use Rattle.characters.specs.WhiteSpace.{member}
 use Rattle.lexer.specs.Name.{lower}
 use Rattle.lexer.specs.Token.{cdc_mark, cdo_mark, is_quote}
 use Rattle.lexer.proofs.SyntaxWhitespace.{White, Comment}

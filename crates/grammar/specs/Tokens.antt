@@ -5,9 +5,9 @@ use Rattle.std.proofs.Common.{arith}
 use Rattle.combinators.specs.Ascii as ascii
 use Rattle.combinators.specs.Choice.{pick, or, and, is, within}
 use Rattle.combinators.specs.Word.{starts_with, same_text}
+use Rattle.combinators.specs.All.{member}
 use Rattle.characters.specs.Literal.{text}
 use Rattle.characters.specs.Utf8.{utf8, continuation}
-use Rattle.characters.specs.WhiteSpace.{member}
 use Rattle.lexer.specs.Name.{lower}
 use Rattle.lexer.specs.Number.{is_digit}
 use Rattle.lexer.specs.Token as tokens

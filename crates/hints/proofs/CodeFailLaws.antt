@@ -6,12 +6,13 @@ use mathlib.Core.List.{List, [], ◌∷◌}
 use native.Mathlib.Omega.{arith}
 use borrow.Author.Tests.{leb-true}
 use lib.Dec.{leb}
-use lib.ListN.{length, get_or, drop, length-take, length-drop}
+use lib.ListN.{length, get_or, drop}
 use lib.Seq.{get_or-take}
 use Rattle.combinators.specs.Choice.{pick, or, and, is}
 use Rattle.combinators.specs.Part.{part}
 use Rattle.combinators.proofs.Rules.{never, either, is_true, within-yes}
 use Rattle.combinators.proofs.Lists.{first}
+use Rattle.combinators.proofs.Parts.{length_part}
 use Rattle.syntax.specs.RuleLayout.{star_kind, class_kind, element_kind, hash_kind, attribute_kind, attribute_equal_kind}
 use Rattle.page.specs.Path.{Path}
 use Rattle.compiled.specs.Decoded.{Decoded, read, fault, on_decoded, and_then, mapped}
@@ -31,11 +32,6 @@ use Rattle.sweeps.proofs.CodePieceLaws.{named-test}
 
 -- ---- parts of the bytes
 module _ (store : List ℕ) (a n : ℕ) where
-  -- a part that lies in the bytes has the length that was asked for
-  part_length : a + n ≤ length store → length (part store a n) ≡ n
-  unfolding part
-  part_length h = omega (arith, length-take n (drop a store), length-drop a store)
-
   -- and begins with the byte that it begins at
   pub part-first : 0 < n → get_or (part store a n) 0 0 ≡ get_or store a 0
   unfolding part
@@ -135,6 +131,6 @@ module _ (code : List ℕ) where
         fails = λ e fit t.
             name-fails at kind n.0 (omega (arith, l)) (sym ek) n.1 (e ∷ [])
             (λ m x p. let q = span-one (at + 1) size (omega (arith, l)) (sym es) few m x p in
-            sym (f.fails e fit (text_in code x) (ap (λ (y : Span). length (text_in code y)) q.0 ∙ part_length code (at + 1 + 1) size q.1)
+            sym (f.fails e fit (text_in code x) (ap (λ (y : Span). length (text_in code y)) q.0 ∙ length_part code (at + 1 + 1) size q.1)
             (ap (λ (y : Span). get_or (text_in code y) 0 0) q.0 ∙ part-first code (at + 1 + 1) size some ∙ ap (λ (i : ℕ). get_or code i 0) two ∙ sym eb))) t;
       }

@@ -1,6 +1,6 @@
 -- Passing over selectors that surely fail: what is left to pass has the result of the whole.
-use Prim.Native.Nat.{ℕ, ◌-◌, ◌≤◌, ◌<◌}
-use mathlib.Core.Path.{◌≡◌, sym, ap, ◌∙◌}
+use Prim.Native.Nat.{ℕ, suc, ◌-◌, ◌≤◌, ◌<◌}
+use mathlib.Core.Path.{◌≡◌, refl, sym, ap, ◌∙◌}
 use mathlib.Core.Bool.{false}
 use mathlib.Core.List.{List, [], ◌∷◌, ◌++◌}
 use native.Mathlib.Omega.{arith}
@@ -8,12 +8,16 @@ use lib.ListN.{length}
 use Rattle.combinators.specs.Choice.{pick}
 use Rattle.page.specs.Path.{Element}
 use Rattle.compiled.specs.Sheet.{compiled_limit}
+use Rattle.segments.specs.Before.{no_place}
 use Rattle.segments.specs.Visits.{Visited, visit_at}
 use Rattle.segments.specs.Pass.{Passed, matched_here, pass_from}
+use Rattle.segments.proofs.PassLaws.{pass-none}
+use Rattle.std.proofs.Common.{Option, Some, None}
 use Rattle.hints.specs.Hints.{Fits, TestsFail}
-use Rattle.hints.specs.Skipping.{StepFails, IsMarked}
+use Rattle.hints.specs.Skipping.{StepFails, IsMarked, left_to_pass}
 use Rattle.hints.specs.declared.hints.Hint.{Hint}
 use Rattle.hints.specs.declared.skipping.Marked.{Marked}
+use Rattle.hints.specs.declared.skipping.Skipped.{Skipped}
 use Rattle.visits.proofs.CodePassLaws.{pass-turn}
 use Rattle.hints.proofs.CodeStayLaws.{Stays, copied, length-copied, one-stays, two-stay}
 
@@ -23,6 +27,29 @@ pub record Skipping (code : List ℕ) (h : Hint) (above own₀ : List ℕ) (firs
   pub room : length above ≤ length own
   pub near : p ≤ compiled_limit
   pub fewer : left ≤ count
+
+module _ (code : List ℕ) (h : Hint) (above own₀ : List ℕ) (first count : ℕ) (own : List ℕ) (p left : ℕ) (v : Skipping code h above own₀ first count own p left) where
+  -- what is told: a pass over what is left comes to a pass over all
+  abbrev Told : Option Skipped → Type 0
+  Told r = (e : Element) → Fits h e → left_to_pass code e above own r ≡ pass_from code (e ∷ []) above count first own₀
+
+  -- some are left
+  pub skip-left : (behind : ℕ) → suc behind ≡ left → Told (Some (record { place = p; behind = behind }))
+  unfolding left_to_pass
+  skip-left behind d e fit = ap (λ (n : ℕ). pass_from code (e ∷ []) above n p own) d ∙ v.skips e fit
+
+  -- there is no other
+  pub skip-none : p ≡ no_place → Told None
+  unfolding left_to_pass
+  skip-none z e fit = sym (pass-none code above (e ∷ []) left own) ∙ ap (λ (n : ℕ). pass_from code (e ∷ []) above left n own) (sym z) ∙ v.skips e fit
+
+  -- none is left to be passed
+  pub skip-end : left ≤ 0 → Told None
+  unfolding left_to_pass
+  skip-end z e fit =
+      let d : 0 ≡ left = omega arith in
+      let o : record { part = own; matched = [] } ≡ pass_from code (e ∷ []) above 0 p own = unfold pass_from in refl in
+      o ∙ ap (λ (n : ℕ). pass_from code (e ∷ []) above n p own) d ∙ v.skips e fit
 
 module _ (code : List ℕ) (h : Hint) (above own₀ : List ℕ) (first count : ℕ) (own : List ℕ) (p left : ℕ) (v : Skipping code h above own₀ first count own p left) (more : 0 < left)
     (m : Marked) (own₁ : List ℕ) where

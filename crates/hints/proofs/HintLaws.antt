@@ -6,21 +6,20 @@ use mathlib.Core.List.{List, [], ◌∷◌}
 use native.Mathlib.Omega.{arith}
 use lib.ListN.{length, get_or}
 use Rattle.combinators.specs.Choice.{pick, or, is}
-use Rattle.combinators.proofs.Rules.{never, either, or_left, or-none, and-true, is-no}
+use Rattle.combinators.proofs.Rules.{never, either, or_left, or-none, and-true, is-no, or-second, and_yes}
 use Rattle.combinators.proofs.Words.{same-is}
 use Rattle.characters.specs.Literal.{text}
 use Rattle.characters.specs.Utf8.{utf8}
 use Rattle.syntax.specs.RuleLayout.{class_kind, element_kind, hash_kind, attribute_kind}
-use Rattle.cascade.proofs.Cascading.{or-second}
 use Rattle.page.specs.Path.{Attribute, Element}
 use Rattle.page.specs.PathOf.{attributes_from}
 use Rattle.page.specs.Rows.{attribute_width, attribute_rows}
 use Rattle.matching.specs.Matches.{any_attribute, is_class, is_id, is_named, has_class, has_id, has_attribute, name_is, here, step}
-use Rattle.matching.proofs.PassLaws.{and_yes}
 use Rattle.compiled.specs.Component.{is_name, named_of}
 use Rattle.segments.specs.Segments.{tested}
 use Rattle.segments.specs.Sweep.{byte_values}
-use Rattle.sweeps.specs.Met.{handed_element}
+use Rattle.sweeps.specs.Met.{handed_element, handed}
+use Rattle.sweeps.specs.declared.elements.Handed.{Handed}
 use Rattle.hints.specs.Hints.{any_byte, may_begin, ClassesBegin, NamesBegin, Fits, NameFails}
 use Rattle.hints.specs.declared.hints.Starts.{Starts}
 use Rattle.hints.specs.declared.hints.Hint.{Hint}
@@ -158,3 +157,11 @@ pub hint-fits : (name attributes text : List ℕ) (first : ℕ) → first ≡ ge
     → (place : ℕ) → Fits (record { size = length name; first = first; classes = classes; names = names }) (handed_element name attributes text place)
 unfolding handed_element
 hint-fits name attributes text first e classes names c n place = record { size = refl; first = sym e; classes = c; names = n }
+
+-- the same of the attributes that are handed
+pub hint-handed : (x : Handed) (first : ℕ) → first ≡ get_or x.name.now 0 0 → (a : List Attribute) → a ≡ (handed x).attributes → (classes names : Starts)
+    → ClassesBegin classes a → NamesBegin names a
+    → (place : ℕ) → Fits (record { size = length x.name.now; first = first; classes = classes; names = names }) (handed_element x.name.now x.attributes.now x.text.now place)
+unfolding handed handed_element
+hint-handed x first e a q classes names c n place =
+    record { size = refl; first = sym e; classes = λ t h. c t (ap (any_attribute (is_class t)) q ∙ h); names = λ t h. n t (ap (any_attribute (is_named t)) q ∙ h) }

@@ -5,24 +5,19 @@ use mathlib.Core.Bool.{Bool, true, false}
 use mathlib.Core.List.{List, [], ◌∷◌}
 use mathlib.Core.Logic.{◌⊎◌, inl, inr, ⊎_elim}
 use native.Mathlib.Omega.{arith}
-use lib.ListN.{length, get_or, take, drop}
-use lib.Seq.{get_or-take}
-use Rattle.combinators.specs.Part.{part}
-use Rattle.combinators.specs.Repeat.{many}
+use lib.ListN.{get_or}
 use Rattle.combinators.specs.Word.{same_text}
-use Rattle.combinators.proofs.Lists.{first}
-use Rattle.combinators.proofs.Rules.{never, either, or_left, or-gives, is-yes, is_true}
+use Rattle.combinators.proofs.Rules.{never, either, or_left, or-gives, is-yes, is_true, or-second}
 use Rattle.combinators.proofs.Words.{same-is}
-use Rattle.characters.specs.Trim.{white_taken, word_taken}
-use Rattle.cascade.proofs.Cascading.{or-second}
+use Rattle.combinators.proofs.Lists.{first}
 use Rattle.page.specs.Path.{Attribute}
 use Rattle.page.specs.PathOf.{attributes_from}
-use Rattle.page.specs.Rows.{attribute_at, attribute_name, attribute_value}
+use Rattle.page.specs.Rows.{attribute_name, attribute_value}
 use Rattle.matching.specs.Matches.{any_attribute, is_class, is_named}
 use Rattle.matching.specs.Rows.{attribute_of}
-use Rattle.matching.specs.Texts.{has_word}
-use Rattle.matching.proofs.AttributeLaws.{named, class-named, class-other}
-use Rattle.matching.proofs.Words.{Splitting, split-begin, split-end, split-none, split-more}
+use Rattle.matching.specs.Texts.{NoWord, FirstWord, has_word}
+use Rattle.matching.proofs.AttributeLaws.{class-named, class-other}
+use Rattle.matching.proofs.Words.{Splitting, split-begin, split-end, split-more}
 use Rattle.hints.specs.Hints.{no_byte, any_byte, may_begin, Keeps}
 use Rattle.hints.specs.declared.hints.Starts.{Starts}
 
@@ -81,65 +76,42 @@ module _ (s : Starts) (byte : ℕ) where
   with-any = ((λ b t. may-any _ b refl), may-any _ byte refl)
 
 -- ---- the loop of `with_words`
-pub record Wording (s : List ℕ) (begun starts : Starts) (i : ℕ) : Type 0 where
+pub record Wording (s : List ℕ) (begun starts : Starts) (left : List ℕ) : Type 0 where
   pub keeps : Keeps begun starts
-  pub within_text : i ≤ length s
-  pub left : (w : List ℕ) → (may_begin starts (get_or w 0 0) ≡ true) ⊎ Splitting w s i
+  pub told : (w : List ℕ) → (may_begin starts (get_or w 0 0) ≡ true) ⊎ Splitting w s left
 
 -- what is told of words
 abbrev WordsBegin : List ℕ → Starts → Starts → Type 0
 WordsBegin s begun r = Keeps begun r × ((w : List ℕ) → has_word w s ≡ true → may_begin r (get_or w 0 0) ≡ true)
 
 -- no word is met yet
-pub words-begin : (s : List ℕ) (begun : Starts) → Wording s begun begun 0
-words-begin s begun = record { keeps = λ b t. t; within_text = omega arith; left = λ w. inr (split-begin w s) }
+pub words-begin : (s : List ℕ) (begun : Starts) → Wording s begun begun s
+words-begin s begun = record { keeps = λ b t. t; told = λ w. inr (split-begin w s) }
 
-module _ (s : List ℕ) (begun starts : Starts) (i : ℕ) (v : Wording s begun starts i) where
-  -- where the text ends, every word of it begins with a byte that is kept
-  pub words-end : length s ≤ i → WordsBegin s begun starts
-  words-end h = (v.keeps, (λ w t. ⊎_elim (λ m. m) (λ (x : Splitting w s i). never (split-end w s i x h ∙ t)) (v.left w)))
+module _ (s : List ℕ) (begun starts : Starts) (left : List ℕ) (v : Wording s begun starts left) where
+  -- where no word is left, every word of the text begins with a byte that is kept
+  pub words-end : NoWord left → WordsBegin s begun starts
+  words-end h = (v.keeps, (λ w t. ⊎_elim (λ m. m) (λ (x : Splitting w s left). never (split-end w s left x h ∙ t)) (v.told w)))
 
-  module _ (inside : i < length s) (a : ℕ) (white : a ≡ many white_taken 0 0 (take (length s - i) (drop i s)))
-      (n : ℕ) (word : n ≡ many word_taken 0 0 (take (length s - (i + a)) (drop (i + a) s))) where
-    -- only White_Space is left
-    pub words-none : n ≡ 0 → WordsBegin s begun starts
-    words-none e = (v.keeps, (λ w t. ⊎_elim (λ m. m) (λ (x : Splitting w s i). never (split-none w s i x inside a white n word e ∙ t)) (v.left w)))
+  module _ (found others : List ℕ) (f : FirstWord left found others) (byte : ℕ) (eb : byte ≡ get_or found 0 0) (r : Starts) (keep : Keeps starts r) (m : may_begin r byte ≡ true) where
+    -- what is sought is the word, or stands behind it
+    sought : (w : List ℕ) → Splitting w s left → (t : Bool) → same_text found w ≡ t → (may_begin r (get_or w 0 0) ≡ true) ⊎ Splitting w s others
+    sought w x true e = inl (ap (may_begin r) (sym (eb ∙ ap (λ (y : List ℕ). get_or y 0 0) (same-is found w e))) ∙ m)
+    sought w x false e = inr (split-more w s left x found others f e)
 
-    module _ (some : ¬ (n ≡ 0)) (byte : ℕ) (eb : byte ≡ get_or s (i + a) 0) (r : Starts) (keep : Keeps starts r) (m : may_begin r byte ≡ true) (h : i + a + n ≤ length s) where
-      -- the word that was met, as bytes of the text
-      abbrev found : List ℕ
-      found = take (i + a + n - (i + a)) (drop (i + a) s)
-
-      -- begins with the byte
-      found_first : (w : List ℕ) → same_text found w ≡ true → byte ≡ get_or w 0 0
-      found_first w e =
-          eb ∙ sym (first s (i + a)) ∙ sym (get_or-take (i + a + n - (i + a)) (drop (i + a) s) 0 0 (let z : 0 < n = omega arith in omega arith))
-          ∙ ap (λ (x : List ℕ). get_or x 0 0) (same-is found w e)
-
-      -- so what is sought is it, or stands behind it
-      sought : (w : List ℕ) → Splitting w s i → (t : Bool) → same_text found w ≡ t → (may_begin r (get_or w 0 0) ≡ true) ⊎ Splitting w s (i + a + n)
-      sought w x true e = inl (ap (may_begin r) (sym (found_first w e)) ∙ m)
-      sought w x false e = inr (split-more w s i x inside a white n word some false (sym e) refl h)
-
-      -- the word's first byte is kept, and the loop goes on behind the word
-      pub words_more : Wording s begun r (i + a + n)
-      words_more =
-          record {
-            keeps = λ b t. keep b (v.keeps b t);
-            within_text = h;
-            left = λ w. ⊎_elim (λ (y : may_begin starts (get_or w 0 0) ≡ true). inl (keep (get_or w 0 0) y)) (λ (x : Splitting w s i). sought w x (same_text found w) refl) (v.left w);
-          }
+    -- the word's first byte is kept, and the loop goes on behind the word
+    pub words_more : Wording s begun r others
+    words_more =
+        record {
+          keeps = λ b t. keep b (v.keeps b t);
+          told = λ w. ⊎_elim (λ (y : may_begin starts (get_or w 0 0) ≡ true). inl (keep (get_or w 0 0) y)) (λ (x : Splitting w s left). sought w x (same_text found w) refl) (v.told w);
+        }
 
 -- ---- the returns of `with_classes`
-module _ (attributes names : List ℕ) (row start size : ℕ) (es : start ≡ (attribute_at attributes row).name_start) (en : size ≡ (attribute_at attributes row).name_length)
-    (t : Bool) (et : t ≡ same_text (part names start size) (0x63 ∷ 0x6c ∷ 0x61 ∷ 0x73 ∷ 0x73 ∷ [])) (starts : Starts) where
+module _ (attributes names : List ℕ) (row : ℕ) (t : Bool) (is-class : t ≡ is_named (0x63 ∷ 0x6c ∷ 0x61 ∷ 0x73 ∷ 0x73 ∷ []) (attribute_of attributes names row)) (starts : Starts) where
   -- what is told: bytes stay kept, and every class of this attribute begins with one
   abbrev Classes : Starts → Type 0
   Classes r = Keeps starts r × ((c : List ℕ) → is_class c (attribute_of attributes names row) ≡ true → may_begin r (get_or c 0 0) ≡ true)
-
-  -- whether the attribute is a `class`, by its name
-  is-class : t ≡ is_named (0x63 ∷ 0x6c ∷ 0x61 ∷ 0x73 ∷ 0x73 ∷ []) (attribute_of attributes names row)
-  is-class = named attributes names row (0x63 ∷ 0x6c ∷ 0x61 ∷ 0x73 ∷ 0x73 ∷ []) start size es en t et
 
   -- it is a `class`
   pub classes-met : t ≡ true → (v : List ℕ) → v ≡ attribute_value attributes names row → (r : Starts) → WordsBegin v starts r → Classes r
@@ -192,7 +164,7 @@ module _ (f : Attribute → Bool) (attributes names : List ℕ) (at count i : �
     unfolding any_attribute
     any-more p = record { within_count = omega arith; left = or-gives _ _ _ (sym e ∙ p) refl ∙ opened (any_attribute f) attributes names at count i v h }
 
--- ---- the loops of `class_starts` and `name_starts`, where f is what a text asks of an attribute
+-- ---- the loop of `class_and_name_starts`, where f is what a text asks of an attribute
 pub record Gathering (f : List ℕ → Attribute → Bool) (attributes names : List ℕ) (count : ℕ) (starts : Starts) (i : ℕ) : Type 0 where
   pub within_count : i ≤ count
   pub left : (x : List ℕ) → (may_begin starts (get_or x 0 0) ≡ true) ⊎ Looking (any_attribute (f x)) attributes names 0 count i
@@ -222,6 +194,11 @@ module _ (f : List ℕ → Attribute → Bool) (attributes names : List ℕ) (co
             left = λ x. ⊎_elim (λ (y : may_begin starts (get_or x 0 0) ≡ true). inl (keep (get_or x 0 0) y))
                 (λ (l : Looking (any_attribute (f x)) attributes names 0 count i). asked x l (f x (attribute_of attributes names (0 + i))) refl) (v.left x);
           }
+
+-- both are gathered in one loop
+pub record BothGathering (attributes text : List ℕ) (count : ℕ) (class_starts name_starts : Starts) (i : ℕ) : Type 0 where
+  pub classes : Gathering is_class attributes text count class_starts i
+  pub names : Gathering is_named attributes text count name_starts i
 
 -- an attribute of a name begins as the name
 pub name-told : (attributes names : List ℕ) (row : ℕ) (n : List ℕ) → n ≡ attribute_name attributes names row → (byte : ℕ) → byte ≡ get_or n 0 0 → (r : Starts) → may_begin r byte ≡ true

@@ -1,27 +1,31 @@
 -- Passing over selectors that surely fail at an element: their blocks stay as they are.
-use Rattle.std.specs.Prelude.{ℕ, ◌+◌, ◌≤◌, ◌<◌, false, List, ◌≡◌, length, get_or, replicate}
+use Rattle.std.specs.Prelude.{ℕ, suc, ◌+◌, ◌≤◌, ◌<◌, false, List, [], ◌∷◌, ◌≡◌, Option, Some, None, length, get_or, replicate}
 use Rattle.combinators.specs.Part.{part}
 use Rattle.syntax.specs.Selector.{Component}
-use Rattle.page.specs.Path.{Path}
+use Rattle.page.specs.Path.{Element, Path}
 use Rattle.compiled.specs.Decoded.{read}
 use Rattle.segments.specs.Segments.{direct, test}
-use Rattle.segments.specs.Sweep.{byte_values, pair_at, piece_at, compound_at, with_tests}
+use Rattle.compiled.specs.Sheet.{compiled_limit}
+use Rattle.segments.specs.Sweep.{pair_at, piece_at, compound_at, with_tests}
 use Rattle.segments.specs.Visits.{to_next, to_awaited, to_flags}
+use Rattle.segments.specs.Pass.{Passed, pass_from}
 use Rattle.segments.specs.Parts.{pair_limit}
 use Rattle.visits.specs.Visiting.{to_tests, to_end}
 use Rattle.hints.specs.Hints.{TestsFail}
 use Rattle.hints.specs.declared.hints.Hint.{Hint}
 use Rattle.hints.specs.declared.skipping.Marked.{Marked}
+use Rattle.hints.specs.declared.skipping.Skipped.{Skipped}
 
 -- a component at a place is a test, whatever it asks for, and takes so many bytes
 pub record TestThere (code : List ℕ) (at size : ℕ) : Type 0 where
+  pub some : 0 < size
   pub asks : Component
   pub told : piece_at code at ≡ read (at + size) (test asks)
   pub inside : at + size ≤ length code
-  pub few : size < byte_values
 
 -- behind the child step at a place
 pub record BehindChild (code : List ℕ) (at place : ℕ) : Type 0 where
+  pub there : at < length code
   pub told : piece_at code at ≡ read place direct
   pub far : 0 < place
   pub inside : place ≤ length code
@@ -50,3 +54,14 @@ pub record IsMarked (above : List ℕ) (p steps : ℕ) (m : Marked) : Type 0 whe
   pub next_low : m.block.next < pair_limit
   pub awaited : m.block.awaited ≡ pair_at above (p + to_awaited)
   pub tests : m.tests ≡ pair_at above (p + to_tests + steps)
+
+-- where some of so many selectors are left: the first of them is there, and how many stand behind it
+pub record FewLeft (count : ℕ) (s : Skipped) : Type 0 where
+  pub some : 0 < s.place
+  pub near : s.place ≤ compiled_limit
+  pub fewer : s.behind < count
+
+-- what a pass over those that are left comes to, at an element, by its own part; where none is left, that part is what it comes to, and none matches
+unfoldable pub left_to_pass : List ℕ → Element → List ℕ → List ℕ → Option Skipped → Passed
+left_to_pass code e above own (Some s) = pass_from code (e ∷ []) above (suc s.behind) s.place own
+left_to_pass code e above own None = record { part = own; matched = [] }

@@ -2,12 +2,12 @@
 use Prim.Native.Nat.{ℕ, zero, suc, ◌+◌, ◌-◌, ◌*◌, ◌^◌, ◌<◌, ◌≤◌}
 use mathlib.Core.Path.{◌≡◌, refl, sym, ap, ◌∙◌}
 use mathlib.Core.Bool.{Bool, true, false}
-use mathlib.Core.Logic.{⊎_elim}
+use mathlib.Core.Logic.{◌⊎◌, ⊎_elim}
 use mathlib.Core.List.{List, [], ◌∷◌}
 use native.Mathlib.Nat.{mul-le-mul_left, mul-le-mul_right, le_of_mul-le-mul_right}
 use native.Mathlib.Omega.{arith}
 use borrow.Author.Tests.{lt-ltb, le-ltb}
-use lib.Dec.{ltb}
+use lib.Dec.{ltb, eqb}
 use lib.ListN.{get_or}
 use Rattle.combinators.specs.Choice.{pick, or, and}
 use Rattle.combinators.proofs.Rules.{lt-or-ge, pick_true, pick-false, or_left, or_right, or-none, and_both, and_left, and_right, is-yes, is-no}
@@ -20,6 +20,8 @@ use Rattle.lengths.specs.Numeral.{most_digits, capped, numeral_of}
 use Rattle.lengths.specs.Unit.{LengthUnit, units}
 use Rattle.lengths.specs.declared.numerals.Numeral.{Numeral}
 use Rattle.std.specs.Prelude.{Option, Some, None, Result, Ok, Err}
+use Rattle.std.specs.Bool.{then_some}
+use Rattle.std.proofs.lemmas.Bool.{eqb-true, eqb-false}
 use Rattle.lengths.specs.declared.answers.Kind.{Kind}
 use Rattle.lengths.specs.declared.answers.Kind.TheVariants.{Units}
 use Rattle.lengths.specs.declared.answers.Length.{Length}
@@ -129,13 +131,12 @@ module _ {A : Type 0} (b : Bool) (d v : ℕ) (bad : A) (good : ℕ → A) where
       positive-good : b ≡ false → good (capped v * s) ≡ judged
       positive-good n = not-below (and_left _ _ n)
 
-      -- a zero is worth 0, with a '-' or without
-      zero-good : capped v * s ≤ 0 → good 0 ≡ judged
+      -- a zero is worth its ten-thousandths, with a '-' or without
+      zero-good : capped v * s ≤ 0 → good (capped v * s) ≡ judged
       zero-good z =
           let q : capped v * 1 ≤ capped v * s = mul-le-mul_left (capped v) scale.some in
-          let k : capped v * s ≡ 0 = omega arith in
           let w : v ≤ 0 = omega (arith, within.1) in
-          ap good (sym k) ∙ not-below (and_right _ _ (le-ltb 0 v w))
+          not-below (and_right _ _ (le-ltb 0 v w))
 
 -- ---- `with_unit`: a number in ten-thousandths, times the factor of its unit
 module _ (place : ℕ) (kind : Kind) (factor : ℕ) (n : List ℕ) (x : Numeral) (e : x ≡ numeral_of n) where
@@ -202,19 +203,16 @@ module _ (place : ℕ) (kind : Kind) (factor : ℕ) (n : List ℕ) (x : Numeral)
       below-zero b p =
           below-bad (is_negative n) (decimals n) (digits_number n) (Err (BadLength place)) length-of few-decimals s scale-is lower (sym negative-is ∙ b) (omega (arith, amount-is))
 
-      -- the return where the number is zero, with a '-' or without: the length 0
-      pub minus-zero : x.digits * s ≤ 0 → measured kind 0 ≡ whole
+      -- the return where the number is not below zero, or zero with a '-': its ten-thousandths times the unit's factor
+      pub a-length : (x.negative ≡ true × x.digits * s ≤ 0) ⊎ (x.negative ≡ false) → measured kind (x.digits * s * factor) ≡ whole
       unfolding with_unit is_bad is_too_fine is_above is_below ten_thousandths
-      minus-zero z =
-          let q : 0 * factor ≡ 0 = omega arith in
-          ap (measured kind) (sym q) ∙ zero-good (is_negative n) (decimals n) (digits_number n) (Err (BadLength place)) length-of few-decimals s scale-is lower (omega (arith, amount-is))
-
-      -- the return where the number is not below zero: its ten-thousandths times the unit's factor
-      pub a-length : x.negative ≡ false → measured kind (x.digits * s * factor) ≡ whole
-      unfolding with_unit is_bad is_too_fine is_above is_below ten_thousandths
-      a-length b =
+      a-length e =
           ap length-of amount-is
-          ∙ positive-good (is_negative n) (decimals n) (digits_number n) (Err (BadLength place)) length-of few-decimals s scale-is lower (sym negative-is ∙ b)
+          ∙ ⊎_elim
+          (λ (z : x.negative ≡ true × x.digits * s ≤ 0).
+          zero-good (is_negative n) (decimals n) (digits_number n) (Err (BadLength place)) length-of few-decimals s scale-is lower (omega (arith, amount-is, z.1)))
+          (λ (b : x.negative ≡ false).
+          positive-good (is_negative n) (decimals n) (digits_number n) (Err (BadLength place)) length-of few-decimals s scale-is lower (sym negative-is ∙ b)) e
 
 -- an amount within the most, times any factor of 32 bits
 pub amount-product : (m factor : ℕ) → m ≤ most_digits → factor ≤ 0xffffffff → m * factor ≤ 0xffffffff * 0xffffffff
@@ -260,15 +258,23 @@ module _ (n : List ℕ) (x : Numeral) (e : x ≡ numeral_of n) where
   number_digits = ap (λ (y : Numeral). y.digits) e
 
   -- a number without a unit that is exactly zero is the length 0
-  pub number-zero : x.digits ≤ 0 → measured Units 0 ≡ number_length n
+  number-zero : x.digits ≡ 0 → measured Units 0 ≡ number_length n
   unfolding number_length
-  number-zero z = pick_true _ _ _ _ (is-yes _ _ (zero_of (digits_number n) (omega (arith, number_digits, z)))) refl
+  number-zero z = pick_true _ _ _ _ (is-yes _ _ (zero_of (digits_number n) (sym number_digits ∙ z))) refl
     where
       zero_of : (v : ℕ) → capped v ≡ 0 → v ≡ 0
       zero_of v k =
           ⊎_elim (λ (h : most_digits < v). absurd (omega (arith, capped-over v h))) (λ (h : v ≤ most_digits). sym (capped-within v h) ∙ k) (lt-or-ge most_digits v)
 
   -- a number without a unit that is not zero is no length
-  pub number-some : 0 < x.digits → Ok None ≡ number_length n
+  number-some : (x.digits ≡ 0 → ⊥) → Ok None ≡ number_length n
   unfolding number_length
-  number-some d = pick-false _ _ _ _ (is-no _ _ (λ z. absurd (omega (arith, d, number_digits ∙ ap capped z ∙ capped-within 0 (omega arith))))) refl
+  number-some d = pick-false _ _ _ _ (is-no _ _ (λ z. d (number_digits ∙ ap capped z ∙ capped-within 0 (omega arith)))) refl
+
+  -- by the code's test
+  pub number-told : Ok (then_some (eqb x.digits 0) (record { kind = Units; amount = 0 })) ≡ number_length n
+  number-told = by-zero (eqb x.digits 0) refl
+    where
+      by-zero : (b : Bool) → eqb x.digits 0 ≡ b → Ok (then_some b (record { kind = Units; amount = 0 })) ≡ number_length n
+      by-zero true h = number-zero (eqb-true x.digits 0 h)
+      by-zero false h = number-some (eqb-false x.digits 0 h)

@@ -2,17 +2,15 @@
 use mathlib.Core.Path.{◌≡◌, refl, sym, ap, ◌∙◌}
 use mathlib.Core.Bool.{Bool, true, false}
 use mathlib.Core.List.{List}
-use Prim.Native.Nat.{ℕ, ◌-◌, ◌≤◌, ◌<◌}
-use native.Mathlib.Omega.{arith}
+use Prim.Native.Nat.{ℕ, ◌≤◌, ◌<◌}
 use borrow.Author.Tests.{lt-ltb, le-ltb}
-use lib.ListN.{length, replicate}
+use lib.ListN.{length}
 use Rattle.combinators.specs.LeastLengths.{stores_suffice}
 use Rattle.combinators.specs.Store.{cleared}
-use Rattle.combinators.proofs.Cleared.{cleared-is}
-use Rattle.combinators.proofs.LeastLaws.{least}
+use Rattle.combinators.proofs.Cleared.{cleared-throughout}
 use Rattle.combinators.proofs.Rules.{pick_true, pick-false}
 use Rattle.characters.specs.Utf8.{valid}
-use Rattle.sheets.specs.SheetAnswer.{sheet_limit, SheetLent}
+use Rattle.sheets.specs.SheetAnswer.{sheet_limit}
 use Rattle.lengths.specs.Length.{length_of}
 use Rattle.lengths.specs.HeightLength.{refusal_of, numbers_of, LengthLeft, length_left, unchanged, height_length}
 use Rattle.lengths.specs.declared.answers.LengthNumbers.{LengthNumbers}
@@ -22,12 +20,6 @@ use Rattle.lengths.specs.declared.answers.LengthError.{LengthError}
 use Rattle.lengths.specs.declared.answers.LengthError.TheVariants.{TooLong, ShortStore, NotUtf8}
 
 -- ---- `read_value`
--- a store cleared throughout, of whatever it held
-all-cleared : (x l k : List ℕ) → x ≡ cleared 0 l → length l ≡ length k → x ≡ replicate (length k) 0
-all-cleared x l k e h =
-    let z : length l - 0 ≡ length k = omega arith in
-    e ∙ cleared-is 0 l ∙ rw z refl
-
 -- what is left, by its parts
 left_by : {a a' : LengthNumbers} {y y' x x' b b' z z' : List ℕ} → a ≡ a' → y ≡ y' → x ≡ x' → b ≡ b' → z ≡ z'
     → ◌≡◌ {A = LengthLeft} (record { answer = a; rules = y; tokens = x; brackets = b; texts = z }) (record { answer = a'; rules = y'; tokens = x'; brackets = b'; texts = z' })
@@ -39,7 +31,7 @@ pub value_read : (s rules tokens brackets texts u : List ℕ) {r : (Result (Opti
     → ◌≡◌ {A = LengthLeft} (record { answer = numbers_of r; rules = y; tokens = x; brackets = b; texts = z }) (length_left s rules tokens brackets texts)
 unfolding length_left
 value_read s rules tokens brackets texts u {r} {y} {x} {b} {z} er ey ex eb ez h =
-    left_by (ap numbers_of er) (all-cleared y rules rules ey refl) (all-cleared x tokens tokens ex refl) (all-cleared b brackets brackets eb refl) (all-cleared z u texts ez h)
+    left_by (ap numbers_of er) (cleared-throughout rules rules y refl ey) (cleared-throughout tokens tokens x refl ex) (cleared-throughout brackets brackets b refl eb) (cleared-throughout u texts z h ez)
 
 -- ---- `height_length`, in the order of the refusals
 module _ (s rules tokens brackets texts : List ℕ) where
@@ -55,10 +47,6 @@ module _ (s rules tokens brackets texts : List ℕ) where
     short-store e = pick-false _ _ _ _ (le-ltb sheet_limit (length s) h) (pick-false _ _ _ _ (sym et ∙ e) refl)
 
     module _ (e : t ≡ true) where
-      -- behind both tests the value is within its limit, and the stores have the least lengths
-      pub lent : SheetLent s rules tokens brackets texts
-      lent = record { within = h; least = least et e }
-
       module _ {v : Bool} (ev : v ≡ valid s) where
         -- the return where the value is no UTF-8: refused, and the stores as they were
         pub not-utf8 : v ≡ false → ◌≡◌ {A = LengthLeft} (record { answer = numbers_of (Err NotUtf8); rules = rules; tokens = tokens; brackets = brackets; texts = texts }) (height_length s rules tokens brackets texts)

@@ -4,7 +4,7 @@ use mathlib.Core.Path.{◌≡◌, refl, sym, ap, ◌∙◌}
 use mathlib.Core.Bool.{Bool, true, false}
 use mathlib.Core.List.{List, []}
 use native.Mathlib.Omega.{arith}
-use lib.ListN.{length, get_or, take, drop, length-drop}
+use lib.ListN.{length, get_or, take, drop}
 use lib.Seq.{sets, drop-drop, take_at, drop_at}
 use Rattle.std.specs.Int.{from_bool}
 use Rattle.combinators.specs.Ascii.{percent_sign, plus_sign}
@@ -20,13 +20,14 @@ use Rattle.lexer.specs.Whitespace.{skip_whitespace}
 use Rattle.lexer.specs.declared.Written.{Written}
 use Rattle.lexer.proofs.Bounds.{Fits, bound-two}
 use Rattle.lexer.proofs.IdentBounds.{ident-fits}
-use Rattle.lexer.proofs.TokenAnswers.{name-ok, name-err}
+use Rattle.lexer.proofs.TokenAnswers.{name-ok}
+use Rattle.lexer.proofs.NameAnswers.{unnamed-from}
 use Rattle.syntax.proofs.Streams.{held-part, sets-held}
 use Rattle.values.specs.Words.{is_kind, kind_of, token_first, number_of, unit_of}
 use Rattle.lengths.specs.Number as numbers
 use Rattle.lengths.specs.Number.{numeric_of, plus, text_start, numeric_token}
 use Rattle.lengths.specs.Length.{dimension_length, number_length, token_length, only_whitespace, length_of}
-use Rattle.lengths.specs.Reading.{length_behind, name_behind, unit_text, Behind}
+use Rattle.lengths.specs.Reading.{length_behind, name_behind, unit_text}
 use Rattle.std.specs.Prelude.{Option, Some, None, Result, Ok}
 use Rattle.lengths.specs.declared.answers.Length.{Length}
 use Rattle.lengths.specs.declared.answers.LengthError.{LengthError}
@@ -38,81 +39,67 @@ plus-read t true e k ek = (ek ∙ pick_true _ _ _ _ (sym e) refl, omega (arith, 
 plus-read t false e k ek = (ek ∙ pick-false _ _ _ _ (sym e) refl, omega (arith, ek))
 
 -- ---- `length_behind`, by the name that is read behind the number
-module _ (place : ℕ) (t : List ℕ) (n : ℕ) where
+module _ (place : ℕ) (n t : List ℕ) where
   -- a name behind the number is its unit, and the value a dimension where only white space follows, else no length
-  behind-unit : (m : ℕ) (u : List ℕ) → ident_of (drop n t) ≡ ok m u
-      → length_behind place t n ≡ pick (only_whitespace (drop (n + m) t)) (dimension_length place (take n t) u) (Ok None)
+  behind-unit : (m : ℕ) (u : List ℕ) → ident_of t ≡ ok m u → length_behind place n t ≡ pick (only_whitespace (drop m t)) (dimension_length place n u) (Ok None)
   unfolding length_behind on_parsed
   behind-unit m u e = rw e
 
   -- without a name the value is the number alone where only white space follows, else no length
-  behind-none : ident_of (drop n t) ≡ err → length_behind place t n ≡ pick (only_whitespace (drop n t)) (number_length (take n t)) (Ok None)
+  behind-none : ident_of t ≡ err → length_behind place n t ≡ pick (only_whitespace t) (number_length n) (Ok None)
   unfolding length_behind on_parsed
   behind-none e = rw e
 
-  -- what the call says of the rest of the text
-  module _ (st : List ℕ) (o : Behind t n st) (x : Option Written) (z : List ℕ)
-      (w : (x ≡ name_answer (ident_of (take (length t - n) (drop n t)))) × (z ≡ sets st 0 (name_text (ident_of (take (length t - n) (drop n t)))))) where
-    -- the answer is that of a name behind the number
-    answered : x ≡ name_answer (ident_of (drop n t))
-    answered = w.0 ∙ ap (λ (l : List ℕ). name_answer (ident_of l)) (rest t n)
-
-    -- what was stored is the text of that name
-    stored : z ≡ sets st 0 (name_text (ident_of (drop n t)))
-    stored = w.1 ∙ ap (λ (l : List ℕ). sets st 0 (name_text (ident_of l))) (rest t n)
-
+  -- what was read of what stands behind the number
+  module _ (st : List ℕ) (room : length t + 2 ≤ length st) (x : Option Written) (z : List ℕ)
+      (w : (x ≡ name_answer (ident_of t)) × (z ≡ sets st 0 (name_text (ident_of t)))) where
     module _ (m l : ℕ) (q : x ≡ Some (record { taken = m; length = l })) where
       abbrev name : List ℕ
-      name = name_text (ident_of (drop n t))
+      name = name_text (ident_of t)
 
       -- a name reads behind the number, and the answer has the length of its text
-      read : (ident_of (drop n t) ≡ ok m name) × (l ≡ length name)
-      read = name-ok (ident_of (drop n t)) m l (sym q ∙ answered)
+      read : (ident_of t ≡ ok m name) × (l ≡ length name)
+      read = name-ok (ident_of t) m l (sym q ∙ w.0)
 
       -- the name takes no more than there is, and its text is bounded
-      fits : Fits (drop n t) m name
-      fits = ident-fits (drop n t) m name read.0
+      fits : Fits t m name
+      fits = ident-fits t m name read.0
 
       -- the unit lies within the text
-      pub unit-within : n + m ≤ length t
-      unit-within = omega (arith, o.within, fits.within_text, length-drop n t)
+      pub unit-within : m ≤ length t
+      unit-within = fits.within_text
 
       -- its name is read back from the store
       unit-back : part z 0 l ≡ name
-      unit-back = rw (stored, read.1) (held-part (sets st 0 name) 0 name (sets-held st 0 name (omega (arith, bound-two fits.bound, o.room, unit-within))))
+      unit-back = rw (w.1, read.1) (held-part (sets st 0 name) 0 name (sets-held st 0 name (omega (arith, bound-two fits.bound, room, unit-within))))
 
-      module _ (b : Bool) (eb : b ≡ only_whitespace (take (length t - (n + m)) (drop (n + m) t))) where
+      module _ (b : Bool) (eb : b ≡ only_whitespace (take (length t - m) (drop m t))) where
         -- the code's test of what stands behind the unit is the definition's
-        alone : (v : Bool) → b ≡ v → only_whitespace (drop (n + m) t) ≡ v
-        alone v e = ap only_whitespace (sym (rest t (n + m))) ∙ told _ _ _ eb e
+        alone : (v : Bool) → b ≡ v → only_whitespace (drop m t) ≡ v
+        alone v e = ap only_whitespace (sym (rest t m)) ∙ told _ _ _ eb e
 
         -- nothing stands behind the unit
-        pub unit-alone : b ≡ true → (u : List ℕ) → u ≡ part z 0 l → (r : (Result (Option Length) LengthError)) → r ≡ dimension_length place (take n t) u
-            → (r ≡ length_behind place t n) × (z ≡ sets st 0 (name_text (ident_of (drop n t))))
+        pub unit-alone : b ≡ true → (u : List ℕ) → u ≡ part z 0 l → (r : (Result (Option Length) LengthError)) → r ≡ dimension_length place n u
+            → (r ≡ length_behind place n t) × (z ≡ sets st 0 (name_text (ident_of t)))
         unit-alone e u eu r er =
-            (er ∙ ap (dimension_length place (take n t)) (eu ∙ unit-back) ∙ pick_true _ _ _ _ (alone true e) refl ∙ sym (behind-unit m name read.0), stored)
+            (er ∙ ap (dimension_length place n) (eu ∙ unit-back) ∙ pick_true _ _ _ _ (alone true e) refl ∙ sym (behind-unit m name read.0), w.1)
 
         -- where something stands behind the unit, the value is no length
-        pub unit-followed : b ≡ false → (Ok None ≡ length_behind place t n) × (z ≡ sets st 0 (name_text (ident_of (drop n t))))
-        unit-followed e = (pick-false _ _ _ _ (alone false e) refl ∙ sym (behind-unit m name read.0), stored)
+        pub unit-followed : b ≡ false → (Ok None ≡ length_behind place n t) × (z ≡ sets st 0 (name_text (ident_of t)))
+        unit-followed e = (pick-false _ _ _ _ (alone false e) refl ∙ sym (behind-unit m name read.0), w.1)
 
-    module _ (q : x ≡ None) (b : Bool) (eb : b ≡ only_whitespace (take (length t - n) (drop n t))) where
+    module _ (q : x ≡ None) (b : Bool) (eb : b ≡ only_whitespace t) where
       -- no name reads behind the number
-      none : ident_of (drop n t) ≡ err
-      none = name-err (ident_of (drop n t)) (sym q ∙ answered)
-
-      -- the code's test of what stands behind the number is the definition's
-      last : (v : Bool) → b ≡ v → only_whitespace (drop n t) ≡ v
-      last v e = ap only_whitespace (sym (rest t n)) ∙ told _ _ _ eb e
+      none : ident_of t ≡ err
+      none = unnamed-from (ident_of t) (sym q ∙ w.0)
 
       -- nothing stands behind the number
-      pub number-alone : b ≡ true → (r : (Result (Option Length) LengthError)) → r ≡ number_length (take n t)
-          → (r ≡ length_behind place t n) × (z ≡ sets st 0 (name_text (ident_of (drop n t))))
-      number-alone e r er = (er ∙ pick_true _ _ _ _ (last true e) refl ∙ sym (behind-none none), stored)
+      pub number-alone : b ≡ true → (r : Option Length) → Ok r ≡ number_length n → (Ok r ≡ length_behind place n t) × (z ≡ sets st 0 (name_text (ident_of t)))
+      number-alone e r er = (er ∙ pick_true _ _ _ _ (told _ _ _ eb e) refl ∙ sym (behind-none none), w.1)
 
       -- where something stands behind the number, the value is no length
-      pub number-followed : b ≡ false → (Ok None ≡ length_behind place t n) × (z ≡ sets st 0 (name_text (ident_of (drop n t))))
-      number-followed e = (pick-false _ _ _ _ (last false e) refl ∙ sym (behind-none none), stored)
+      pub number-followed : b ≡ false → (Ok None ≡ length_behind place n t) × (z ≡ sets st 0 (name_text (ident_of t)))
+      number-followed e = (pick-false _ _ _ _ (told _ _ _ eb e) refl ∙ sym (behind-none none), w.1)
 
 -- ---- the length of each kind of token
 module _ (place : ℕ) (n u : List ℕ) where
@@ -208,21 +195,22 @@ module _ (s st : List ℕ) (w : ℕ) (ew : w ≡ skip_whitespace s) (p : ℕ) (e
       token-by = token-from ∙ sym (pick-false _ _ _ _ (told _ _ _ eb e) refl)
 
       -- what stands behind the number is the rest of the token, and what stands behind that
-      whole : (x : Parsed (List ℕ)) → ident_of (drop n t) ≡ x → length_behind w t n ≡ length_of s
+      whole : (x : Parsed (List ℕ)) → ident_of (drop n t) ≡ x → length_behind w (take n t) (drop n t) ≡ length_of s
       unfolding on_parsed
       whole (ok m u) i =
-          behind-unit w t n m u i ∙ ap (λ (l : List ℕ). pick (only_whitespace (drop (n + m) l)) (dimension_length w (take n t) u) (Ok None)) text-is
+          behind-unit w (take n t) (drop n t) m u i ∙ ap (λ (l : List ℕ). pick (only_whitespace l) (dimension_length w (take n t) u) (Ok None)) (drop-drop m n t)
+          ∙ ap (λ (l : List ℕ). pick (only_whitespace (drop (n + m) l)) (dimension_length w (take n t) u) (Ok None)) text-is
           ∙ length_at s (n + m) (dimension (take n t) u) (dimension_length w (take n t) u) (token-by ∙ rw i refl)
           (of-dimension (skip_whitespace s) (take n t) u ∙ ap (λ (k : ℕ). dimension_length k (take n t) u) (sym ew))
       whole err i =
-          behind-none w t n i ∙ ap (λ (l : List ℕ). pick (only_whitespace (drop n l)) (number_length (take n t)) (Ok None)) text-is
+          behind-none w (take n t) (drop n t) i ∙ ap (λ (l : List ℕ). pick (only_whitespace (drop n l)) (number_length (take n t)) (Ok None)) text-is
           ∙ length_at s n (number (take n t)) (number_length (take n t)) (token-by ∙ rw i refl) (of_number (skip_whitespace s) (take n t) [])
 
       -- the return where the number is no percentage: what stands behind it decides, and its name is stored
-      pub read_behind : (r : (Result (Option Length) LengthError)) (z : List ℕ) → (r ≡ length_behind w t n) × (z ≡ sets st 0 (name_text (ident_of (drop n t))))
-          → (r ≡ length_of s) × (z ≡ sets st 0 (unit_text s))
+      pub read_behind : (a u : List ℕ) → a ≡ take n t → u ≡ drop n t → (r : (Result (Option Length) LengthError)) (z : List ℕ)
+          → (r ≡ length_behind w a u) × (z ≡ sets st 0 (name_text (ident_of u))) → (r ≡ length_of s) × (z ≡ sets st 0 (unit_text s))
       unfolding name_behind
-      read_behind r z p = (
-        p.0 ∙ whole (ident_of (drop n t)) refl,
-        p.1 ∙ ap (sets st 0) (pick-false _ _ _ _ (is-no _ _ d) (pick-false _ _ _ _ (told _ _ _ eb e) refl) ∙ sym text-of),
+      read_behind a u ea eu r z p = (
+        p.0 ∙ rw (ea, eu) (whole (ident_of (drop n t)) refl),
+        p.1 ∙ rw eu (ap (sets st 0) (pick-false _ _ _ _ (is-no _ _ d) (pick-false _ _ _ _ (told _ _ _ eb e) refl) ∙ sym text-of)),
       )

@@ -1,5 +1,5 @@
 -- How the code reads a value: the number, and then what stands behind it. The unit's name goes to the text store.
-use Rattle.std.specs.Prelude.{ℕ, ◌+◌, ◌≤◌, Option, None, Result, Ok, List, [], length, get_or, take, drop}
+use Rattle.std.specs.Prelude.{ℕ, Option, None, Result, Ok, List, [], get_or, drop}
 use Rattle.combinators.specs.Ascii.{percent_sign}
 use Rattle.combinators.specs.Choice.{pick, is}
 use Rattle.combinators.specs.Parsed.{on_parsed}
@@ -9,11 +9,10 @@ use Rattle.lengths.specs.Length.{dimension_length, number_length, only_whitespac
 use Rattle.lengths.specs.declared.answers.Length.{Length}
 use Rattle.lengths.specs.declared.answers.LengthError.{LengthError}
 
--- a number of n bytes at the start of t, of a token that starts at a place, with what stands behind it: a unit or none, and nothing but white space
-unfoldable pub length_behind : ℕ → List ℕ → ℕ → Result (Option Length) LengthError
-length_behind place t n =
-    on_parsed (ident_of (drop n t)) (λ m unit. pick (only_whitespace (drop (n + m) t)) (dimension_length place (take n t) unit) (Ok None))
-    (pick (only_whitespace (drop n t)) (number_length (take n t)) (Ok None))
+-- a number, of a token that starts at a place, with what stands behind it: a unit or none, and nothing but white space
+unfoldable pub length_behind : ℕ → List ℕ → List ℕ → Result (Option Length) LengthError
+length_behind place n t =
+    on_parsed (ident_of t) (λ m unit. pick (only_whitespace (drop m t)) (dimension_length place n unit) (Ok None)) (pick (only_whitespace t) (number_length n) (Ok None))
 
 -- the name behind a number of n bytes, unless a '%' stands there
 unfoldable pub name_behind : List ℕ → ℕ → List ℕ
@@ -24,8 +23,3 @@ unfoldable pub unit_text : List ℕ → List ℕ
 unit_text s =
     let t = drop (text_start s) s in
     name_behind t (number t)
-
--- what it asks: the number lies within the text, and the text store has room for a name of the text
-pub record Behind (t : List ℕ) (n : ℕ) (texts : List ℕ) : Type 0 where
-  pub within : n ≤ length t
-  pub room : length t + 2 ≤ length texts

@@ -24,12 +24,12 @@ pub const EM_KIND: u32 = 2;
 
 pub const EX_KIND: u32 = 3;
 
-impl Kind {
+impl From<Kind> for u32 {
+    ghost from_gives = { λ kind number. number ≡ kind_number kind };
+
     #[tactic(auto, unfolding(crate::specs::Unit::kind_number))]
-    pub fn number(self) -> u32
-        ensures { result ≡ kind_number self }
-    {
-        match self {
+    fn from(kind: Kind) -> u32 {
+        match kind {
             Kind::Units => UNIT_KIND,
             Kind::Em => EM_KIND,
             Kind::Ex => EX_KIND,
@@ -88,17 +88,19 @@ fn without_length(refusal: Refusal) -> LengthNumbers
 }
 
 // What an answer stands for.
-#[tactic(auto, unfolding(crate::specs::HeightLength::numbers_of))]
-pub fn numbers_of(answer: Result<Option<Length>, LengthError>) -> LengthNumbers
-    ensures { result ≡ numbers_of answer }
-{
-    match answer {
-        Ok(Some(length)) => LengthNumbers {
-            refusal: no_refusal(),
-            kind: length.kind.number(),
-            amount: length.amount,
-        },
-        Ok(None) => without_length(no_refusal()),
-        Err(error) => without_length(Refusal::from(error)),
+impl From<Result<Option<Length>, LengthError>> for LengthNumbers {
+    ghost from_gives = { λ answer numbers. numbers ≡ numbers_of answer };
+
+    #[tactic(auto, unfolding(crate::specs::HeightLength::numbers_of))]
+    fn from(answer: Result<Option<Length>, LengthError>) -> LengthNumbers {
+        match answer {
+            Ok(Some(length)) => LengthNumbers {
+                refusal: no_refusal(),
+                kind: u32::from(length.kind),
+                amount: length.amount,
+            },
+            Ok(None) => without_length(no_refusal()),
+            Err(error) => without_length(Refusal::from(error)),
+        }
     }
 }

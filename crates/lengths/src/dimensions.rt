@@ -1,6 +1,6 @@
 // The length of a number, with a unit or without. The table of units is data: their names, what a length in each counts, and how much a
 // ten-thousandth of each is.
-ghost use Rattle.std.specs.Prelude.{◌≡◌};
+ghost use Rattle.std.specs.Prelude.{◌≡◌, Ok};
 ghost use Rattle.lengths.specs.Length.{with_unit, dimension_length, number_length};
 
 use crate::answers::{Kind, Length, LengthError};
@@ -27,19 +27,15 @@ fn with_unit(place: usize, n: &[u8], kind: Kind, factor: u32) -> Result<Option<L
     ensures { result ≡ with_unit place n.now kind factor }
 {
     let numeral = numeral_of(n);
-    let decimals = numeral.decimals;
-    if decimals >= SCALES.len() {
+    let Some(scale) = SCALES.get(numeral.decimals) else {
         return Err(LengthError::BadLength(place)); // five decimals or more
-    }
-    let amount = numeral.digits * SCALES[decimals];
+    };
+    let amount = numeral.digits * scale;
     if amount > MOST_DIGITS {
         return Err(LengthError::BadLength(place)); // above 10,000
     }
-    if numeral.negative {
-        if amount > 0 {
-            return Err(LengthError::BadLength(place)); // below zero
-        }
-        return Ok(Some(Length { kind, amount: 0 }));
+    if numeral.negative && amount > 0 {
+        return Err(LengthError::BadLength(place)); // below zero
     }
     Ok(Some(Length {
         kind,
@@ -57,15 +53,12 @@ pub fn dimension_length(place: usize, n: &[u8], unit: &[u8]) -> Result<Option<Le
     with_unit(place, n, kind, factor)
 }
 
-// The length of a number without a unit: exactly zero, or none.
-pub fn number_length(n: &[u8]) -> Result<Option<Length>, LengthError>
-    ensures { result ≡ number_length n.now }
+// The length of a number without a unit: exactly zero, or none. It is no refusal, whatever the number is.
+pub fn number_length(n: &[u8]) -> Option<Length>
+    ensures { Ok result ≡ number_length n.now }
 {
-    if numeral_of(n).digits > 0 {
-        return Ok(None);
-    }
-    Ok(Some(Length {
+    (numeral_of(n).digits == 0).then_some(Length {
         kind: Kind::Units,
         amount: 0,
-    }))
+    })
 }

@@ -8,7 +8,6 @@ ghost use Rattle.lengths.specs.HeightLength.{numbers_of, leaving, length_left, h
 use crate::answers::{Length, LengthError};
 use crate::tokens::length_of;
 use characters::utf8::is_valid;
-use combinators::least::stores_suffice;
 use combinators::lent::Stores;
 use sheets::sheet::SHEET_LIMIT;
 
@@ -24,7 +23,8 @@ fn read_value(s: &[u8], stores: &mut Stores<'_>) -> Result<Option<Length>, Lengt
 }
 
 // Reads a height's value, refused as a sheet is and of errors of its own: no length, so much of a kind, or refusal 12. All stores are work stores.
-// The three tests stand here as in `read_sheet`: each definition has them with its own answer, and the errors are of two types.
+// The three tests stand here as in `read_sheet`: one function for both would need an error without a panic, which is none of a height's, and a `From` for
+// each of the two, which is longer than the tests.
 pub fn height_length(s: &[u8], stores: &mut Stores<'_>) -> Result<Option<Length>, LengthError>
     ensures same { SameStores stores.old stores.new }
     ensures stores_after { leaving (numbers_of result) stores.new ≡ height_length s.now stores.old.rules.now stores.old.tokens.now stores.old.brackets.now stores.old.texts.now }
@@ -32,13 +32,7 @@ pub fn height_length(s: &[u8], stores: &mut Stores<'_>) -> Result<Option<Length>
     if s.len() > SHEET_LIMIT {
         return Err(LengthError::TooLong);
     }
-    if !stores_suffice(
-        s.len(),
-        stores.rules.len(),
-        stores.tokens.len(),
-        stores.brackets.len(),
-        stores.texts.len(),
-    ) {
+    if !stores.suffice(s.len()) {
         return Err(LengthError::ShortStore);
     }
     if !is_valid(s) {

@@ -1,9 +1,9 @@
 // What the text of a number says: its sign, its decimals, and its digits read as one number.
-ghost use Rattle.std.specs.Prelude.{◌≡◌, ◌+◌, ◌≤◌};
+ghost use Rattle.std.specs.Prelude.{◌≡◌, ◌+◌};
 ghost use Rattle.lexer.specs.Name.{hex_digit};
 ghost use Rattle.values.specs.Colour.{numeral};
 ghost use Rattle.lengths.specs.Length.{ten};
-ghost use Rattle.lengths.specs.Numeral.{most_digits, capped, unsigned_numeral, numeral_of};
+ghost use Rattle.lengths.specs.Numeral.{capped, unsigned_numeral, numeral_of};
 
 use combinators::bytes::byte_is;
 use lexer::names::hex_digit_of;

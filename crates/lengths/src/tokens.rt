@@ -1,10 +1,10 @@
 // The one token of a value, read from the value's text. The unit's name goes to the text store.
-ghost use Rattle.std.specs.Prelude.{◌≡◌, ◌+◌, ◌≤◌, length, drop};
+ghost use Rattle.std.specs.Prelude.{◌≡◌, ◌+◌, ◌≤◌, length};
 ghost use Rattle.std.proofs.lemmas.List.Edits.{sets};
 ghost use Rattle.lexer.specs.Name.{ident_of, name_text};
 ghost use Rattle.lengths.specs.Number.{plus};
 ghost use Rattle.lengths.specs.Length.{only_whitespace, length_of};
-ghost use Rattle.lengths.specs.Reading.{length_behind, unit_text, Behind};
+ghost use Rattle.lengths.specs.Reading.{length_behind, unit_text};
 
 use crate::answers::{Length, LengthError};
 use crate::dimensions::{dimension_length, number_length};
@@ -14,7 +14,7 @@ use combinators::texts::part_of;
 use lexer::names::parse_ident;
 use lexer::whitespace::skip_optional_whitespace;
 
-// A '+' or none.
+// A '+' or none. One call; a function for its bound and its own definition.
 fn plus_of(t: &[u8]) -> usize
     ensures value { result ≡ plus t.now }
     ensures upper_bound { result ≤ length t.now }
@@ -30,26 +30,25 @@ fn only_whitespace(s: &[u8]) -> bool
     skip_optional_whitespace(s) == s.len()
 }
 
-// The length of a number of `n` bytes at the start of `t`, by what stands behind it; its token starts at `place`. The number and what is behind it
-// are both read, so that `t` is lent whole.
+// The length of a number by what stands behind it, `rest`; its token starts at `place`.
 fn length_behind(
     place: usize,
-    t: &[u8],
-    n: usize,
+    number: &[u8],
+    rest: &[u8],
     texts: &mut [u8],
 ) -> Result<Option<Length>, LengthError>
-    requires { Behind t.now n texts.old }
-    ensures value { result ≡ length_behind place t.now n }
-    ensures texts_after { texts.new ≡ sets texts.old 0 (name_text (ident_of (drop n t.now))) }
+    requires { length rest.now + 2 ≤ length texts.old }
+    ensures value { result ≡ length_behind place number.now rest.now }
+    ensures texts_after { texts.new ≡ sets texts.old 0 (name_text (ident_of rest.now)) }
 {
-    let Some(unit) = parse_ident(&t[n..], texts, 0) else {
-        if only_whitespace(&t[n..]) {
-            return number_length(&t[..n]);
+    let Some(unit) = parse_ident(rest, texts, 0) else {
+        if only_whitespace(rest) {
+            return Ok(number_length(number));
         }
         return Ok(None);
     };
-    if only_whitespace(&t[n + unit.taken..]) {
-        return dimension_length(place, &t[..n], part_of(texts, 0, unit.length));
+    if only_whitespace(&rest[unit.taken..]) {
+        return dimension_length(place, number, part_of(texts, 0, unit.length));
     }
     Ok(None)
 }
@@ -63,9 +62,12 @@ pub fn length_of(s: &[u8], texts: &mut [u8]) -> Result<Option<Length>, LengthErr
     let w = skip_optional_whitespace(s);
     let start = w + plus_of(&s[w..]);
     let t = &s[start..];
-    let n = parse_number(t);
-    if n == 0 || byte_is(t, n, b'%') {
+    let Some(n) = parse_number(t) else {
+        return Ok(None);
+    };
+    if byte_is(t, n, b'%') {
         return Ok(None);
     }
-    length_behind(w, t, n, texts)
+    let (number, rest) = t.split_at(n);
+    length_behind(w, number, rest, texts)
 }

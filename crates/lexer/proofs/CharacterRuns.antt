@@ -11,15 +11,15 @@ use Rattle.combinators.specs.Store.{Store, emits}
 use Rattle.combinators.proofs.Lists.{rest}
 use Rattle.combinators.proofs.Repeats.{many-le, many-took, many-from, texts-took}
 use Rattle.characters.specs.Utf8.{utf8, taken_of}
-use Rattle.characters.specs.declared.utf8.Scalar.{Scalar}
+use Rattle.combinators.specs.declared.taken.Taken.{Taken}
 use Rattle.lexer.specs.Name.{nmchar_of, bytes_of, char_taken, char_text, chars_end, chars_text}
 use Rattle.lexer.proofs.Bounds.{Bound, bound-two, repeated}
-use Rattle.lexer.proofs.Writing.{Writing, Wrote, writing_more, writing-stop, writing-end, writing-small}
+use Rattle.lexer.proofs.Writing.{Writing, Wrote, writing_more, writing-stop, writing-small}
 use Rattle.lexer.proofs.Characters.{char_of, char-le, char-bound}
 
 -- ---- one character
 -- the bytes that it takes
-takes : (s : List ℕ) (x : Option Scalar) → nmchar_of s ≡ x → char_taken s ≡ taken_of x
+takes : (s : List ℕ) (x : Option (Taken ℕ)) → nmchar_of s ≡ x → char_taken s ≡ taken_of x
 unfolding char_taken
 takes s x e = ap taken_of e
 
@@ -83,7 +83,7 @@ unfolding chars_end chars_text
 emitted s v w i n e = ((e.0, e.1), e.2)
 
 -- a character that is read takes a byte or more
-pub chars-some : (x : Option Scalar) (t : List ℕ) → x ≡ nmchar_of t → (k v : ℕ) → x ≡ Some (record { taken = k; value = v }) → 1 ≤ k
+pub chars-some : (x : Option (Taken ℕ)) (t : List ℕ) → x ≡ nmchar_of t → (k v : ℕ) → x ≡ Some (record { taken = k; value = v }) → 1 ≤ k
 chars-some x t ex k v h = (char_of t k v (sym ex ∙ h)).some
 
 module _ (s : List ℕ) (v w : Store ℕ) (i n : ℕ) (c : Chars s v w i n) where
@@ -93,7 +93,7 @@ module _ (s : List ℕ) (v w : Store ℕ) (i n : ℕ) (c : Chars s v w i n) wher
   chars-small = writing-small _ _ _ _ _ _ _ c (chars-text-le s)
 
   -- a turn that reads a character y for k bytes
-  pub chars-more : (x : Option Scalar) → x ≡ nmchar_of (take (length s - i) (drop i s)) → (k y : ℕ) → x ≡ Some (record { taken = k; value = y }) → (z : Store ℕ)
+  pub chars-more : (x : Option (Taken ℕ)) → x ≡ nmchar_of (take (length s - i) (drop i s)) → (k y : ℕ) → x ≡ Some (record { taken = k; value = y }) → (z : Store ℕ)
       → z ≡ emits w (utf8 y) → (m : ℕ) → m ≡ length (utf8 y) → Chars s v z (i + k) (n + m)
   unfolding taken_of
   chars-more x ex k y h z ez m em =
@@ -104,12 +104,8 @@ module _ (s : List ℕ) (v w : Store ℕ) (i n : ℕ) (c : Chars s v w i n) wher
       (em ∙ ap length (sym t)) (ez ∙ ap (emits _) (sym t))
 
   -- the return where no character is left: what was taken and written is all of it
-  pub chars-stop : (x : Option Scalar) → x ≡ nmchar_of (take (length s - i) (drop i s)) → x ≡ None → Emitted s v.bytes v.fill w.bytes i n
+  pub chars-stop : (x : Option (Taken ℕ)) → x ≡ nmchar_of (take (length s - i) (drop i s)) → x ≡ None → Emitted s v.bytes v.fill w.bytes i n
   unfolding taken_of
   chars-stop x ex h =
       let e : nmchar_of (drop i s) ≡ None = ap nmchar_of (sym (rest s i)) ∙ sym ex ∙ h in
       emitted s v w i n (writing-stop _ _ _ _ _ _ _ c (takes (drop i s) _ e))
-
-  -- the text is at its end
-  pub chars-end : length s ≤ i → Emitted s v.bytes v.fill w.bytes i n
-  chars-end h = emitted s v w i n (writing-end _ _ _ _ _ _ _ c h)

@@ -12,7 +12,7 @@ use Rattle.combinators.proofs.Rules.{pick-holds, is_true, within-true}
 use Rattle.combinators.proofs.Rules as rules
 use Rattle.combinators.proofs.Lists.{inside, test-there}
 use Rattle.characters.specs.Utf8.{utf8, or_replacement, replacement_character, scalar_of, taken_of}
-use Rattle.characters.specs.declared.utf8.Scalar.{Scalar}
+use Rattle.combinators.specs.declared.taken.Taken.{Taken}
 use Rattle.characters.proofs.Scalars.{utf8-ascii, utf8-le, utf8-small, or-replacement-same}
 use Rattle.characters.proofs.RoundTrip.{written_back}
 use Rattle.lexer.specs.Name.{is_nmstart, is_nmchar, lower, folded_char, nmchar_char_of, is_hex_digit, hex_run, maximum_digits, hex_count, hex_value, behind_one, escaped_of, ident_escape_of, either, nmchar_of, bytes_of, char_taken, char_text}
@@ -20,7 +20,7 @@ use Rattle.lexer.proofs.Bounds.{Bound, short, lone, Fits}
 use Rattle.lexer.proofs.Escapes.{power_of_sixteen, value-lt}
 
 -- what a reading of one character keeps to
-abbrev pub Fine : List ℕ → Option Scalar → Type 0
+abbrev pub Fine : List ℕ → Option (Taken ℕ) → Type 0
 Fine s (Some c) = Fits s c.taken (utf8 c.value)
 Fine s None = Unit
 
@@ -169,7 +169,7 @@ module _ (s : List ℕ) (h : get_or s 0 0 ≡ reverse_solidus) where
       }
 
   -- a backslash and the next character take bytes of the text, and what they stand for keeps to the bound
-  next-char : (x : Option Scalar) → scalar_of (drop 1 s) ≡ x → Fine s (behind_one x)
+  next-char : (x : Option (Taken ℕ)) → scalar_of (drop 1 s) ≡ x → Fine s (behind_one x)
   unfolding behind_one
   next-char (Some c) e =
       let r = written_back (drop 1 s) c.taken c.value e in
@@ -194,7 +194,7 @@ escape-fine s = pick-holds (Fine s) _ _ _ (λ e. escaped-fine s (is_true _ _ e))
 
 -- ---- either of both
 -- where both alternatives keep to the bounds, so does the first that reads
-either-fine : (s : List ℕ) (a b : Option Scalar) → Fine s a → Fine s b → Fine s (either a b)
+either-fine : (s : List ℕ) (a b : Option (Taken ℕ)) → Fine s a → Fine s b → Fine s (either a b)
 unfolding either
 either-fine s (Some c) b p q = p
 either-fine s None b p q = q
@@ -209,13 +209,13 @@ pub char_of : (s : List ℕ) (n v : ℕ) → nmchar_of s ≡ Some (record { take
 char_of s n v e = rw e at (nmchar-fine s)
 
 -- it takes no more than there is
-fine_le : (s : List ℕ) (x : Option Scalar) → Fine s x → taken_of x ≤ length s
+fine_le : (s : List ℕ) (x : Option (Taken ℕ)) → Fine s x → taken_of x ≤ length s
 unfolding taken_of
 fine_le s (Some v) c = c.within_text
 fine_le s None c = omega arith
 
 -- and its text keeps to the bound
-fine-bound : (s : List ℕ) (x : Option Scalar) → Fine s x → Bound s (taken_of x) (bytes_of x)
+fine-bound : (s : List ℕ) (x : Option (Taken ℕ)) → Fine s x → Bound s (taken_of x) (bytes_of x)
 unfolding taken_of bytes_of
 fine-bound s (Some v) c = c.bound
 fine-bound s None c = short (omega arith)

@@ -1,55 +1,65 @@
--- White space and comments: the steps of `comment_end` at an index, and that what is read lies within the text.
+-- White space and comments: that what is read lies within the text, and where a comment ends.
+use Rattle.std.specs.List.{position_or_len}
+use Rattle.std.specs.declared.slice.Windows.{Windows}
+use Rattle.std.specs.Slice.Iter.{windows_rest, windows_size, windows_steps}
+use Rattle.std.proofs.lemmas.Iterator.{YieldsList}
+use Rattle.std.proofs.lemmas.Iterator.Splits.{YieldsList-from_shown_while}
+use Rattle.std.proofs.Common.{Option, Some, None, cond, not}
+use Rattle.std.proofs.lemmas.Bool.Decides.{nat_tests}
 use mathlib.Core.Path.{◌≡◌, refl, ap, sym, ◌∙◌}
 use mathlib.Core.List.{List, [], ◌∷◌}
-use mathlib.Core.Bool.{Bool, true, false}
+use mathlib.Core.Bool.{Bool, true, false, ◌&&◌}
 use Prim.Native.Nat.{ℕ, suc, ◌+◌, ◌-◌, ◌<◌, ◌≤◌, zero-le}
-use native.Mathlib.Numerals.{add-one}
 use native.Mathlib.Omega.{arith}
-use lib.ListN.{length, get_or, take, drop, drop_of_length-le, length-drop}
-use lib.Seq.{drop-cons}
+use lib.Dec.{eqb, ltb}
+use lib.Pointwise.{pointwise}
+use lib.ListN.{length, get_or, take, drop, length-drop}
 use Rattle.combinators.specs.Choice.{and, or, pick, is}
 use Rattle.combinators.specs.Ascii.{asterisk, solidus, space}
-use Rattle.combinators.proofs.Rules.{is-yes, is-no, and_both, and_left, and_right, and-true, or-none, pick-holds}
-use Rattle.combinators.proofs.Lists.{test-there, byte-there, next, rest}
+use Rattle.combinators.proofs.Rules.{never, pick_true, is-no, and-true, or-none, pick-holds}
+use Rattle.combinators.proofs.Lists.{test-there, byte-there, rest}
 use Rattle.combinators.proofs.Repeats.{many-le}
+use Rattle.lexer.specs.Taken.{taken_answer}
+use Rattle.std.proofs.lemmas.Option.{same_Some, none-some}
+use Rattle.lexer.proofs.Taken.{taken-none, taken-some}
 use Rattle.lexer.specs.Whitespace.{comment_end, comment_of, is_whitespace, whitespace_item, skip_whitespace}
 
--- ---- the search for the end of a comment, at the index i of what follows its "/*"
-pub record Seeking (s : List ℕ) (i : ℕ) : Type 0 where
-  pub within_text : i ≤ length s
-  pub left : comment_end (i + 2) (drop i s) ≡ comment_end 2 s
+-- ---- the returns of `match_comment`
+-- the library's test of the first two bytes
+opened : (s : List ℕ) → pointwise eqb (take 2 s) (solidus ∷ asterisk ∷ []) ≡ and (is (get_or s 0 0) solidus) (is (get_or s 1 0) asterisk)
+unfolding and is
+opened [] = refl
+opened (x ∷ []) = go (eqb x solidus)
+  where
+    go : (b : Bool) → (b && false) ≡ and b false
+    go true = refl
+    go false = refl
+opened (x ∷ y ∷ s) = go (eqb x solidus) (eqb y asterisk)
+  where
+    go : (b c : Bool) → (b && (c && true)) ≡ and b c
+    go true true = refl
+    go true false = refl
+    go false c = refl
 
-module _ (s : List ℕ) (i : ℕ) (c : Seeking s i) where
-  -- the text is at its end
-  pub seek-end : length s ≤ i → 0 ≡ comment_end 2 s
-  unfolding comment_end
-  seek-end h = let e : comment_end (i + 2) (drop i s) ≡ 0 = rw (drop_of_length-le s h) in sym e ∙ c.left
+-- where not both tests hold, no bytes are taken
+not-both : (a b : Bool) (n : ℕ) → and a b ≡ false → 0 ≡ pick a (pick b n 0) 0
+unfolding and pick
+not-both true true n e = never (sym e)
+not-both true false n e = refl
+not-both false b n e = refl
 
-  -- one byte, by whether a "*/" stands there
-  step : i < length s → (t : Bool) → and (is (get_or s i 0) asterisk) (is (get_or s (i + 1) 0) solidus) ≡ t
-      → comment_end (i + 2) (drop i s) ≡ pick t (i + 2 + 2) (comment_end (i + 2 + 1) (drop (i + 1) s))
-  unfolding comment_end
-  step l t e = rw (drop-cons s i 0 l, next s i, e, add-one i)
+module _ (s : List ℕ) where
+  -- behind "/*", the end that is found in the rest of the text is the comment's
+  pub comment-opened : (t : List ℕ) → (pointwise eqb (take 2 s) (solidus ∷ asterisk ∷ []) ≡ true) × (t ≡ drop 2 s) × (length t + 2 ≡ length s) → (x : Option ℕ) → x ≡ taken_answer (comment_end 2 t) → x ≡ taken_answer (comment_of s)
+  unfolding comment_of
+  comment-opened t h x ex =
+      let p = and-true _ _ (sym (opened s) ∙ h.0) in
+      ex ∙ ap (λ l. taken_answer (comment_end 2 l)) h.1 ∙ ap taken_answer (pick_true _ _ _ _ p.0 (pick_true _ _ _ _ p.1 refl))
 
-  -- where a "*/" stands at i, the comment ends behind it
-  pub seek_found : i < length s → get_or s i 0 ≡ asterisk → is (get_or s (i + 1) 0) solidus ≡ true → i + 4 ≡ comment_end 2 s
-  unfolding pick
-  seek_found l a b = let e = step l true (and_both _ _ (is-yes _ _ a) b) in let p = c.left in omega arith
-
-  -- where no "*/" stands at i, the search goes on behind i
-  on : i < length s → and (is (get_or s i 0) asterisk) (is (get_or s (i + 1) 0) solidus) ≡ false → Seeking s (i + 1)
-  unfolding pick
-  on l e =
-      let p : i + 1 + 2 ≡ i + 2 + 1 = omega arith in
-      record { within_text = omega arith; left = ap (λ n. comment_end n (drop (i + 1) s)) p ∙ sym (step l false e) ∙ c.left }
-
-  -- the search goes on behind i where no solidus follows the byte at i
-  pub seek-other : i < length s → is (get_or s (i + 1) 0) solidus ≡ false → Seeking s (i + 1)
-  seek-other l b = on l (and_right _ _ b)
-
-  -- where no asterisk stands at i, the search goes on behind i
-  pub seek-past : i < length s → ¬ (get_or s i 0 ≡ asterisk) → Seeking s (i + 1)
-  seek-past l a = on l (and_left _ _ (is-no _ _ a))
+  -- where it is not there, there is no comment
+  pub comment-none : pointwise eqb (take 2 s) (solidus ∷ asterisk ∷ []) ≡ false → None ≡ taken_answer (comment_of s)
+  unfolding comment_of
+  comment-none h = taken-none _ (not-both _ _ _ (sym (opened s) ∙ h))
 
 -- ---- what is read lies within the text
 -- the end of a comment does, where j bytes stand before
@@ -110,3 +120,97 @@ module _ (s : List ℕ) (at : ℕ) where
   -- skipping from a place within the text ends within the text
   pub skip-from-le : at ≤ length s → at + skip_whitespace (drop at s) ≤ length s
   skip-from-le h = omega (arith, skip-le (drop at s), length-drop at s)
+
+-- ---- the search as the library goes: by windows of two bytes
+-- a text's windows of two bytes
+unfoldable pub pairs : List ℕ → List (List ℕ)
+pairs [] = []
+pairs (x ∷ []) = []
+pairs (x ∷ y ∷ r) = (x ∷ y ∷ []) ∷ pairs (y ∷ r)
+
+-- fewer than two bytes have none
+pairs-none : (l : List ℕ) → length l < 2 → length (pairs l) ≡ 0
+unfolding pairs
+pairs-none [] h = refl
+pairs-none (x ∷ []) h = refl
+pairs-none (x ∷ y ∷ r) h = absurd (omega arith)
+
+-- two bytes or more have the first two, and those of what follows the first
+pairs-more : (l w t : List ℕ) → 2 ≤ length l → w ≡ take 2 l → t ≡ drop 1 l → pairs l ≡ w ∷ pairs t
+unfolding pairs
+pairs-more [] w t h e f = absurd (omega arith)
+pairs-more (x ∷ []) w t h e f = absurd (omega arith)
+pairs-more (x ∷ y ∷ r) w t h e f = rw (e, f) refl
+
+-- what the windows give
+pub windows-pairs : (s : Windows ℕ) (l : List ℕ) → windows_rest s ≡ l → windows_size s ≡ 2 → YieldsList windows_steps (λ x. x.now) s (pairs l)
+windows-pairs s l e f =
+    let P : Windows ℕ → Type 0 = λ u. windows_size u ≡ 2 in
+    rw (← e)
+    (YieldsList-from_shown_while windows_steps (λ x. x.now) (λ u. pairs (windows_rest u)) P
+    (λ u t p h. pairs-none _ (omega (arith, h.1.0, p)))
+    (λ u x t p h. (h.0 ∙ p, pairs-more _ _ _ (omega (arith, h.1.0, p)) (h.1.1 ∙ ap (λ n. take n (windows_rest u)) p) h.1.2))
+    s f)
+
+-- whether two bytes end a comment
+abbrev pub ends : List ℕ → Bool
+ends w = pointwise eqb w (asterisk ∷ solidus ∷ [])
+
+-- the first place, of one or more
+one-first : (m : ℕ) → ltb 0 (suc m) ≡ true
+one-first m = grind (arith, nat_tests)
+
+-- a place one behind, of one more
+one-behind : (n m : ℕ) → ltb (1 + n) (suc m) ≡ ltb n m
+one-behind n m = grind (arith, nat_tests)
+
+-- one window before those of which the first that ends the comment is the n-th
+window : (b : Bool) (j n m e : ℕ) → e ≡ cond (ltb n m) (j + 1 + n + 2) 0 → pick b (j + 2) e ≡ cond (ltb (cond (not b) (1 + n) 0) (suc m)) (j + cond (not b) (1 + n) 0 + 2) 0
+unfolding pick
+window true j n m e h =
+    let z : j + 2 ≡ j + 0 + 2 = omega arith in
+    z ∙ ap (λ (b : Bool). cond b (j + 0 + 2) 0) (sym (one-first m))
+window false j n m e h =
+    let q : j + 1 + n + 2 ≡ j + (1 + n) + 2 = omega arith in
+    h ∙ ap (λ (k : ℕ). cond (ltb n m) k 0) q ∙ ap (λ (b : Bool). cond b (j + (1 + n) + 2) 0) (sym (one-behind n m))
+
+-- a last byte ends none
+last-byte : (b : Bool) (j : ℕ) → pick (and b (is 0 solidus)) (j + 2) 0 ≡ 0
+unfolding pick and is
+last-byte true j = refl
+last-byte false j = refl
+
+-- the test of two bytes
+opened-end : (x y : ℕ) → ends (x ∷ y ∷ []) ≡ and (is x asterisk) (is y solidus)
+unfolding and is
+opened-end x y = go (eqb x asterisk) (eqb y solidus)
+  where
+    go : (b c : Bool) → (b && (c && true)) ≡ and b c
+    go true true = refl
+    go true false = refl
+    go false c = refl
+
+-- the end of a comment is two bytes behind the first window that ends it
+pub end-window : (s : List ℕ) (j : ℕ) → comment_end j s ≡ cond (ltb (position_or_len ends (pairs s)) (length (pairs s))) (j + position_or_len ends (pairs s) + 2) 0
+unfolding comment_end pairs
+end-window [] j = refl
+end-window (x ∷ []) j = last-byte (is x asterisk) j
+end-window (x ∷ y ∷ r) j = rw (sym (opened-end x y)) (window (ends (x ∷ y ∷ [])) j _ _ _ (end-window (y ∷ r) (j + 1)))
+
+module _ (s : List ℕ) (r : Option ℕ)
+    (e : r ≡ cond (ltb (position_or_len ends (pairs s)) (length (pairs s))) (Some (position_or_len ends (pairs s))) None) where
+  -- where no window is found, no comment ends
+  pub window-none : r ≡ None → None ≡ taken_answer (comment_end 2 s)
+  window-none h = taken-none _ (go (ltb (position_or_len ends (pairs s)) (length (pairs s))) _ (sym h ∙ e) ∙ sym (end-window s 2))
+    where
+      go : (b : Bool) (n : ℕ) → None ≡ cond b (Some n) None → 0 ≡ cond b (2 + n + 2) 0
+      go true n q = absurd (none-some _ q)
+      go false n q = refl
+
+  -- a window that is found ends it
+  pub window-some : (i : ℕ) → r ≡ Some i → Some (i + 4) ≡ taken_answer (comment_end 2 s)
+  window-some i h = taken-some _ _ (go (ltb (position_or_len ends (pairs s)) (length (pairs s))) _ (sym h ∙ e) ∙ sym (end-window s 2)) (λ z. omega arith)
+    where
+      go : (b : Bool) (n : ℕ) → Some i ≡ cond b (Some n) None → i + 4 ≡ cond b (2 + n + 2) 0
+      go true n q = let p : i ≡ n = same_Some _ _ q in omega (arith, p)
+      go false n q = absurd (none-some _ (sym q))

@@ -8,7 +8,7 @@ use lib.ListN.{drop}
 use Rattle.combinators.specs.Parsed.{Parsed, ok, err, behind, or_else}
 use Rattle.combinators.proofs.Rules.{pick-holds}
 use Rattle.characters.specs.Utf8.{is_scalar, scalar_of}
-use Rattle.characters.specs.declared.utf8.Scalar.{Scalar}
+use Rattle.combinators.specs.declared.taken.Taken.{Taken}
 use Rattle.characters.proofs.RoundTrip.{written_back}
 use Rattle.lexer.specs.Whitespace.{skip_whitespace}
 use Rattle.lexer.specs.Name.{ident_of, identstring_of}
@@ -91,7 +91,7 @@ module _ (c : ℕ) (h : is_scalar c ≡ true) where
 
 -- ---- the next token
 -- where no white space is
-at_only : (t : List ℕ) (x : Option Scalar) → scalar_of t ≡ x → Only (token_at t x)
+at_only : (t : List ℕ) (x : Option (Taken ℕ)) → scalar_of t ≡ x → Only (token_at t x)
 unfolding token_at
 at_only t (Some c) e = by_only c.value (written_back t c.taken c.value e).scalar (start_of c.value) c.taken t
 at_only t None h = λ n d e. cc

@@ -1,51 +1,23 @@
--- The loops over hex digits, and the returns of the readers of one character.
+-- How large the number is that hex digits write, and the returns of the readers of one character.
 use Rattle.std.proofs.Common.{Option, Some, None, MatchOption}
 use mathlib.Core.Path.{◌≡◌, refl, ap, sym, ◌∙◌}
-use mathlib.Core.List.{List}
-use mathlib.Core.Bool.{Bool, true, false}
+use mathlib.Core.List.{List, [], ◌∷◌}
+use mathlib.Core.Bool.{Bool, true, false, ◌&&◌}
 use Prim.Native.Nat.{ℕ, zero, suc, ◌+◌, ◌-◌, ◌*◌, ◌<◌, ◌≤◌}
 use native.Mathlib.Numerals.{add-one}
 use native.Mathlib.Nat.{add-zero}
 use native.Mathlib.Omega.{arith}
+use lib.Dec.{eqb}
+use lib.Pointwise.{pointwise}
 use lib.ListN.{length, get_or, take, drop}
 use lib.Seq.{drop-drop}
-use Rattle.combinators.specs.Choice.{pick, is}
+use Rattle.combinators.specs.Choice.{is}
 use Rattle.combinators.specs.Ascii.{digit_zero, digit_nine, capital_a, capital_f, small_a, small_f, reverse_solidus}
 use Rattle.combinators.proofs.Rules.{cases, pick-holds, pick_true, pick-false, told, is-no, is-yes-of, is-no-of, within-true}
-use Rattle.combinators.proofs.Lists.{byte-there, rest, first}
+use Rattle.combinators.proofs.Lists.{first}
 use Rattle.characters.specs.Utf8.{or_replacement, scalar_of, replacement_character}
-use Rattle.characters.specs.declared.utf8.Scalar.{Scalar}
+use Rattle.combinators.specs.declared.taken.Taken.{Taken}
 use Rattle.lexer.specs.Name.{lower, is_hex_digit, hex_digit, hex_run, maximum_digits, hex_count, hex_value, escaped_of, ident_escape_of, behind_one, folded_char, either}
-
--- ---- the loop of `hex_run`: at i, what is left to count, with what was counted, is the whole
-pub record Counting (s : List ℕ) (i : ℕ) : Type 0 where
-  pub left : hex_run 0 maximum_digits s ≡ hex_run i (maximum_digits - i) (drop i s)
-  pub bound : i ≤ maximum_digits
-
-module _ (s : List ℕ) (i : ℕ) (c : Counting s i) where
-  -- one byte of a text
-  step : (n : ℕ) (l : List ℕ) → hex_run i (suc n) l ≡ pick (is_hex_digit (get_or l 0 0)) (hex_run (i + 1) n (drop 1 l)) i
-  unfolding hex_run
-  step n l = refl
-
-  -- the byte at i ends the run, or is counted where it is a hex digit
-  turn : i < maximum_digits → hex_run 0 maximum_digits s ≡ pick (is_hex_digit (get_or s i 0)) (hex_run (i + 1) (maximum_digits - (i + 1)) (drop (i + 1) s)) i
-  turn h =
-      let d : maximum_digits - i ≡ suc (maximum_digits - (i + 1)) = omega arith in
-      c.left ∙ ap (λ k. hex_run i k (drop i s)) d ∙ step (maximum_digits - (i + 1)) (drop i s) ∙ rw (first s i, drop-drop 1 i s)
-
-  -- it is a hex digit
-  pub count-more : i < maximum_digits → is_hex_digit (get_or s i 0) ≡ true → Counting s (i + 1)
-  count-more h e = record { left = turn h ∙ sym (pick_true _ _ _ _ e refl); bound = omega arith }
-
-  -- where the byte at i is no hex digit, the run is the i digits counted so far
-  pub count-stop : i < maximum_digits → is_hex_digit (get_or s i 0) ≡ false → i ≡ hex_run 0 maximum_digits s
-  count-stop h e = sym (turn h ∙ sym (pick-false _ _ _ _ e refl))
-
-  -- with six digits counted the run ends
-  pub count-full : maximum_digits ≤ i → i ≡ hex_run 0 maximum_digits s
-  unfolding hex_run
-  count-full h = let d : maximum_digits - i ≡ 0 = omega arith in sym (rw d at c.left)
 
 -- ---- how large the number is that hex digits write
 -- what k of them write is below this
@@ -162,43 +134,53 @@ module _ (t : List ℕ) where
     other e = pick-false _ _ _ _ (is-no _ _ d) (pick-false _ _ _ _ (told _ _ _ (er ∙ ap is_hex_digit eb) e) refl)
 
     -- a character that is read behind the backslash is what the escape stands for
-    pub escaped-char : r ≡ false → (x : Option Scalar) → x ≡ scalar_of t → (n v : ℕ) → x ≡ Some (record { taken = n; value = v }) → Some (record { taken = 1 + n; value = v }) ≡ escaped_of t
+    pub escaped-char : r ≡ false → (x : Option (Taken ℕ)) → x ≡ scalar_of t → (n v : ℕ) → x ≡ Some (record { taken = n; value = v }) → Some (record { taken = 1 + n; value = v }) ≡ escaped_of t
     unfolding behind_one
     escaped-char e x ex n v h = ap behind_one (sym h ∙ ex) ∙ other e
 
     -- where no well-formed sequence stands behind the backslash, there is no escape
-    pub escaped-none : r ≡ false → (x : Option Scalar) → x ≡ scalar_of t → x ≡ None → None ≡ escaped_of t
+    pub escaped-none : r ≡ false → (x : Option (Taken ℕ)) → x ≡ scalar_of t → x ≡ None → None ≡ escaped_of t
     unfolding behind_one
     escaped-none e x ex h = ap behind_one (sym h ∙ ex) ∙ other e
 
--- ---- the returns of `ident_escape`: r says whether a backslash stands there
-module _ (s : List ℕ) (r : Bool) (er : r ≡ is (get_or s 0 0) reverse_solidus) where
-  -- behind a backslash, what `escaped` reads of the rest of the text is the escape
-  pub escape-yes : r ≡ true → (x : Option Scalar) → x ≡ escaped_of (take (length s - 1) (drop 1 s)) → x ≡ ident_escape_of s
-  unfolding ident_escape_of
-  escape-yes h x ex = pick_true _ _ _ _ (told _ _ _ er h) (ex ∙ ap escaped_of (rest s 1))
+-- ---- the returns of `ident_escape`
+-- the library's test of the first byte
+backslash-told : (s : List ℕ) → pointwise eqb (take 1 s) (reverse_solidus ∷ []) ≡ is (get_or s 0 0) reverse_solidus
+unfolding is
+backslash-told [] = refl
+backslash-told (x ∷ s) = go (eqb x reverse_solidus)
+  where
+    go : (b : Bool) → (b && true) ≡ b
+    go true = refl
+    go false = refl
 
-  -- where no backslash stands, there is no escape
-  pub escape-no : r ≡ false → None ≡ ident_escape_of s
-  unfolding ident_escape_of
-  escape-no h = pick-false _ _ _ _ (told _ _ _ er h) refl
+-- where no backslash stands, there is no escape
+pub escape-no : (s : List ℕ) (r : Bool) → r ≡ is (get_or s 0 0) reverse_solidus → r ≡ false → None ≡ ident_escape_of s
+unfolding ident_escape_of
+escape-no s r er h = pick-false _ _ _ _ (told _ _ _ er h) refl
 
-  -- a backslash that is found stands before the end of the text
-  pub escape-there : r ≡ true → 1 ≤ length s
-  escape-there h = byte-there s 0 reverse_solidus (omega arith) (told _ _ _ er h)
+-- as the library tells it
+pub escape-missing : (s : List ℕ) → pointwise eqb (take 1 s) (reverse_solidus ∷ []) ≡ false → None ≡ ident_escape_of s
+escape-missing s h = escape-no s _ (backslash-told s) h
+
+-- behind a backslash, what `escaped` reads of the rest of the text is the escape
+pub escape-yes : (s t : List ℕ) → (pointwise eqb (take 1 s) (reverse_solidus ∷ []) ≡ true) × (t ≡ drop 1 s) × (length t + 1 ≡ length s)
+    → (x : Option (Taken ℕ)) → x ≡ escaped_of t → x ≡ ident_escape_of s
+unfolding ident_escape_of
+escape-yes s t h x ex = pick_true _ _ _ _ (sym (backslash-told s) ∙ h.0) (ex ∙ ap escaped_of h.1)
 
 -- ---- the returns of `nmstart` and `nmchar`
-module _ (x a b : Option Scalar) (ex : x ≡ a) where
+module _ (x a b : Option (Taken ℕ)) (ex : x ≡ a) where
   -- where the first does not, the second is the answer
-  pub either_second : x ≡ None → (y : Option Scalar) → y ≡ b → y ≡ either a b
+  pub either_second : x ≡ None → (y : Option (Taken ℕ)) → y ≡ b → y ≡ either a b
   unfolding either
   either_second h y ey = rw (sym ex ∙ h) ey
 
   -- both at once, as `or_else` answers
-  pub either-by : {E : Type 0} (r : Option Scalar) → MatchOption x E (λ c. r ≡ Some c) → (E → r ≡ b) → r ≡ either a b
+  pub either-by : {E : Type 0} (r : Option (Taken ℕ)) → MatchOption x E (λ c. r ≡ Some c) → (E → r ≡ b) → r ≡ either a b
   unfolding either
   either-by {E = E} r m f = go x ex m
     where
-      go : (y : Option Scalar) → y ≡ a → MatchOption y E (λ c. r ≡ Some c) → r ≡ either a b
+      go : (y : Option (Taken ℕ)) → y ≡ a → MatchOption y E (λ c. r ≡ Some c) → r ≡ either a b
       go (Some c) e m = rw (← e) m
       go None e m = rw (← e) (f m)

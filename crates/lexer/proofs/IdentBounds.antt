@@ -8,7 +8,7 @@ use native.Mathlib.Omega.{arith}
 use lib.ListN.{length, take, drop}
 use Rattle.combinators.specs.Parsed.{Parsed, ok, err}
 use Rattle.combinators.proofs.Rules.{pick-holds, is_false}
-use Rattle.characters.specs.declared.utf8.Scalar.{Scalar}
+use Rattle.combinators.specs.declared.taken.Taken.{Taken}
 use Rattle.lexer.specs.Whitespace.{skip_whitespace}
 use Rattle.lexer.specs.Name.{nmstart_of, chars_end, chars_text, name_from, dash, name_of, chars_of, ident_of, identstring_of, name_answer}
 use Rattle.lexer.specs.declared.Written.{Written}
@@ -27,7 +27,7 @@ chars-fit : (t : List ℕ) → 1 ≤ chars_end t → Fits t (chars_end t) (chars
 chars-fit t h = record { some = h; within_text = chars-le t; bound = chars-bound t }
 
 -- by what starts the name
-name-at : (t : List ℕ) (x : Option Scalar) → nmstart_of (drop (dash t) t) ≡ x → name_of t ≡ name_from (take (dash t) t) (drop (dash t) t) x
+name-at : (t : List ℕ) (x : Option (Taken ℕ)) → nmstart_of (drop (dash t) t) ≡ x → name_of t ≡ name_from (take (dash t) t) (drop (dash t) t) x
 unfolding name_of
 name-at t x e = ap (name_from (take (dash t) t) (drop (dash t) t)) e
 
@@ -42,7 +42,7 @@ name-from b u i v n c e h =
 pub name-keeps : (t : List ℕ) → NameKeeps t (name_of t)
 name-keeps t = go (nmstart_of (drop (dash t) t)) refl
   where
-    go : (x : Option Scalar) → nmstart_of (drop (dash t) t) ≡ x → NameKeeps t (name_of t)
+    go : (x : Option (Taken ℕ)) → nmstart_of (drop (dash t) t) ≡ x → NameKeeps t (name_of t)
     go (Some c) h =
         let e = name-some t c.taken c.value h in
         rw e (chars-fit t (name-from _ _ c.taken c.value _ _ h (sym (name-at t _ h) ∙ e)))

@@ -8,6 +8,10 @@ use Prim.Native.Nat.{ℕ, ◌+◌, ◌-◌, ◌≤◌}
 use mir.Val.{bool_byte}
 use native.Mathlib.Nat.{zero-add}
 use native.Mathlib.Omega.{arith}
+use borrow.Author.Tests.{ltb-true}
+use Rattle.std.specs.Bool.{then_some}
+use Rattle.std.proofs.lemmas.Bool.{ltb-false}
+use lib.Dec.{ltb}
 use lib.ListN.{length, get_or, take, drop}
 use lib.Seq.{sets}
 use Rattle.combinators.specs.Choice.{pick, or, and, is, within}
@@ -16,7 +20,7 @@ use Rattle.combinators.specs.Parsed.{Parsed, ok, err, behind}
 use Rattle.combinators.proofs.Rules.{pick_true, pick-false, or_left, is_true, is-yes-of, is-no-of}
 use Rattle.combinators.proofs.Lists.{rest, inside, front-one, byte-there}
 use Rattle.characters.specs.Utf8.{utf8}
-use Rattle.characters.specs.declared.utf8.Scalar.{Scalar}
+use Rattle.combinators.specs.declared.taken.Taken.{Taken}
 use Rattle.lexer.specs.Whitespace.{skip_whitespace}
 use Rattle.lexer.specs.Name.{is_nmstart, is_nmchar, lower, nmstart_char_of, nmchar_char_of, ident_escape_of, either, nmstart_of, nmchar_of, chars_end, chars_text, name_from, dash, name_of, chars_of, name_answer, name_text}
 use Rattle.lexer.specs.declared.Written.{Written}
@@ -137,7 +141,7 @@ named-err : (p : Parsed (List ℕ)) → p ≡ err → (st z : List ℕ) (fill : 
 unfolding name_answer name_text
 named-err p e st z fill ez = rw e (refl, ez)
 
-module _ (t : List ℕ) (d : ℕ) (ed : d ≡ dash t) (x : Option Scalar) (ex : x ≡ nmstart_of (take (length t - d) (drop d t))) where
+module _ (t : List ℕ) (d : ℕ) (ed : d ≡ dash t) (x : Option (Taken ℕ)) (ex : x ≡ nmstart_of (take (length t - d) (drop d t))) where
   -- what the call on the rest of the text says of what stands behind the '-'
   started : nmstart_of (drop (dash t) t) ≡ x
   started = ap (λ k. nmstart_of (drop k t)) (sym ed) ∙ ap nmstart_of (sym (rest t d)) ∙ sym ex
@@ -151,18 +155,26 @@ module _ (t : List ℕ) (d : ℕ) (ed : d ≡ dash t) (x : Option Scalar) (ex : 
   not_named h st fill = named-err _ (name-none t (started ∙ h)) st st fill refl
 
 module _ (t st z : List ℕ) (fill i m : ℕ) (w : Emitted t st fill z i m) where
-  -- the return where one character or more was read: a name
-  pub chars-named : ¬ (i ≡ 0) → Named (chars_of t) st fill (Some (record { taken = i; length = m })) z
+  -- where one character or more was read, there is a name
+  chars-named : ¬ (i ≡ 0) → Named (chars_of t) st fill (Some (record { taken = i; length = m })) z
   unfolding chars_of
   chars-named d = named_ok _ _ _ (sym (pick-false _ _ _ _ (is-no-of _ _ _ w.0.0 d) refl)) st z fill i m w.0.0 w.0.1 w.1
 
   -- where the run of characters takes no byte, nothing is read and nothing was written
-  pub chars-not-named : i ≡ 0 → Named (chars_of t) st fill None z
+  chars-not-named : i ≡ 0 → Named (chars_of t) st fill None z
   unfolding chars_of
   chars-not-named h =
       let e : chars_end t ≡ 0 = sym w.0.0 ∙ h in
       let b = none_of t (chars_text t) (rw e at (chars-bound t)) in
       named-err _ (sym (pick_true _ _ _ _ (is-yes-of _ _ _ w.0.0 h) refl)) st z fill (w.1 ∙ ap (sets st fill) b)
+
+  -- the return, by whether it takes a byte
+  pub chars-read : Named (chars_of t) st fill (then_some (ltb 0 i) (record { taken = i; length = m })) z
+  chars-read = go (ltb 0 i) refl
+    where
+      go : (b : Bool) → ltb 0 i ≡ b → Named (chars_of t) st fill (then_some b (record { taken = i; length = m })) z
+      go true e = chars-named (λ h. let l = ltb-true 0 i e in omega arith)
+      go false e = chars-not-named (let l = ltb-false 0 i e in omega arith)
 
 -- ---- the returns of `parse_ident` and `parse_identstring`: the same behind white space
 -- a name behind k bytes takes these too, and has the same text in the store

@@ -13,18 +13,17 @@ use Rattle.combinators.specs.Ascii as ascii
 use Rattle.combinators.specs.Parsed.{Parsed, ok, err, behind}
 use Rattle.combinators.proofs.Lists.{rest}
 use Rattle.characters.specs.Utf8.{scalar_of}
-use Rattle.characters.specs.declared.utf8.Scalar.{Scalar}
+use Rattle.combinators.specs.declared.taken.Taken.{Taken}
 use Rattle.lexer.specs.Whitespace.{skip_whitespace}
 use Rattle.lexer.specs.Token.{Token, start_of, mark_of, token_by, token_at, token_of, coded, text_of, token_answer, token_text, lexed_answer}
 use Rattle.lexer.specs.declared.tokens.Lexed.{Lexed}
 use Rattle.lexer.specs.declared.tokens.Start.{Start}
-use Rattle.lexer.specs.declared.tokens.TokenRead.{TokenRead}
 use Rattle.lexer.specs.declared.tokens.Token as declared
 use Rattle.lexer.proofs.TokenAnswers.{Lexes, lexes-err}
 
 -- ---- `token_by`
 -- the reader that the character selects
-pub selected : (c n : ℕ) (t st z : List ℕ) (fill : ℕ) (r : Option TokenRead) (k k' : Start) → k ≡ start_of c → k ≡ k' → Lexes (token_by k' n c t) st fill r z
+pub selected : (c n : ℕ) (t st z : List ℕ) (fill : ℕ) (r : Option (Taken declared.Token)) (k k' : Start) → k ≡ start_of c → k ≡ k' → Lexes (token_by k' n c t) st fill r z
     → Lexes (token_by (start_of c) n c t) st fill r z
 selected c n t st z fill r k k' e h w = rw (sym e ∙ h) w
 
@@ -50,14 +49,14 @@ mark-text c =
     refl))))))))
 
 -- so the store is left alone
-pub mark-lexes : (c n : ℕ) (st : List ℕ) (fill : ℕ) (k : declared.Token) → k ≡ coded (mark_of c) → Lexes (ok n (mark_of c)) st fill (Some (record { taken = n; token = k })) st
+pub mark-lexes : (c n : ℕ) (st : List ℕ) (fill : ℕ) (k : declared.Token) → k ≡ coded (mark_of c) → Lexes (ok n (mark_of c)) st fill (Some (record { taken = n; value = k })) st
 unfolding token_answer token_text
-mark-lexes c n st fill k e = (ap (λ x. Some (record { taken = n; token = x })) e, sym (ap (sets st fill) (mark-text c)))
+mark-lexes c n st fill k e = (ap (λ x. Some (record { taken = n; value = x })) e, sym (ap (sets st fill) (mark-text c)))
 
 -- ---- `token_at`: by the character at the start, if there is one
-module _ (t st : List ℕ) (fill : ℕ) (x : Option Scalar) (ex : x ≡ scalar_of t) where
+module _ (t st : List ℕ) (fill : ℕ) (x : Option (Taken ℕ)) (ex : x ≡ scalar_of t) where
   -- the return where a character is there: the token by what it starts
-  pub at-char : (n c : ℕ) → x ≡ Some (record { taken = n; value = c }) → (r : Option TokenRead) (z : List ℕ) → Lexes (token_by (start_of c) n c t) st fill r z
+  pub at-char : (n c : ℕ) → x ≡ Some (record { taken = n; value = c }) → (r : Option (Taken declared.Token)) (z : List ℕ) → Lexes (token_by (start_of c) n c t) st fill r z
       → Lexes (token_at t (scalar_of t)) st fill r z
   unfolding token_at
   at-char n c h r z w = rw (sym ex ∙ h) w
@@ -73,12 +72,12 @@ abbrev pub LexedAs : ℕ → Parsed Token → List ℕ → ℕ → Option Lexed 
 LexedAs w p st fill r z = (r ≡ lexed_answer w p) × (z ≡ sets st fill (token_text p))
 
 -- a token of n bytes behind k bytes of white space starts at k and ends at k + n
-lexed-ok : (p : Parsed Token) (k n : ℕ) (st z : List ℕ) (fill : ℕ) (x : declared.Token) → Lexes p st fill (Some (record { taken = n; token = x })) z
+lexed-ok : (p : Parsed Token) (k n : ℕ) (st z : List ℕ) (fill : ℕ) (x : declared.Token) → Lexes p st fill (Some (record { taken = n; value = x })) z
     → LexedAs k (behind k p) st fill (Some (record { start = k; end = k + n; token = x })) z
 unfolding behind token_answer token_text lexed_answer
 lexed-ok (ok i y) k n st z fill x w =
-    let q : record { taken = n; token = x } ≡ record { taken = i; token = coded y } = same_Some _ _ w.0 in
-    (ap (λ r. Some (record { start = k; end = k + r.taken; token = r.token })) q, w.1)
+    let q : record { taken = n; value = x } ≡ record { taken = i; value = coded y } = same_Some _ _ w.0 in
+    (ap (λ r. Some (record { start = k; end = k + r.taken; token = r.value })) q, w.1)
 lexed-ok err k n st z fill x w = absurd (none-some _ (sym w.0))
 
 -- where there is no token behind the white space, there is no next token
@@ -87,14 +86,14 @@ unfolding behind token_answer token_text lexed_answer
 lexed-err (ok i y) k st z fill w = absurd (none-some _ w.0)
 lexed-err err k st z fill w = (refl, w.1)
 
-module _ (s : List ℕ) (k : ℕ) (ek : k ≡ skip_whitespace s) (x : Option TokenRead) (st z : List ℕ) (fill : ℕ)
+module _ (s : List ℕ) (k : ℕ) (ek : k ≡ skip_whitespace s) (x : Option (Taken declared.Token)) (st z : List ℕ) (fill : ℕ)
     (w : Lexes (token_at (take (length s - k) (drop k s)) (scalar_of (take (length s - k) (drop k s)))) st fill x z) where
   -- what the call on the rest of the text says of it
   lent-part : Lexes (token_at (drop k s) (scalar_of (drop k s))) st fill x z
   lent-part = rw (rest s k) at w
 
   -- a token that is read behind the white space is the next token of the text, and starts where the white space ends
-  pub lexed : (n : ℕ) (y : declared.Token) → x ≡ Some (record { taken = n; token = y }) → LexedAs (skip_whitespace s) (token_of s) st fill (Some (record { start = k; end = k + n; token = y })) z
+  pub lexed : (n : ℕ) (y : declared.Token) → x ≡ Some (record { taken = n; value = y }) → LexedAs (skip_whitespace s) (token_of s) st fill (Some (record { start = k; end = k + n; token = y })) z
   unfolding token_of
   lexed n y h = rw (← ek) (lexed-ok _ k n st z fill y (rw h at lent-part))
 

@@ -1,6 +1,8 @@
 pub mod Comments
 pub mod SyntaxWhitespace
+pub mod Taken
 pub mod Digits
+pub mod Prefixes
 pub mod Bounds
 pub mod Writing
 pub mod Quotes

@@ -1,4 +1,6 @@
 -- The characters of a quoted string: what one takes and stands for, where the string ends, and how long its text is.
+use Rattle.std.proofs.lemmas.Option.{same_Some, none-some}
+use Rattle.std.proofs.Common.{Option, Some, None}
 use mathlib.Core.Path.{◌≡◌, refl, sym, ap, ◌∙◌}
 use mathlib.Core.List.{List, [], ◌∷◌}
 use mathlib.Core.Logic.{◌⊎◌, inl, inr, ⊎_elim}
@@ -10,42 +12,44 @@ use Rattle.combinators.specs.Ascii.{line_feed}
 use Rattle.combinators.specs.Repeat.{many}
 use Rattle.combinators.specs.Store.{Store, emits}
 use Rattle.combinators.proofs.Rules.{pick-holds, is_true, is_false}
-use Rattle.combinators.proofs.Lists.{rest, first, nil-of}
+use Rattle.combinators.proofs.Lists.{rest, first}
 use Rattle.combinators.proofs.Repeats.{many-le}
 use Rattle.combinators.proofs.Emitted.{emits_none}
-use Rattle.lexer.specs.Quoted.{escaped_byte, quoted_of, taken_of, text_of, quoted_taken, quoted_text, string_end, string_text}
+use Rattle.lexer.specs.Quoted.{escaped_byte, quoted_of, taken_of, text_of, quoted_answer, quoted_taken, quoted_text, string_end, string_text}
 use Rattle.lexer.specs.declared.strings.Quoted.{Quoted}
-use Rattle.lexer.specs.declared.strings.Quoted.TheVariants.{Byte, Skip, Stop}
+use Rattle.lexer.specs.declared.strings.Quoted.TheVariants.{Byte, Skip}
+use Rattle.lexer.specs.declared.Written.{Written}
 use Rattle.lexer.proofs.Bounds.{repeated-short, many-stops}
-use Rattle.lexer.proofs.Writing.{Writing, Wrote, writing_more, writing-none, writing-end}
+use Rattle.lexer.proofs.Writing.{Writing, Wrote, writing_more, writing-none}
 
 -- a character takes no more than there is, and stands for no more than it takes
-record Fine (s : List ℕ) (c : Quoted) : Type 0 where
+record Fine (s : List ℕ) (c : Option Quoted) : Type 0 where
   pub within_text : taken_of c ≤ length s
   pub small : length (text_of c) ≤ taken_of c
+  pub some : (k : Quoted) → c ≡ Some k → 1 ≤ taken_of c
 
 -- by the cases of a turn
-fine-byte : (s : List ℕ) (n b : ℕ) → n ≤ length s → 1 ≤ n → Fine s (Byte n b)
+fine-byte : (s : List ℕ) (n b : ℕ) → n ≤ length s → 1 ≤ n → Fine s (Some (Byte n b))
 unfolding taken_of text_of
-fine-byte s n b h l = record { within_text = h; small = l }
+fine-byte s n b h l = record { within_text = h; small = l; some = λ _ _. l }
 
 -- bytes that stand for nothing, no more than there are, are fine
-fine-skip : (s : List ℕ) (n : ℕ) → n ≤ length s → Fine s (Skip n)
+fine-skip : (s : List ℕ) (n : ℕ) → n ≤ length s → 1 ≤ n → Fine s (Some (Skip n))
 unfolding taken_of text_of
-fine-skip s n h = record { within_text = h; small = omega arith }
+fine-skip s n h l = record { within_text = h; small = omega arith; some = λ _ _. l }
 
 -- the end of a string, which takes nothing, is fine
-fine-stop : (s : List ℕ) → Fine s Stop
+fine-stop : (s : List ℕ) → Fine s None
 unfolding taken_of text_of
-fine-stop s = record { within_text = omega arith; small = omega arith }
+fine-stop s = record { within_text = omega arith; small = omega arith; some = λ _ e. absurd (none-some _ e) }
 
 -- what stands behind a backslash takes no more than there is, and stands for no more than it takes
-fine-escaped : (s : List ℕ) → ¬ (length s ≡ 0) → Fine s (escaped_byte s)
+fine-escaped : (s : List ℕ) → ¬ (length s ≡ 0) → Fine s (Some (escaped_byte s))
 unfolding escaped_byte
 fine-escaped s h =
-    pick-holds (Fine s) _ _ _ (λ _. fine-skip s 1 (omega arith))
+    pick-holds (λ c. Fine s (Some c)) _ _ _ (λ _. fine-skip s 1 (omega arith) (omega arith))
     (λ e. let d = is_false _ _ e in
-    pick-holds (Fine s) _ _ _ (λ _. fine-skip s 2 (omega arith)) (λ _. fine-byte s 2 _ (omega arith) (omega arith)))
+    pick-holds (λ c. Fine s (Some c)) _ _ _ (λ _. fine-skip s 2 (omega arith) (omega arith)) (λ _. fine-byte s 2 _ (omega arith) (omega arith)))
 
 -- every character of a string takes no more than there is, and stands for no more than it takes
 fine : (q : ℕ) (s : List ℕ) → Fine s (quoted_of q s)
@@ -68,21 +72,41 @@ unfolding quoted_taken quoted_text
 quoted-short q s = (fine q s).small
 
 -- ---- the returns of `emit_quoted`
-module _ (q : ℕ) (s : List ℕ) (c : Quoted) (e : c ≡ quoted_of q s) where
+module _ (q : ℕ) (s : List ℕ) (x : Option Quoted) (e : x ≡ quoted_of q s) where
   -- where a byte of text was read: so many bytes are taken, for one byte
-  pub turn_byte : (n x : ℕ) → c ≡ Byte n x → (n ≡ quoted_taken q s) × (1 ≡ length (quoted_text q s)) × (x ∷ [] ≡ quoted_text q s)
-  unfolding quoted_taken quoted_text taken_of text_of
-  turn_byte n x h = rw (← e, h) (refl, refl, refl)
+  pub turn_byte : (c : Quoted) → x ≡ Some c → (n b : ℕ) → c ≡ Byte n b
+      → (Some (record { taken = n; length = 1 }) ≡ quoted_answer (quoted_of q s)) × (b ∷ [] ≡ quoted_text q s)
+  unfolding quoted_answer quoted_text text_of
+  turn_byte c h n b k = rw (← e, h, k) (refl, refl)
 
   -- bytes that stand for nothing
-  pub turn-skip : (n : ℕ) → c ≡ Skip n → (n ≡ quoted_taken q s) × (0 ≡ length (quoted_text q s)) × ([] ≡ quoted_text q s)
-  unfolding quoted_taken quoted_text taken_of text_of
-  turn-skip n h = rw (← e, h) (refl, refl, refl)
+  pub turn-skip : (c : Quoted) → x ≡ Some c → (n : ℕ) → c ≡ Skip n
+      → (Some (record { taken = n; length = 0 }) ≡ quoted_answer (quoted_of q s)) × ([] ≡ quoted_text q s)
+  unfolding quoted_answer quoted_text text_of
+  turn-skip c h n k = rw (← e, h, k) (refl, refl)
 
   -- the end of the string
-  pub turn-stop : c ≡ Stop → (0 ≡ quoted_taken q s) × (0 ≡ length (quoted_text q s)) × ([] ≡ quoted_text q s)
-  unfolding quoted_taken quoted_text taken_of text_of
-  turn-stop h = rw (← e, h) (refl, refl, refl)
+  pub turn-stop : x ≡ None → (None ≡ quoted_answer (quoted_of q s)) × ([] ≡ quoted_text q s)
+  unfolding quoted_answer quoted_text text_of
+  turn-stop h = rw (← e, h) (refl, refl)
+
+-- what an answer says of the character
+answer-some : (c : Option Quoted) (k m : ℕ) → Some (record { taken = k; length = m }) ≡ quoted_answer c → (taken_of c ≡ k) × (m ≡ length (text_of c)) × (¬ (c ≡ None))
+unfolding quoted_answer taken_of text_of
+answer-some (Some (Byte n b)) k m e =
+    let q : record { taken = k; length = m } ≡ record { taken = n; length = 1 } = same_Some _ _ e in
+    (sym (ap (λ w. w.taken) q), ap (λ w. w.length) q, (λ z. none-some _ (sym z)))
+answer-some (Some (Skip n)) k m e =
+    let q : record { taken = k; length = m } ≡ record { taken = n; length = 0 } = same_Some _ _ e in
+    (sym (ap (λ w. w.taken) q), ap (λ w. w.length) q, (λ z. none-some _ (sym z)))
+answer-some None k m e = absurd (none-some _ (sym e))
+
+-- where there is no answer, the string is at its end
+answer-none : (c : Option Quoted) → None ≡ quoted_answer c → c ≡ None
+unfolding quoted_answer
+answer-none (Some (Byte n b)) e = absurd (none-some _ e)
+answer-none (Some (Skip n)) e = absurd (none-some _ e)
+answer-none None e = refl
 
 -- nothing is written where the text is empty
 pub kept : (o : Store ℕ) (t : List ℕ) → [] ≡ t → o ≡ emits o t
@@ -104,24 +128,34 @@ string-short q s = repeated-short (quoted_taken q) (quoted_text q) (quoted-le q)
 abbrev Ends : ℕ → List ℕ → Type 0
 Ends q s = (length s ≡ 0) ⊎ ((get_or s 0 0 ≡ q) ⊎ (get_or s 0 0 ≡ line_feed))
 
--- an escape takes a byte
-escaped-some : (s : List ℕ) → ¬ (taken_of (escaped_byte s) ≡ 0)
-unfolding escaped_byte taken_of
-escaped-some s =
-    pick-holds (λ c. ¬ (taken_of c ≡ 0)) _ _ _ (λ _ e. omega arith)
-    (λ _. pick-holds (λ c. ¬ (taken_of c ≡ 0)) _ _ _ (λ _ e. omega arith) (λ _ e. omega arith))
+-- a character takes a byte
+quoted-some : (q : ℕ) (s : List ℕ) → ¬ (quoted_of q s ≡ None) → ¬ (quoted_taken q s ≡ 0)
+unfolding quoted_taken
+quoted-some q s d = go (quoted_of q s) d (fine q s)
+  where
+    go : (c : Option Quoted) → ¬ (c ≡ None) → Fine s c → ¬ (taken_of c ≡ 0)
+    go (Some c) d f z = let l = f.some c refl in omega arith
+    go None d f z = d refl
 
 -- by the tests of one turn
-quoted-stop : (q : ℕ) (s : List ℕ) → quoted_taken q s ≡ 0 → Ends q s
-unfolding quoted_taken quoted_of taken_of
+quoted-stop : (q : ℕ) (s : List ℕ) → quoted_of q s ≡ None → Ends q s
+unfolding quoted_of
 quoted-stop q s =
     pick-holds P _ _ _ (λ e _. inl (is_true _ _ e))
     (λ _. pick-holds P _ _ _ (λ e _. inr (inl (is_true _ _ e)))
     (λ _. pick-holds P _ _ _ (λ e _. inr (inr (is_true _ _ e)))
-    (λ _. pick-holds P _ _ _ (λ _ e. absurd (escaped-some s e)) (λ _ e. absurd (omega arith)))))
+    (λ _. pick-holds P _ _ _ (λ _ e. absurd (none-some _ (sym e))) (λ _ e. absurd (none-some _ (sym e))))))
   where
-    P : Quoted → Type 0
-    P c = taken_of c ≡ 0 → Ends q s
+    P : Option Quoted → Type 0
+    P c = c ≡ None → Ends q s
+
+-- a character that takes nothing is none
+taken-stop : (q : ℕ) (s : List ℕ) → quoted_taken q s ≡ 0 → quoted_of q s ≡ None
+taken-stop q s h = go (quoted_of q s) refl
+  where
+    go : (c : Option Quoted) → quoted_of q s ≡ c → quoted_of q s ≡ None
+    go (Some c) e = absurd (quoted-some q s (λ z. none-some _ (sym z ∙ e)) h)
+    go None e = e
 
 -- a string ends at the end of the text, at the quote or at a line feed
 pub string-at : (q : ℕ) (s : List ℕ) → (string_end q s ≡ length s) ⊎ ((get_or s (string_end q s) 0 ≡ q) ⊎ (get_or s (string_end q s) 0 ≡ line_feed))
@@ -130,7 +164,7 @@ string-at q s =
     let m = many (quoted_taken q) 0 0 s in
     ⊎_elim inl
     (λ z. ⊎_elim (λ e. inl (omega (arith, length-drop m s, e, many-le (quoted_taken q) s 0 0)))
-    (λ h. inr (rw (first s m) at h)) (quoted-stop q (drop m s) z))
+    (λ h. inr (rw (first s m) at h)) (quoted-stop q (drop m s) (taken-stop q (drop m s) z)))
     (many-stops (quoted_taken q) s)
 
 -- ---- the loop of `emit_string`
@@ -144,33 +178,38 @@ unfolding string_end string_text
 string-wrote q s v w i n e = ((e.0, e.1), e.2)
 
 module _ (q : ℕ) (s : List ℕ) (v w : Store ℕ) (i n : ℕ) (c : Writing (quoted_taken q) (quoted_text q) s v w i n) where
-  -- at the end of the text the string ends: what was taken and written is all of it
-  pub string-done : length s ≤ i → Ended q s v w.bytes i n
-  string-done h = string-wrote q s v w i n (writing-end _ _ _ _ _ _ _ c h)
-
   -- the text so far is no longer than the whole
   pub string-small : n ≤ length s
   unfolding string_end string_text
   string-small = let l = string-short q s in let h = string-le q s in omega (arith, c.text)
 
-  -- a turn that takes k bytes for m bytes of text is lent the rest of the text
-  module _ (k m : ℕ) (x : Store ℕ) (t : (k ≡ quoted_taken q (take (length s - i) (drop i s))) × (m ≡ length (quoted_text q (take (length s - i) (drop i s)))))
+  -- a turn is lent the rest of the text
+  module _ (y : Option Written) (x : Store ℕ) (ey : y ≡ quoted_answer (quoted_of q (take (length s - i) (drop i s))))
       (ex : x ≡ emits w (quoted_text q (take (length s - i) (drop i s)))) where
-    taken : k ≡ quoted_taken q (drop i s)
-    taken = rw (rest s i) at t.0
-
-    long : m ≡ length (quoted_text q (drop i s))
-    long = rw (rest s i) at t.1
+    answered : y ≡ quoted_answer (quoted_of q (drop i s))
+    answered = rw (rest s i) at ey
 
     stored : x ≡ emits w (quoted_text q (drop i s))
     stored = rw (rest s i) at ex
 
-    -- behind a turn that takes k bytes, not 0, what is left to read and to write has the result of the whole
-    pub string-more : ¬ (k ≡ 0) → Writing (quoted_taken q) (quoted_text q) s v x (i + k) (n + m)
-    string-more d = writing_more _ _ _ _ _ _ _ c k m x (sym taken) (omega (arith, taken, quoted-le q (drop i s))) d long stored
+    -- a turn that answers takes a byte
+    pub string-some : (k m : ℕ) → y ≡ Some (record { taken = k; length = m }) → ¬ (k ≡ 0)
+    unfolding quoted_taken
+    string-some k m h z =
+        let a = answer-some (quoted_of q (drop i s)) k m (sym h ∙ answered) in
+        quoted-some q (drop i s) a.2 (a.0 ∙ z)
 
-    -- a turn that takes nothing ends the string: what was taken and written is all of it
-    pub string-stop : k ≡ 0 → Ended q s v x.bytes i n
+    -- behind a turn that takes k bytes for m bytes of text, what is left to read and to write has the result of the whole
+    pub string-more : (k m : ℕ) → y ≡ Some (record { taken = k; length = m }) → Writing (quoted_taken q) (quoted_text q) s v x (i + k) (n + m)
+    unfolding quoted_taken quoted_text
+    string-more k m h =
+        let a = answer-some (quoted_of q (drop i s)) k m (sym h ∙ answered) in
+        writing_more _ _ _ _ _ _ _ c k m x a.0 (omega (arith, a.0, quoted-le q (drop i s)))
+        (string-some k m h) a.1 stored
+
+    -- where a turn answers none, the string ends: what was taken and written is all of it
+    pub string-stop : y ≡ None → Ended q s v x.bytes i n
+    unfolding quoted_taken quoted_text taken_of text_of
     string-stop h =
-        let e = nil-of (quoted_text q (drop i s)) (omega (arith, taken, quoted-short q (drop i s))) in
-        string-wrote q s v x i n (writing-none _ _ _ _ _ _ _ c k x taken h e stored)
+        let e = answer-none (quoted_of q (drop i s)) (sym h ∙ answered) in
+        string-wrote q s v x i n (writing-none _ _ _ _ _ _ _ c 0 x (sym (ap taken_of e)) refl (ap text_of e) stored)

@@ -62,12 +62,12 @@ or-order false false true = refl
 or-order false false false = refl
 
 -- the document's ident-start code points are the characters that start a name
-start_is : (x : ℕ) → ident_start x ≡ is_nmstart x
+pub start_is : (x : ℕ) → ident_start x ≡ is_nmstart x
 unfolding ident_start letter is_nmstart
 start_is x = or-order _ _ _
 
 -- and its ident code points are the characters of names
-code-point-is : (x : ℕ) → ident_code_point x ≡ is_nmchar x
+pub code-point-is : (x : ℕ) → ident_code_point x ≡ is_nmchar x
 unfolding ident_code_point is_nmchar
 code-point-is x = ap (λ b. or b (or (within x digit_zero digit_nine) (is x hyphen_minus))) (start_is x)
 

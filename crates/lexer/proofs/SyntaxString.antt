@@ -1,5 +1,6 @@
 -- CSS Syntax Level 3, 4.3.5 'Consume a string token': a code point that is not the ending one, a newline or a backslash stands for
 -- itself; the ending code point, a newline and the end of the text end the string.
+use Rattle.std.proofs.Common.{Some, None}
 use mathlib.Core.Path.{◌≡◌, refl, ap, sym, ◌∙◌}
 use mathlib.Core.List.{List, [], ◌∷◌, ◌++◌, append-nil}
 use mathlib.Core.Bool.{Bool, true, false, not}
@@ -7,13 +8,14 @@ use Prim.Native.Nat.{ℕ, suc, ◌+◌}
 use native.Mathlib.Nat.{add-zero}
 use native.Mathlib.Omega.{arith}
 use lib.ListN.{length}
+use borrow.Author.Tests.{not-true}
 use Rattle.combinators.specs.Choice.{pick, and, is}
 use Rattle.combinators.specs.Ascii.{line_feed, reverse_solidus}
 use Rattle.combinators.specs.Repeat.{many, texts, took}
 use Rattle.combinators.proofs.Rules.{pick-holds, pick_true, pick-false, and-true, is-yes, is-no}
 use Rattle.combinators.proofs.Repeats.{many-stop, texts-stop}
 use Rattle.lexer.specs.Quoted.{quoted_of, taken_of, text_of, quoted_taken, quoted_text, string_end, string_text}
-use Rattle.lexer.specs.declared.strings.Quoted.TheVariants.{Byte, Stop}
+use Rattle.lexer.specs.declared.strings.Quoted.TheVariants.{Byte}
 
 -- x is not the quote q, a newline or a backslash
 unfoldable pub ordinary : ℕ → ℕ → Bool
@@ -24,22 +26,17 @@ unfoldable pub plain : ℕ → List ℕ → Bool
 plain q [] = true
 plain q (x ∷ r) = and (ordinary q x) (plain q r)
 
--- a test whose negation holds fails
-untrue : (b : Bool) → not b ≡ true → b ≡ false
-untrue true e = sym e
-untrue false e = refl
-
 -- an ordinary byte is read as itself
-itself : (q x : ℕ) (r : List ℕ) → ordinary q x ≡ true → Byte 1 x ≡ quoted_of q (x ∷ r)
+itself : (q x : ℕ) (r : List ℕ) → ordinary q x ≡ true → Some (Byte 1 x) ≡ quoted_of q (x ∷ r)
 unfolding ordinary quoted_of
 itself q x r h =
     let p = and-true (not (is x q)) _ h in
     let p' = and-true (not (is x line_feed)) _ p.1 in
     let filled : is (suc (length r)) 0 ≡ false = is-no _ _ (λ e. omega arith) in
     pick-false _ _ _ _ filled
-    (pick-false _ _ _ _ (untrue _ p.0)
-    (pick-false _ _ _ _ (untrue _ p'.0)
-    (pick-false _ _ _ _ (untrue _ p'.1) refl)))
+    (pick-false _ _ _ _ (not-true _ p.0)
+    (pick-false _ _ _ _ (not-true _ p'.0)
+    (pick-false _ _ _ _ (not-true _ p'.1) refl)))
 
 -- it takes one byte and stands for itself
 itself-read : (q x : ℕ) (r : List ℕ) → ordinary q x ≡ true → (quoted_taken q (x ∷ r) ≡ 1) × (quoted_text q (x ∷ r) ≡ x ∷ [])
@@ -72,14 +69,14 @@ reads-itself q body t h e = (plain_end q body t 0 h e ∙ omega arith, plain-tex
 stop-quote : (q : ℕ) (t : List ℕ) → quoted_taken q (q ∷ t) ≡ 0
 unfolding quoted_taken quoted_of taken_of
 stop-quote q t =
-    ap taken_of (sym (pick-false Stop _ _ _ (is-no (suc (length t)) 0 (λ e. omega arith)) (pick_true _ _ _ _ (is-yes q q refl) refl)))
+    ap taken_of (sym (pick-false None _ _ _ (is-no (suc (length t)) 0 (λ e. omega arith)) (pick_true _ _ _ _ (is-yes q q refl) refl)))
 
 -- no character of a string begins with a newline
 stop-newline : (q : ℕ) (t : List ℕ) → quoted_taken q (line_feed ∷ t) ≡ 0
 unfolding quoted_taken quoted_of taken_of is pick
 stop-newline q t =
-    pick-holds (λ c. taken_of c ≡ 0) (is (suc (length t)) 0) Stop _ (λ _. refl)
-    (λ _. pick-holds (λ c. taken_of c ≡ 0) (is line_feed q) Stop Stop (λ _. refl) (λ _. refl))
+    pick-holds (λ c. taken_of c ≡ 0) (is (suc (length t)) 0) None _ (λ _. refl)
+    (λ _. pick-holds (λ c. taken_of c ≡ 0) (is line_feed q) None None (λ _. refl) (λ _. refl))
 
 -- nor at the end of the text
 stop-empty : (q : ℕ) → quoted_taken q [] ≡ 0

@@ -5,7 +5,7 @@ use mathlib.Core.Path.{◌≡◌, refl, ap, sym, ◌∙◌}
 use mathlib.Core.List.{List, [], ◌++◌}
 use Prim.Native.Nat.{ℕ, ◌+◌, ◌<◌, ◌≤◌}
 use native.Mathlib.Omega.{arith}
-use lib.ListN.{length, get_or, take, drop, length-drop}
+use lib.ListN.{length, get_or, take, drop, length-drop, length-append}
 use lib.Seq.{length-take-le}
 use Rattle.combinators.specs.Ascii.{percent_sign, left_parenthesis}
 use Rattle.combinators.specs.Parsed.{Parsed, ok, err, on_parsed, or_else}
@@ -13,16 +13,16 @@ use Rattle.combinators.proofs.Rules.{pick-holds, is_false}
 use Rattle.combinators.proofs.Lists.{byte-there}
 use Rattle.combinators.proofs.Words.{starts-le}
 use Rattle.characters.specs.Utf8.{scalar_of}
-use Rattle.characters.specs.declared.utf8.Scalar.{Scalar}
+use Rattle.combinators.specs.declared.taken.Taken.{Taken}
 use Rattle.characters.proofs.Scalars.{scalar-some}
 use Rattle.lexer.specs.Whitespace.{skip_whitespace}
 use Rattle.lexer.specs.Name.{ident_of, identstring_of}
 use Rattle.lexer.specs.Number as numbers
 use Rattle.lexer.specs.Quoted.{string_end, string_text}
-use Rattle.lexer.specs.Token.{Token, numeric_from, numeric_of, ident_like_of, string_from, string_of, start_of, hash_of, plus_of, minus_of, less_of, token_by, token_at, token_of, text_of, token_answer, delim}
+use Rattle.lexer.specs.Token.{Token, numeric_from, numeric_of, ident_like_of, string_from, string_of, start_of, hash_of, plus_of, minus_of, less_of, token_by, token_at, token_of, text_of, token_answer, delim, coded, length_by}
+use Rattle.lexer.specs.Token as token
 use Rattle.lexer.specs.declared.tokens.Start.{Start}
 use Rattle.lexer.specs.declared.tokens.Start.TheVariants.{Quote, Hash, Plus, Minus, Dot, Less, Backslash, Letter, Digit, Other}
-use Rattle.lexer.specs.declared.tokens.TokenRead.{TokenRead}
 use Rattle.lexer.specs.declared.tokens.Token as declared
 use Rattle.lexer.proofs.Comments.{skip-le}
 use Rattle.lexer.proofs.Digits.{number-le}
@@ -164,7 +164,7 @@ module _ (c n : ℕ) (t : List ℕ) (i : 1 ≤ n) (h : n ≤ length t) where
 
 -- ---- the next token
 -- where no white space is
-pub at-bounded : (t : List ℕ) (x : Option Scalar) → scalar_of t ≡ x → Bounded t (token_at t x)
+pub at-bounded : (t : List ℕ) (x : Option (Taken ℕ)) → scalar_of t ≡ x → Bounded t (token_at t x)
 unfolding token_at
 at-bounded t (Some c) e = let r = scalar-some t c.taken c.value e in by-bounded c.value c.taken t r.0 r.1 (start_of c.value)
 at-bounded t None e = tt
@@ -180,7 +180,31 @@ pub token-fits : (s : List ℕ) (n : ℕ) (k : Token) → token_of s ≡ ok n k 
 token-fits s n k e = rw e at (token-bounded s)
 
 -- what an answer says of the bytes taken
-pub token-le : (p : Parsed Token) (s : List ℕ) → Bounded s p → (x : Option TokenRead) → x ≡ token_answer p → (n : ℕ) (k : declared.Token) → x ≡ Some (record { taken = n; token = k }) → n ≤ length s
+pub token-le : (p : Parsed Token) (s : List ℕ) → Bounded s p → (x : Option (Taken declared.Token)) → x ≡ token_answer p → (n : ℕ) (k : declared.Token) → x ≡ Some (record { taken = n; value = k }) → n ≤ length s
 unfolding token_answer
 token-le (ok i b) s f x ex n k h = rw (ap (λ r. r.taken) (same_Some _ _ (sym h ∙ ex))) f.within_text
 token-le err s f x ex n k h = absurd (none-some _ (sym ex ∙ h))
+
+-- ---- a token as the code has it has as many bytes of text
+pub length-coded : (k : Token) → length_by (coded k) ≡ length (text_of k)
+unfolding length_by text_of coded
+length-coded (token.ident b) = refl
+length-coded (token.function b) = refl
+length-coded (token.hash b) = refl
+length-coded (token.string b) = refl
+length-coded (token.bad_string b) = refl
+length-coded (token.delim c) = refl
+length-coded (token.number b) = refl
+length-coded (token.dimension b u) = sym (length-append b u)
+length-coded (token.percentage b) = refl
+length-coded token.cdo = refl
+length-coded token.cdc = refl
+length-coded token.colon = refl
+length-coded token.semicolon = refl
+length-coded token.comma = refl
+length-coded token.open_square = refl
+length-coded token.close_square = refl
+length-coded token.open_round = refl
+length-coded token.close_round = refl
+length-coded token.open_brace = refl
+length-coded token.close_brace = refl

@@ -9,7 +9,7 @@ use lib.ListN.{length, drop, length-drop, length-append}
 use lib.Seq.{sets}
 use Rattle.combinators.specs.Repeat.{many, texts}
 use Rattle.combinators.specs.Store.{Store, emits}
-use Rattle.combinators.proofs.Repeats.{many_more, many-stop, many-end, texts-more, texts-stop, texts-end}
+use Rattle.combinators.proofs.Repeats.{many_more, many-stop, texts-more, texts-stop}
 use Rattle.combinators.proofs.Emitted.{onto, emits_none, emits-bytes}
 
 -- i bytes are read and n bytes of text are emitted; v is what the store was at the start, w what it is
@@ -62,10 +62,6 @@ module _ (u : List ℕ → ℕ) (b : List ℕ → List ℕ) (s : List ℕ) (v w 
       let e = writing-stop (sym ek ∙ h) in
       let p : x.bytes ≡ w.bytes = ap (λ (o : Store ℕ). o.bytes) (ex ∙ ap (emits _) eb ∙ emits_none _) in
       (e.0, e.1, p ∙ e.2)
-
-  -- at the end of the text the loop has read and all
-  pub writing-end : length s ≤ i → Wrote u b s v w i n
-  writing-end h = done (many-end u s i i h) (texts-end u b s i h)
 
   -- the bytes emitted so far are no more than those of the whole text
   pub writing-small : length (texts u b 0 s) ≤ length s + 2 → n ≤ length s + 2

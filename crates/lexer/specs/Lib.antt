@@ -1,3 +1,4 @@
+pub mod Taken
 pub mod Whitespace
 pub mod Name
 pub mod Number

@@ -7,7 +7,7 @@ use Rattle.combinators.specs.Parsed.{Parsed, ok, err, behind}
 use Rattle.combinators.specs.Repeat.{many, texts, took}
 use Rattle.characters.specs.Literal.{text}
 use Rattle.characters.specs.Utf8.{utf8, or_replacement, replacement_character, scalar_of, taken_of, is_scalar, scalar_by, scalar_tail, lead_of, two, is_continuation, continuation}
-use Rattle.characters.specs.declared.utf8.Scalar.{Scalar}
+use Rattle.combinators.specs.declared.taken.Taken.{Taken}
 use Rattle.lexer.specs.Whitespace.{skip_whitespace, whitespace_item, is_whitespace, comment_of, comment_end}
 use Rattle.lexer.specs.declared.Written.{Written}
 
@@ -30,13 +30,13 @@ unfoldable pub lower : ℕ → ℕ
 lower x = pick (within x capital_a capital_z) (x + case_distance) x
 
 -- a first character that p holds of, folded
-unfoldable pub folded_char : (ℕ → Bool) → List ℕ → Option Scalar
+unfoldable pub folded_char : (ℕ → Bool) → List ℕ → Option (Taken ℕ)
 folded_char p s = pick (p (get_or s 0 0)) (Some (record { taken = 1; value = lower (get_or s 0 0) })) None
 
-unfoldable pub nmstart_char_of : List ℕ → Option Scalar
+unfoldable pub nmstart_char_of : List ℕ → Option (Taken ℕ)
 nmstart_char_of s = folded_char is_nmstart s
 
-unfoldable pub nmchar_char_of : List ℕ → Option Scalar
+unfoldable pub nmchar_char_of : List ℕ → Option (Taken ℕ)
 nmchar_char_of s = folded_char is_nmchar s
 
 unfoldable pub is_hex_digit : ℕ → Bool
@@ -68,37 +68,37 @@ hex_value a zero s = a
 hex_value a (suc k) s = hex_value (a * 16 + hex_digit (get_or s 0 0)) k (drop 1 s)
 
 -- the same scalar value behind one byte more
-unfoldable pub behind_one : Option Scalar → Option Scalar
+unfoldable pub behind_one : Option (Taken ℕ) → Option (Taken ℕ)
 behind_one (Some c) = Some (record { taken = 1 + c.taken; value = c.value })
 behind_one None = None
 
 -- behind the backslash: U+FFFD at the end of the text; hex digits, where surrogates and numbers above U+10FFFF are U+FFFD; or
 -- the next character
-unfoldable pub escaped_of : List ℕ → Option Scalar
+unfoldable pub escaped_of : List ℕ → Option (Taken ℕ)
 escaped_of t =
     pick (is (length t) 0) (Some (record { taken = 1; value = replacement_character }))
     (pick (is_hex_digit (get_or t 0 0)) (Some (record { taken = 1 + hex_count t; value = or_replacement (hex_value 0 (hex_count t) t) }))
     (behind_one (scalar_of t)))
 
 -- `ident_escape`
-unfoldable pub ident_escape_of : List ℕ → Option Scalar
+unfoldable pub ident_escape_of : List ℕ → Option (Taken ℕ)
 ident_escape_of s = pick (is (get_or s 0 0) reverse_solidus) (escaped_of (drop 1 s)) None
 
 -- the first that reads (`alt`)
-unfoldable pub either : Option Scalar → Option Scalar → Option Scalar
+unfoldable pub either : Option (Taken ℕ) → Option (Taken ℕ) → Option (Taken ℕ)
 either (Some c) r = Some c
 either None r = r
 
-unfoldable pub nmstart_of : List ℕ → Option Scalar
+unfoldable pub nmstart_of : List ℕ → Option (Taken ℕ)
 nmstart_of s = either (nmstart_char_of s) (ident_escape_of s)
 
-unfoldable pub nmchar_of : List ℕ → Option Scalar
+unfoldable pub nmchar_of : List ℕ → Option (Taken ℕ)
 nmchar_of s = either (nmchar_char_of s) (ident_escape_of s)
 
 -- ---- names
 
 -- what a character takes, and the bytes that it stands for
-unfoldable pub bytes_of : Option Scalar → List ℕ
+unfoldable pub bytes_of : Option (Taken ℕ) → List ℕ
 bytes_of (Some c) = utf8 c.value
 bytes_of None = []
 
@@ -116,7 +116,7 @@ unfoldable pub chars_text : List ℕ → List ℕ
 chars_text s = texts char_taken char_text 0 s
 
 -- behind a first character of t, with the text b in front: the characters that follow
-unfoldable pub name_from : List ℕ → List ℕ → Option Scalar → Parsed (List ℕ)
+unfoldable pub name_from : List ℕ → List ℕ → Option (Taken ℕ) → Parsed (List ℕ)
 name_from b t (Some c) = ok (length b + (c.taken + chars_end (drop c.taken t))) (b ++ (utf8 c.value ++ chars_text (drop c.taken t)))
 name_from b t None = err
 

@@ -1,12 +1,13 @@
 -- The characters of a quoted string: the loop of `parse_string_token` of src/css/parser.rs, behind the quote.
-use Rattle.std.specs.Prelude.{ℕ, List, [], ◌∷◌, ◌≡◌, refl, length, get_or}
+use Rattle.std.specs.Prelude.{ℕ, List, [], ◌∷◌, ◌≡◌, refl, length, get_or, Option, Some, None}
 use Rattle.combinators.specs.Choice.{pick, is}
 use Rattle.combinators.specs.Ascii.{line_feed, quotation_mark, reverse_solidus}
 use Rattle.combinators.specs.Repeat.{many, texts, took}
 use Rattle.characters.specs.Literal.{text}
 use Rattle.characters.specs.Utf8.{utf8, continuation}
 use Rattle.lexer.specs.declared.strings.Quoted.{Quoted}
-use Rattle.lexer.specs.declared.strings.Quoted.TheVariants.{Byte, Skip, Stop}
+use Rattle.lexer.specs.declared.strings.Quoted.TheVariants.{Byte, Skip}
+use Rattle.lexer.specs.declared.Written.{Written}
 
 -- behind a backslash, where s begins with it: nothing at the end of the text, nothing for a line feed, else the next byte
 unfoldable pub escaped_byte : List ℕ → Quoted
@@ -16,23 +17,29 @@ escaped_byte s =
     (Byte 2 (get_or s 1 0)))
 
 -- one turn, where q is the quote: it stops at the end of the text, at the quote and at a line feed
-unfoldable pub quoted_of : ℕ → List ℕ → Quoted
+unfoldable pub quoted_of : ℕ → List ℕ → Option Quoted
 quoted_of q s =
-    pick (is (length s) 0) Stop
-    (pick (is (get_or s 0 0) q) Stop
-    (pick (is (get_or s 0 0) line_feed) Stop
-    (pick (is (get_or s 0 0) reverse_solidus) (escaped_byte s)
-    (Byte 1 (get_or s 0 0)))))
+    pick (is (length s) 0) None
+    (pick (is (get_or s 0 0) q) None
+    (pick (is (get_or s 0 0) line_feed) None
+    (pick (is (get_or s 0 0) reverse_solidus) (Some (escaped_byte s))
+    (Some (Byte 1 (get_or s 0 0))))))
 
-unfoldable pub taken_of : Quoted → ℕ
-taken_of (Byte n b) = n
-taken_of (Skip n) = n
-taken_of Stop = 0
+unfoldable pub taken_of : Option Quoted → ℕ
+taken_of (Some (Byte n b)) = n
+taken_of (Some (Skip n)) = n
+taken_of None = 0
 
-unfoldable pub text_of : Quoted → List ℕ
-text_of (Byte n b) = b ∷ []
-text_of (Skip n) = []
-text_of Stop = []
+unfoldable pub text_of : Option Quoted → List ℕ
+text_of (Some (Byte n b)) = b ∷ []
+text_of (Some (Skip n)) = []
+text_of None = []
+
+-- as the code answers: the bytes taken and the length of the text, which lies in the store
+unfoldable pub quoted_answer : Option Quoted → Option Written
+quoted_answer (Some (Byte n b)) = Some (record { taken = n; length = 1 })
+quoted_answer (Some (Skip n)) = Some (record { taken = n; length = 0 })
+quoted_answer None = None
 
 unfoldable pub quoted_taken : ℕ → List ℕ → ℕ
 quoted_taken q s = taken_of (quoted_of q s)

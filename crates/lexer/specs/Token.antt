@@ -6,14 +6,13 @@ use Rattle.combinators.specs.Choice.{pick, or, is, within}
 use Rattle.combinators.specs.Parsed.{Parsed, ok, err, on_parsed, behind, or_else}
 use Rattle.combinators.specs.Word.{starts_with}
 use Rattle.characters.specs.Utf8.{scalar_of}
-use Rattle.characters.specs.declared.utf8.Scalar.{Scalar}
+use Rattle.combinators.specs.declared.taken.Taken.{Taken}
 use Rattle.lexer.specs.Whitespace.{skip_whitespace}
 use Rattle.lexer.specs.Name.{ident_of, identstring_of}
 use Rattle.lexer.specs.Number as numbers
 use Rattle.lexer.specs.Quoted.{string_end, string_text}
 use Rattle.lexer.specs.declared.tokens.Token as declared
 use Rattle.lexer.specs.declared.tokens.Token.TheVariants as code
-use Rattle.lexer.specs.declared.tokens.TokenRead.{TokenRead}
 use Rattle.lexer.specs.declared.tokens.Lexed.{Lexed}
 use Rattle.lexer.specs.declared.tokens.Start.{Start}
 use Rattle.lexer.specs.declared.tokens.Start.TheVariants.{Quote, Hash, Plus, Minus, Dot, Less, Backslash, Letter, Digit, Other}
@@ -149,7 +148,7 @@ token_by Digit n c t = numeric_of t
 token_by Other n c t = ok n (mark_of c)
 
 -- by the first character, if there is one
-unfoldable pub token_at : List ℕ → Option Scalar → Parsed Token
+unfoldable pub token_at : List ℕ → Option (Taken ℕ) → Parsed Token
 token_at t (Some c) = token_by (start_of c.value) c.taken c.value t
 token_at t None = err
 
@@ -202,8 +201,31 @@ text_of close_round = []
 text_of open_brace = []
 text_of close_brace = []
 
-unfoldable pub token_answer : Parsed Token → Option TokenRead
-token_answer (ok n k) = Some (record { taken = n; token = coded k })
+-- how many bytes the texts of a token as the code has it take, one behind the other; a delimiter's character is not in the store
+unfoldable pub length_by : declared.Token → ℕ
+length_by (code.Ident n) = n
+length_by (code.Function n) = n
+length_by (code.Hash n) = n
+length_by (code.String n) = n
+length_by (code.BadString n) = n
+length_by (code.Delim c) = 0
+length_by (code.Number n) = n
+length_by (code.Dimension n m) = n + m
+length_by (code.Percentage n) = n
+length_by code.CDO = 0
+length_by code.CDC = 0
+length_by code.Colon = 0
+length_by code.Semicolon = 0
+length_by code.Comma = 0
+length_by code.OpenSquare = 0
+length_by code.CloseSquare = 0
+length_by code.OpenRound = 0
+length_by code.CloseRound = 0
+length_by code.OpenBrace = 0
+length_by code.CloseBrace = 0
+
+unfoldable pub token_answer : Parsed Token → Option (Taken declared.Token)
+token_answer (ok n k) = Some (record { taken = n; value = coded k })
 token_answer err = None
 
 unfoldable pub token_text : Parsed Token → List ℕ
@@ -216,6 +238,6 @@ lexed_answer w (ok n k) = Some (record { start = w; end = n; token = coded k })
 lexed_answer w err = None
 
 -- what was read, or else a delimiter, as the code answers
-unfoldable pub or_delim : Option TokenRead → ℕ → Option TokenRead
+unfoldable pub or_delim : Option (Taken declared.Token) → ℕ → Option (Taken declared.Token)
 or_delim (Some r) c = Some r
-or_delim None c = Some (record { taken = 1; token = code.Delim c })
+or_delim None c = Some (record { taken = 1; value = code.Delim c })

@@ -4,7 +4,7 @@
 use Rattle.std.specs.Prelude.{ℕ, ◌+◌, ◌%◌, ◌^◌, List, [], ◌∷◌, ◌≡◌, refl, get_or}
 use Rattle.combinators.specs.Choice.{pick, is}
 use Rattle.lexer.specs.Token.{Token, coded}
-use Rattle.lexer.specs.declared.rows.Columns.{Columns}
+use Rattle.combinators.specs.declared.columns.Columns.{Columns}
 use Rattle.lexer.specs.declared.tokens.Token as declared
 use Rattle.lexer.specs.declared.tokens.Token.TheVariants as code
 

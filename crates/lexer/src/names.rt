@@ -1,14 +1,13 @@
-// Names and their characters, with escapes.
+// Names and their characters, with escapes. A name's text goes to the store, from a fill that the callers keep, so that no writer is lent.
 ghost use Rattle.std.specs.Prelude.{◌≡◌, ◌≤◌, length};
 ghost use Rattle.std.proofs.lemmas.List.Edits.{sets};
 ghost use Rattle.lexer.specs.Name.{is_nmstart, is_nmchar, lower, nmstart_char_of, nmchar_char_of, is_hex_digit, hex_digit, hex_run, maximum_digits, hex_count, hex_value, escaped_of, ident_escape_of, nmstart_of, nmchar_of, chars_end, chars_text, dash, name_of, chars_of, ident_of, identstring_of, name_answer, name_text};
 
 use crate::Written;
 use crate::whitespace::skip_optional_whitespace;
-use characters::utf8::{
-    REPLACEMENT_CHARACTER, Scalar, emit_scalar, length_of, or_replacement, scalar_at,
-};
+use characters::utf8::{emit_scalar, length_of, or_replacement, scalar_at};
 use combinators::bytes::{byte_is, peek};
+use combinators::taken::Taken;
 use combinators::writer::Writer;
 
 // An escape takes up to six hex digits.
@@ -32,17 +31,17 @@ fn is_nmchar(b: u8) -> bool
 
 // The byte, with A-Z folded to a-z.
 #[tactic(auto, unfolding(crate::specs::Name::lower, combinators::specs::Choice::pick, combinators::specs::Choice::within, combinators::specs::Choice::and))]
-fn lower_of(b: u8) -> u32
+fn lower_of(b: u8) -> char
     ensures { result ≡ lower b }
 {
-    u32::from(b.to_ascii_lowercase())
+    char::from(b.to_ascii_lowercase())
 }
 
 // A byte as a character of a name.
-fn folded(b: u8) -> Scalar
+fn folded(b: u8) -> Taken<char>
     ensures { result ≡ record { taken = 1; value = lower b } }
 {
-    Scalar {
+    Taken {
         taken: 1,
         value: lower_of(b),
     }
@@ -51,7 +50,7 @@ fn folded(b: u8) -> Scalar
 // A character that can start a name, other than an escape. This one and the next have a definition each and share all but their test, which would
 // bring its clauses along if it were handed in.
 #[tactic(auto, unfolding(crate::specs::Name::nmstart_char_of, crate::specs::Name::folded_char, combinators::specs::Choice::pick))]
-pub fn nmstart_char(s: &[u8]) -> Option<Scalar>
+pub fn nmstart_char(s: &[u8]) -> Option<Taken<char>>
     ensures { result ≡ nmstart_char_of s.now }
 {
     let b = peek(s, 0);
@@ -60,14 +59,14 @@ pub fn nmstart_char(s: &[u8]) -> Option<Scalar>
 
 // A character of a name, other than an escape.
 #[tactic(auto, unfolding(crate::specs::Name::nmchar_char_of, crate::specs::Name::folded_char, combinators::specs::Choice::pick))]
-pub fn nmchar_char(s: &[u8]) -> Option<Scalar>
+pub fn nmchar_char(s: &[u8]) -> Option<Taken<char>>
     ensures { result ≡ nmchar_char_of s.now }
 {
     let b = peek(s, 0);
     is_nmchar(b).then_some(folded(b))
 }
 
-// Whether `b` is a hex digit.
+// Whether `b` is a hex digit: the library's, in the word of the definitions, as `is_digit`.
 #[tactic(auto, unfolding(crate::specs::Name::is_hex_digit, combinators::specs::Choice::or, combinators::specs::Choice::within, combinators::specs::Choice::and))]
 pub fn is_hex_digit(b: u8) -> bool
     ensures { result ≡ is_hex_digit b }
@@ -75,7 +74,7 @@ pub fn is_hex_digit(b: u8) -> bool
     b.is_ascii_hexdigit()
 }
 
-// What a hex digit is worth.
+// What a hex digit is worth. The arms are the definition's own.
 #[tactic(auto, unfolding(crate::specs::Name::hex_digit, combinators::specs::Choice::pick, combinators::specs::Choice::within, combinators::specs::Choice::and))]
 pub fn hex_digit_of(b: u8) -> u32
     ensures { result ≡ hex_digit b }
@@ -92,12 +91,10 @@ pub fn hex_digit_of(b: u8) -> u32
 fn hex_run(t: &[u8]) -> usize
     ensures { result ≡ hex_run 0 maximum_digits t.now }
 {
-    for i in 0..MAXIMUM_DIGITS {
-        if !is_hex_digit(peek(t, i)) {
-            return i;
-        }
-    }
-    MAXIMUM_DIGITS
+    t.iter()
+        .take(MAXIMUM_DIGITS)
+        .take_while(|b| is_hex_digit(**b))
+        .count()
 }
 
 // How many of them the escape takes: only the first where they run to the end of the text.
@@ -122,48 +119,41 @@ fn hex_value_of(t: &[u8], n: usize) -> u32
 }
 
 // What an escape stands for, from behind its backslash on; the backslash counts among the bytes taken.
-fn escaped(t: &[u8]) -> Option<Scalar>
+fn escaped(t: &[u8]) -> Option<Taken<char>>
     ensures { result ≡ escaped_of t.now }
 {
     if t.is_empty() {
-        return Some(Scalar {
+        return Some(Taken {
             taken: 1,
-            value: REPLACEMENT_CHARACTER,
+            value: char::REPLACEMENT_CHARACTER,
         });
     }
     if is_hex_digit(peek(t, 0)) {
         let n = hex_count(t);
-        return Some(Scalar {
+        return Some(Taken {
             taken: 1 + n,
             value: or_replacement(hex_value_of(t, n)),
         });
     }
-    let c = scalar_at(t)?;
-    Some(Scalar {
-        taken: 1 + c.taken,
-        value: c.value,
-    })
+    Some(scalar_at(t)?.behind(1))
 }
 
 // An escape: a backslash and what it makes of the text behind it.
-pub fn ident_escape(s: &[u8]) -> Option<Scalar>
+pub fn ident_escape(s: &[u8]) -> Option<Taken<char>>
     ensures { result ≡ ident_escape_of s.now }
 {
-    if !byte_is(s, 0, b'\\') {
-        return None;
-    }
-    escaped(&s[1..])
+    escaped(s.strip_prefix(b"\\")?)
 }
 
 // A character that can start a name. This one and the next have no body to share.
-pub fn nmstart(s: &[u8]) -> Option<Scalar>
+pub fn nmstart(s: &[u8]) -> Option<Taken<char>>
     ensures { result ≡ nmstart_of s.now }
 {
     nmstart_char(s).or_else(|| ident_escape(s))
 }
 
 // A character of a name.
-pub fn nmchar(s: &[u8]) -> Option<Scalar>
+pub fn nmchar(s: &[u8]) -> Option<Taken<char>>
     ensures { result ≡ nmchar_of s.now }
 {
     nmchar_char(s).or_else(|| ident_escape(s))
@@ -177,12 +167,9 @@ fn emit_nmchars(s: &[u8], store: &mut [u8], fill: usize) -> Written
     let mut writer = Writer { store, fill };
     let mut i = 0;
     let mut n = 0;
-    while i < s.len() {
-        let Some(c) = nmchar(&s[i..]) else {
-            break;
-        };
-        emit_scalar(c.value, &mut writer);
-        n += length_of(c.value);
+    while let Some(c) = nmchar(&s[i..]) {
+        emit_scalar(c.value as u32, &mut writer);
+        n += length_of(c.value as u32);
         i += c.taken;
     }
     Written {
@@ -191,7 +178,7 @@ fn emit_nmchars(s: &[u8], store: &mut [u8], fill: usize) -> Written
     }
 }
 
-// A '-' or none.
+// A '-' or none: one call, with its bound and its own definition.
 fn dash_of(t: &[u8]) -> usize
     ensures value { result ≡ dash t.now }
     ensures upper_bound { result ≤ length t.now }
@@ -215,11 +202,11 @@ fn parse_chars(t: &[u8], store: &mut [u8], fill: usize) -> Option<Written>
     ensures store_after { store.new ≡ sets store.old fill (name_text (chars_of t.now)) }
 {
     let n = emit_nmchars(t, store, fill);
-    if n.taken == 0 { None } else { Some(n) }
+    (n.taken > 0).then_some(n)
 }
 
 // A name behind white space and comments. This one and the next stay two: a reader handed in would bring its clauses along, what it answers
-// and what it leaves in the store, which are longer than the body. They place a text in a store whose fill their callers keep, so no writer is lent.
+// and what it leaves in the store, which are longer than the body.
 pub fn parse_ident(s: &[u8], store: &mut [u8], fill: usize) -> Option<Written>
     ensures value { result ≡ name_answer (ident_of s.now) }
     ensures store_after { store.new ≡ sets store.old fill (name_text (ident_of s.now)) }

@@ -4,6 +4,7 @@ ghost use Rattle.combinators.specs.Store.{emits};
 ghost use Rattle.lexer.specs.TokenRow.{columns_of, word, row_of, mark_from, token_from, token_in};
 
 use crate::tokens::Token;
+use combinators::columns::Columns;
 use combinators::stores::{emit_all, number_at};
 
 // Numbers in a row: the kind, the byte of the text where the token starts, the place of the store where its text starts, and two more.
@@ -60,50 +61,32 @@ pub const OPEN_BRACE: u32 = 19;
 pub const CLOSE_BRACE: u32 = 20;
 
 // A token's kind, and its two numbers: the length of its text, or of a dimension's number and unit, or a delimiter's scalar value.
-#[derive(Clone, Copy)]
-pub struct Columns {
-    pub kind: u32,
-    pub first: usize,
-    pub second: usize,
-}
-
-// Two numbers of a kind. What they are depends on it, so they have no names.
-fn with_kind(kind: u32, first: usize, second: usize) -> Columns
-    ensures { result ≡ record { kind = kind; first = first; second = second } }
-{
-    Columns {
-        kind,
-        first,
-        second,
-    }
-}
-
 impl From<Token> for Columns {
     ghost from_gives = { λ k row. row ≡ columns_of k };
 
     #[tactic(auto, unfolding(crate::specs::TokenRow::columns_of))]
     fn from(k: Token) -> Columns {
         match k {
-            Token::Ident(n) => with_kind(IDENT, n, 0),
-            Token::Function(n) => with_kind(FUNCTION, n, 0),
-            Token::Hash(n) => with_kind(HASH, n, 0),
-            Token::String(n) => with_kind(STRING, n, 0),
-            Token::BadString(n) => with_kind(BAD_STRING, n, 0),
-            Token::Delim(c) => with_kind(DELIM, c as usize, 0),
-            Token::Number(n) => with_kind(NUMBER, n, 0),
-            Token::Dimension(n, m) => with_kind(DIMENSION, n, m),
-            Token::Percentage(n) => with_kind(PERCENTAGE, n, 0),
-            Token::CDO => with_kind(CDO, 0, 0),
-            Token::CDC => with_kind(CDC, 0, 0),
-            Token::Colon => with_kind(COLON, 0, 0),
-            Token::Semicolon => with_kind(SEMICOLON, 0, 0),
-            Token::Comma => with_kind(COMMA, 0, 0),
-            Token::OpenSquare => with_kind(OPEN_SQUARE, 0, 0),
-            Token::CloseSquare => with_kind(CLOSE_SQUARE, 0, 0),
-            Token::OpenRound => with_kind(OPEN_ROUND, 0, 0),
-            Token::CloseRound => with_kind(CLOSE_ROUND, 0, 0),
-            Token::OpenBrace => with_kind(OPEN_BRACE, 0, 0),
-            Token::CloseBrace => with_kind(CLOSE_BRACE, 0, 0),
+            Token::Ident(n) => Columns::new(IDENT, n, 0),
+            Token::Function(n) => Columns::new(FUNCTION, n, 0),
+            Token::Hash(n) => Columns::new(HASH, n, 0),
+            Token::String(n) => Columns::new(STRING, n, 0),
+            Token::BadString(n) => Columns::new(BAD_STRING, n, 0),
+            Token::Delim(c) => Columns::new(DELIM, c as usize, 0),
+            Token::Number(n) => Columns::new(NUMBER, n, 0),
+            Token::Dimension(n, m) => Columns::new(DIMENSION, n, m),
+            Token::Percentage(n) => Columns::new(PERCENTAGE, n, 0),
+            Token::CDO => Columns::new(CDO, 0, 0),
+            Token::CDC => Columns::new(CDC, 0, 0),
+            Token::Colon => Columns::new(COLON, 0, 0),
+            Token::Semicolon => Columns::new(SEMICOLON, 0, 0),
+            Token::Comma => Columns::new(COMMA, 0, 0),
+            Token::OpenSquare => Columns::new(OPEN_SQUARE, 0, 0),
+            Token::CloseSquare => Columns::new(CLOSE_SQUARE, 0, 0),
+            Token::OpenRound => Columns::new(OPEN_ROUND, 0, 0),
+            Token::CloseRound => Columns::new(CLOSE_ROUND, 0, 0),
+            Token::OpenBrace => Columns::new(OPEN_BRACE, 0, 0),
+            Token::CloseBrace => Columns::new(CLOSE_BRACE, 0, 0),
         }
     }
 }
@@ -155,7 +138,8 @@ fn mark_of(kind: u32) -> Token
     }
 }
 
-// The token of a kind and two numbers.
+// The token of a kind and two numbers, as a row has them. They are no `Columns`, which has lengths of any size: a delimiter's scalar value would be cut
+// to 32 bits again.
 #[tactic(auto, unfolding(crate::specs::TokenRow::token_from, combinators::specs::Choice::pick, combinators::specs::Choice::is))]
 fn token_of(kind: u32, first: u32, second: u32) -> Token
     ensures { result ≡ token_from kind first second }

@@ -1,20 +1,19 @@
-// The characters of a quoted string, written to a store.
+// The characters of a quoted string, written to a store from a fill that the callers keep, so that no writer is lent.
 ghost use Rattle.std.specs.Prelude.{◌≡◌, length};
 ghost use Rattle.std.proofs.lemmas.List.Edits.{sets};
 ghost use Rattle.combinators.specs.Store.{emits};
 ghost use Rattle.combinators.specs.Writer.{written, SameStore};
-ghost use Rattle.lexer.specs.Quoted.{escaped_byte, quoted_of, quoted_taken, quoted_text, string_end, string_text};
+ghost use Rattle.lexer.specs.Quoted.{escaped_byte, quoted_answer, quoted_of, quoted_text, string_end, string_text};
 
 use crate::Written;
 use combinators::bytes::peek;
 use combinators::writer::Writer;
 
-// One turn of the string's loop: a byte of its text for so many bytes read, bytes read that stand for nothing, or the end.
+// One turn of the string's loop: a byte of its text for so many bytes read, or bytes read that stand for nothing.
 #[derive(Clone, Copy)]
 pub enum Quoted {
     Byte(usize, u8),
     Skip(usize),
-    Stop,
 }
 
 // What stands behind the backslash that `s` begins with.
@@ -31,38 +30,31 @@ fn escaped_byte(s: &[u8]) -> Quoted
     }
 }
 
-// The character that `s` begins with.
+// The character that `s` begins with, unless the string ends there.
 #[tactic(auto, unfolding(crate::specs::Quoted::quoted_of, combinators::specs::Choice::pick, combinators::specs::Choice::is))]
-fn quoted_byte(s: &[u8], quote: u8) -> Quoted
+fn quoted_byte(s: &[u8], quote: u8) -> Option<Quoted>
     ensures { result ≡ quoted_of quote s.now }
 {
-    if s.is_empty() {
-        return Quoted::Stop;
-    }
-    match peek(s, 0) {
-        b if b == quote => Quoted::Stop,
-        b'\n' => Quoted::Stop,
-        b'\\' => escaped_byte(s),
-        b => Quoted::Byte(1, b),
+    match *s.first()? {
+        b if b == quote => None,
+        b'\n' => None,
+        b'\\' => Some(escaped_byte(s)),
+        b => Some(Quoted::Byte(1, b)),
     }
 }
 
-// The character that `s` begins with, written; it takes 0 at the end of the string.
-fn emit_quoted(s: &[u8], quote: u8, writer: &mut Writer<'_>) -> Written
+// The character that `s` begins with, written.
+fn emit_quoted(s: &[u8], quote: u8, writer: &mut Writer<'_>) -> Option<Written>
     ensures same_store { SameStore writer.old writer.new }
-    ensures taken_value { (result.taken ≡ quoted_taken quote s.now) × (result.length ≡ length (quoted_text quote s.now)) }
+    ensures value { result ≡ quoted_answer (quoted_of quote s.now) }
     ensures written { written writer.new ≡ emits (written writer.old) (quoted_text quote s.now) }
 {
-    match quoted_byte(s, quote) {
+    match quoted_byte(s, quote)? {
         Quoted::Byte(taken, b) => {
             writer.emit(b);
-            Written { taken, length: 1 }
+            Some(Written { taken, length: 1 })
         }
-        Quoted::Skip(taken) => Written { taken, length: 0 },
-        Quoted::Stop => Written {
-            taken: 0,
-            length: 0,
-        },
+        Quoted::Skip(taken) => Some(Written { taken, length: 0 }),
     }
 }
 
@@ -74,11 +66,7 @@ pub fn emit_string(s: &[u8], quote: u8, store: &mut [u8], fill: usize) -> Writte
     let mut writer = Writer { store, fill };
     let mut i = 0;
     let mut n = 0;
-    while i < s.len() {
-        let r = emit_quoted(&s[i..], quote, &mut writer);
-        if r.taken == 0 {
-            break;
-        }
+    while let Some(r) = emit_quoted(&s[i..], quote, &mut writer) {
         i += r.taken;
         n += r.length;
     }

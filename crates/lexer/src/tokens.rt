@@ -1,17 +1,19 @@
 // Tokens: a token by value, read from the start of a text; its text goes to the store, from a fill that the callers keep, so that no writer is lent.
-ghost use Rattle.std.specs.Prelude.{◌≡◌, ◌≤◌, length};
+ghost use Rattle.std.specs.Prelude.{◌≡◌, ◌≤◌, length, Some, ◌<◌, ◌^◌};
 ghost use Rattle.std.proofs.lemmas.List.Edits.{sets};
-ghost use Rattle.lexer.specs.Token.{numeric_of, ident_like_of, is_quote, string_of, is_ident_start, start_of, mark_of, hash_of, plus_of, minus_of, less_of, token_by, token_at, token_of, coded, token_answer, token_text, lexed_answer, or_delim};
+ghost use Rattle.lexer.specs.Token.{numeric_of, ident_like_of, is_quote, string_of, is_ident_start, start_of, mark_of, hash_of, plus_of, minus_of, less_of, token_by, token_at, token_of, coded, token_answer, token_text, lexed_answer, or_delim, length_by};
 ghost use Rattle.lexer.specs.Whitespace.{skip_whitespace};
+ghost use Rattle.lexer.specs.declared.tokens.Token.TheVariants.{Delim};
 ghost use Rattle.characters.specs.Utf8.{scalar_of};
 
 use crate::names::{parse_ident, parse_identstring};
 use crate::numbers::parse_number;
 use crate::strings::emit_string;
 use crate::whitespace::skip_optional_whitespace;
-use characters::utf8::{Scalar, scalar_at};
+use characters::utf8::scalar_at;
 use combinators::bytes::{byte_is, peek, starts_with};
-use combinators::writer::Writer;
+use combinators::stores::emit_all;
+use combinators::taken::Taken;
 
 // A token, with the lengths of its texts, which lie in the store one behind the other, or the scalar value of a delimiter.
 #[derive(Clone, Copy)]
@@ -38,13 +40,6 @@ pub enum Token {
     CloseBrace,
 }
 
-// A token, and the bytes of the text that it takes.
-#[derive(Clone, Copy)]
-pub struct TokenRead {
-    pub taken: usize,
-    pub token: Token,
-}
-
 // The next token: where it starts behind white space and comments, where it ends, and the token.
 #[derive(Clone, Copy)]
 pub struct Lexed {
@@ -52,6 +47,32 @@ pub struct Lexed {
     pub end: usize,
     pub token: Token,
 }
+
+impl Token {
+    // How many bytes its texts take in the store; a delimiter's character is not there.
+    #[tactic(auto, unfolding(crate::specs::Token::length_by))]
+    pub fn text_length(self) -> usize
+        requires { length_by self < 2 ^ 64 }
+        ensures { result ≡ length_by self }
+    {
+        match self {
+            Token::Ident(n)
+            | Token::Function(n)
+            | Token::Hash(n)
+            | Token::String(n)
+            | Token::BadString(n)
+            | Token::Number(n)
+            | Token::Percentage(n) => n,
+            Token::Dimension(n, m) => n + m,
+            _ => 0,
+        }
+    }
+}
+
+// The marks that a comment of HTML opens and closes with.
+const CDO_MARK: [u8; 4] = *b"<!--";
+
+const CDC_MARK: [u8; 3] = *b"-->";
 
 // Which reader a first character selects.
 #[derive(Clone, Copy)]
@@ -69,50 +90,45 @@ pub enum Start {
 }
 
 // A number; with '%' behind it a percentage, with a name behind it a dimension.
-pub fn parse_numeric_token(s: &[u8], store: &mut [u8], fill: usize) -> Option<TokenRead>
+pub fn parse_numeric_token(s: &[u8], store: &mut [u8], fill: usize) -> Option<Taken<Token>>
     ensures value { result ≡ token_answer (numeric_of s.now) }
     ensures store_after { store.new ≡ sets store.old fill (token_text (numeric_of s.now)) }
 {
-    let n = parse_number(s);
-    if n == 0 {
-        return None;
-    }
-    let mut writer = Writer { store, fill };
-    writer.emit_all(&s[..n]);
-    let behind = writer.fill;
+    let n = parse_number(s)?;
+    let behind = emit_all(&s[..n], store, fill);
     if byte_is(s, n, b'%') {
-        return Some(TokenRead {
+        return Some(Taken {
             taken: n + 1,
-            token: Token::Percentage(n),
+            value: Token::Percentage(n),
         });
     }
-    match parse_ident(&s[n..], writer.store, behind) {
-        Some(unit) => Some(TokenRead {
+    match parse_ident(&s[n..], store, behind) {
+        Some(unit) => Some(Taken {
             taken: n + unit.taken,
-            token: Token::Dimension(n, unit.length),
+            value: Token::Dimension(n, unit.length),
         }),
-        None => Some(TokenRead {
+        None => Some(Taken {
             taken: n,
-            token: Token::Number(n),
+            value: Token::Number(n),
         }),
     }
 }
 
 // A name; with '(' behind it a function.
-pub fn parse_ident_like(s: &[u8], store: &mut [u8], fill: usize) -> Option<TokenRead>
+pub fn parse_ident_like(s: &[u8], store: &mut [u8], fill: usize) -> Option<Taken<Token>>
     ensures value { result ≡ token_answer (ident_like_of s.now) }
     ensures store_after { store.new ≡ sets store.old fill (token_text (ident_like_of s.now)) }
 {
     let name = parse_ident(s, store, fill)?;
     if byte_is(s, name.taken, b'(') {
-        return Some(TokenRead {
+        return Some(Taken {
             taken: name.taken + 1,
-            token: Token::Function(name.length),
+            value: Token::Function(name.length),
         });
     }
-    Some(TokenRead {
+    Some(Taken {
         taken: name.taken,
-        token: Token::Ident(name.length),
+        value: Token::Ident(name.length),
     })
 }
 
@@ -125,7 +141,7 @@ fn is_quote(b: u8) -> bool
 }
 
 // A string up to its quote or the end of the text; a bad one up to a line feed.
-pub fn parse_string_token(t: &[u8], store: &mut [u8], fill: usize) -> Option<TokenRead>
+pub fn parse_string_token(t: &[u8], store: &mut [u8], fill: usize) -> Option<Taken<Token>>
     ensures value { result ≡ token_answer (string_of t.now) }
     ensures store_after { store.new ≡ sets store.old fill (token_text (string_of t.now)) }
 {
@@ -136,206 +152,147 @@ pub fn parse_string_token(t: &[u8], store: &mut [u8], fill: usize) -> Option<Tok
     let r = &t[1..];
     let w = emit_string(r, quote, store, fill);
     if w.taken == r.len() {
-        return Some(TokenRead {
+        return Some(Taken {
             taken: 1 + w.taken,
-            token: Token::String(w.length),
+            value: Token::String(w.length),
         });
     }
     if byte_is(r, w.taken, quote) {
-        return Some(TokenRead {
+        return Some(Taken {
             taken: 1 + w.taken + 1,
-            token: Token::String(w.length),
+            value: Token::String(w.length),
         });
     }
-    Some(TokenRead {
+    Some(Taken {
         taken: 1 + w.taken,
-        token: Token::BadString(w.length),
+        value: Token::BadString(w.length),
     })
 }
 
-// The scalar values that select a reader or are tokens by themselves.
-const QUOTATION_MARK: u32 = b'"' as u32;
-
-const NUMBER_SIGN: u32 = b'#' as u32;
-
-const APOSTROPHE: u32 = b'\'' as u32;
-
-const LEFT_PARENTHESIS: u32 = b'(' as u32;
-
-const RIGHT_PARENTHESIS: u32 = b')' as u32;
-
-const PLUS_SIGN: u32 = b'+' as u32;
-
-const COMMA: u32 = b',' as u32;
-
-const HYPHEN_MINUS: u32 = b'-' as u32;
-
-const FULL_STOP: u32 = b'.' as u32;
-
-const DIGIT_ZERO: u32 = b'0' as u32;
-
-const DIGIT_NINE: u32 = b'9' as u32;
-
-const COLON: u32 = b':' as u32;
-
-const SEMICOLON: u32 = b';' as u32;
-
-const LESS_THAN_SIGN: u32 = b'<' as u32;
-
-const CAPITAL_A: u32 = b'A' as u32;
-
-const CAPITAL_Z: u32 = b'Z' as u32;
-
-const LEFT_SQUARE_BRACKET: u32 = b'[' as u32;
-
-const REVERSE_SOLIDUS: u32 = b'\\' as u32;
-
-const RIGHT_SQUARE_BRACKET: u32 = b']' as u32;
-
-const LOW_LINE: u32 = b'_' as u32;
-
-const SMALL_A: u32 = b'a' as u32;
-
-const SMALL_Z: u32 = b'z' as u32;
-
-const LEFT_CURLY_BRACKET: u32 = b'{' as u32;
-
-const RIGHT_CURLY_BRACKET: u32 = b'}' as u32;
-
-const FIRST_ABOVE_U_0080: u32 = 0x81; // from here on the crate takes every character for the start of a name
+const FIRST_ABOVE_U_0080: char = '\u{81}'; // from here on the crate takes every character for the start of a name
 
 // Whether the crate takes `c` for the start of a name. Above U+0080 it does, and then reads none.
 #[tactic(auto, unfolding(crate::specs::Token::is_ident_start, combinators::specs::Choice::or, combinators::specs::Choice::is, combinators::specs::Choice::within, combinators::specs::Choice::and))]
-fn is_ident_start(c: u32) -> bool
+fn is_ident_start(c: char) -> bool
     ensures { result ≡ is_ident_start c }
 {
-    matches!(
-        c,
-        SMALL_A..=SMALL_Z | CAPITAL_A..=CAPITAL_Z | LOW_LINE | FIRST_ABOVE_U_0080..
-    )
+    matches!(c, 'a'..='z' | 'A'..='Z' | '_' | FIRST_ABOVE_U_0080..)
 }
 
 // Which reader the character `c` selects, in the crate's order.
 #[tactic(auto, unfolding(crate::specs::Token::start_of, crate::specs::Token::is_quote, crate::specs::Number::is_digit, combinators::specs::Choice::pick, combinators::specs::Choice::or, combinators::specs::Choice::is, combinators::specs::Choice::within, combinators::specs::Choice::and))]
-fn start_of(c: u32) -> Start
+fn start_of(c: char) -> Start
     ensures { result ≡ start_of c }
 {
     match c {
-        QUOTATION_MARK | APOSTROPHE => Start::Quote,
-        NUMBER_SIGN => Start::Hash,
-        PLUS_SIGN => Start::Plus,
-        HYPHEN_MINUS => Start::Minus,
-        FULL_STOP => Start::Dot,
-        LESS_THAN_SIGN => Start::Less,
-        REVERSE_SOLIDUS => Start::Backslash,
+        '"' | '\'' => Start::Quote,
+        '#' => Start::Hash,
+        '+' => Start::Plus,
+        '-' => Start::Minus,
+        '.' => Start::Dot,
+        '<' => Start::Less,
+        '\\' => Start::Backslash,
         _ if is_ident_start(c) => Start::Letter,
-        DIGIT_ZERO..=DIGIT_NINE => Start::Digit,
+        '0'..='9' => Start::Digit,
         _ => Start::Other,
     }
 }
 
 // The token that the character `c` is by itself: a mark, or else a delimiter.
 #[tactic(auto, unfolding(crate::specs::Token::mark_of, crate::specs::Token::coded, combinators::specs::Choice::pick, combinators::specs::Choice::is))]
-fn mark_of(c: u32) -> Token
+fn mark_of(c: char) -> Token
     ensures { result ≡ coded (mark_of c) }
 {
     match c {
-        SEMICOLON => Token::Semicolon,
-        LEFT_PARENTHESIS => Token::OpenRound,
-        RIGHT_PARENTHESIS => Token::CloseRound,
-        COMMA => Token::Comma,
-        COLON => Token::Colon,
-        LEFT_SQUARE_BRACKET => Token::OpenSquare,
-        RIGHT_SQUARE_BRACKET => Token::CloseSquare,
-        LEFT_CURLY_BRACKET => Token::OpenBrace,
-        RIGHT_CURLY_BRACKET => Token::CloseBrace,
-        _ => Token::Delim(c),
+        ';' => Token::Semicolon,
+        '(' => Token::OpenRound,
+        ')' => Token::CloseRound,
+        ',' => Token::Comma,
+        ':' => Token::Colon,
+        '[' => Token::OpenSquare,
+        ']' => Token::CloseSquare,
+        '{' => Token::OpenBrace,
+        '}' => Token::CloseBrace,
+        _ => Token::Delim(u32::from(c)),
     }
 }
 
+// The delimiter `c`, which takes one byte.
+fn delimiter(c: char) -> Option<Taken<Token>>
+    ensures { result ≡ Some (record { taken = 1; value = Delim c }) }
+{
+    Some(Taken {
+        taken: 1,
+        value: Token::Delim(u32::from(c)),
+    })
+}
+
 // What was read, or else the delimiter `c`.
-fn or_delim(a: Option<TokenRead>, c: u32) -> Option<TokenRead>
+fn or_delim(a: Option<Taken<Token>>, c: char) -> Option<Taken<Token>>
     ensures { result ≡ or_delim a c }
 {
-    a.or(Some(TokenRead {
-        taken: 1,
-        token: Token::Delim(c),
-    }))
+    a.or(delimiter(c))
 }
 
 // The readers from here on are told the first character of `t`, which therefore is not empty: three of them ask for it, to read on behind a first
 // byte, and a type for a text that is not empty would serve them alone. They place a token's text as all readers do.
+
 // Behind '#': a name that may start with any character of names.
-fn hash_token(t: &[u8], c: u32, store: &mut [u8], fill: usize) -> Option<TokenRead>
+fn hash_token(t: &[u8], c: char, store: &mut [u8], fill: usize) -> Option<Taken<Token>>
     requires { 1 ≤ length t.now }
     ensures value { result ≡ token_answer (hash_of c t.now) }
     ensures store_after { store.new ≡ sets store.old fill (token_text (hash_of c t.now)) }
 {
-    match parse_identstring(&t[1..], store, fill) {
-        Some(name) => Some(TokenRead {
-            taken: 1 + name.taken,
-            token: Token::Hash(name.length),
-        }),
-        None => Some(TokenRead {
-            taken: 1,
-            token: Token::Delim(c),
-        }),
-    }
+    let name = parse_identstring(&t[1..], store, fill);
+    let hash = name.map(|name| Taken {
+        taken: 1 + name.taken,
+        value: Token::Hash(name.length),
+    });
+    or_delim(hash, c)
 }
 
 // Behind '+': a number, whose text then lacks the sign.
-fn plus_token(t: &[u8], c: u32, store: &mut [u8], fill: usize) -> Option<TokenRead>
+fn plus_token(t: &[u8], c: char, store: &mut [u8], fill: usize) -> Option<Taken<Token>>
     requires { 1 ≤ length t.now }
     ensures value { result ≡ token_answer (plus_of c t.now) }
     ensures store_after { store.new ≡ sets store.old fill (token_text (plus_of c t.now)) }
 {
-    match parse_numeric_token(&t[1..], store, fill) {
-        Some(number) => Some(TokenRead {
-            taken: 1 + number.taken,
-            token: number.token,
-        }),
-        None => Some(TokenRead {
-            taken: 1,
-            token: Token::Delim(c),
-        }),
-    }
+    let number = parse_numeric_token(&t[1..], store, fill);
+    or_delim(number.map(|number| number.behind(1)), c)
 }
 
 // From '-' on: a number, the mark "-->", a name, or the delimiter.
-fn minus_token(t: &[u8], c: u32, store: &mut [u8], fill: usize) -> Option<TokenRead>
+fn minus_token(t: &[u8], c: char, store: &mut [u8], fill: usize) -> Option<Taken<Token>>
     ensures value { result ≡ token_answer (minus_of c t.now) }
     ensures store_after { store.new ≡ sets store.old fill (token_text (minus_of c t.now)) }
 {
     if let Some(number) = parse_numeric_token(t, store, fill) {
         return Some(number);
     }
-    if starts_with(t, b"-->") {
-        return Some(TokenRead {
-            taken: 3,
-            token: Token::CDC,
+    if starts_with(t, &CDC_MARK) {
+        return Some(Taken {
+            taken: CDC_MARK.len(),
+            value: Token::CDC,
         });
     }
     or_delim(parse_ident_like(t, store, fill), c)
 }
 
 // From '<' on: the mark "<!--", or the delimiter.
-fn less_token(t: &[u8], c: u32) -> Option<TokenRead>
+fn less_token(t: &[u8], c: char) -> Option<Taken<Token>>
     ensures { result ≡ token_answer (less_of c t.now) }
 {
-    if starts_with(t, b"<!--") {
-        return Some(TokenRead {
-            taken: 4,
-            token: Token::CDO,
+    if starts_with(t, &CDO_MARK) {
+        return Some(Taken {
+            taken: CDO_MARK.len(),
+            value: Token::CDO,
         });
     }
-    Some(TokenRead {
-        taken: 1,
-        token: Token::Delim(c),
-    })
+    delimiter(c)
 }
 
-// The token at the start of `t`, whose first character is `first`.
-fn token_by(t: &[u8], first: Scalar, store: &mut [u8], fill: usize) -> Option<TokenRead>
+// The token at the start of `t`, whose first character is `first`: a `match`, as in its definition, since the readers are told different things.
+fn token_by(t: &[u8], first: Taken<char>, store: &mut [u8], fill: usize) -> Option<Taken<Token>>
     requires { 1 ≤ length t.now }
     ensures value { result ≡ token_answer (token_by (start_of first.value) first.taken first.value t.now) }
     ensures store_after { store.new ≡ sets store.old fill (token_text (token_by (start_of first.value) first.taken first.value t.now)) }
@@ -351,15 +308,15 @@ fn token_by(t: &[u8], first: Scalar, store: &mut [u8], fill: usize) -> Option<To
         Start::Backslash => or_delim(parse_ident_like(t, store, fill), c),
         Start::Letter => parse_ident_like(t, store, fill),
         Start::Digit => parse_numeric_token(t, store, fill),
-        Start::Other => Some(TokenRead {
+        Start::Other => Some(Taken {
             taken: first.taken,
-            token: mark_of(c),
+            value: mark_of(c),
         }),
     }
 }
 
 // The token at the start of `t`, where no white space is.
-fn token_at(t: &[u8], store: &mut [u8], fill: usize) -> Option<TokenRead>
+fn token_at(t: &[u8], store: &mut [u8], fill: usize) -> Option<Taken<Token>>
     ensures value { result ≡ token_answer (token_at t.now (scalar_of t.now)) }
     ensures store_after { store.new ≡ sets store.old fill (token_text (token_at t.now (scalar_of t.now))) }
 {
@@ -377,6 +334,6 @@ pub fn parse_token(s: &[u8], store: &mut [u8], fill: usize) -> Option<Lexed>
     Some(Lexed {
         start: w,
         end: w + read.taken,
-        token: read.token,
+        token: read.value,
     })
 }

@@ -10,13 +10,14 @@ use Rattle.std.proofs.lemmas.Grind.{common_steps}
 use lib.ListN.{length, take, drop, get_or, length-drop}
 use Rattle.combinators.specs.Choice.{pick, or, and, is, within}
 use Rattle.combinators.specs.Repeat.{many}
+use Rattle.combinators.specs.All.{member}
 use Rattle.combinators.proofs.Lists.{first, rest}
 use Rattle.combinators.proofs.Repeating.{Repeating, repeat-more, repeat-stop}
 use Rattle.combinators.proofs.Repeats.{many-from}
-use Rattle.combinators.proofs.Rules.{at_most, or-none, within-false, within-past, within-true}
+use Rattle.combinators.proofs.Rules.{or-none, within-false, within-past, within-true}
 use Rattle.characters.specs.Trim.{white_taken, word_taken}
-use Rattle.characters.specs.Utf8.{lead_of, scalar_of}
-use Rattle.characters.specs.WhiteSpace.{is_white_space, member, in_ranges}
+use Rattle.characters.specs.Utf8.{scalar_of}
+use Rattle.characters.specs.WhiteSpace.{is_white_space, in_ranges}
 use Rattle.characters.specs.declared.utf8.Lead.{Lead}
 use Rattle.characters.proofs.Reading.{at_ascii}
 use Rattle.characters.proofs.Trimming.{white-value, word_value}
@@ -39,11 +40,6 @@ space-is-white : is_white_space 0x20 ≡ true
 unfolding is_white_space member or is
 space-is-white = refl
 
--- a byte of ASCII is a character
-lead-one : (b : ℕ) → b ≤ 0x7f → 1 ≡ (lead_of b).long
-unfolding lead_of
-lead-one b h = ap (λ (l : Lead). l.long) (at_most (record { long = 1; low = 0; high = 0 }) _ _ b 0x7f h refl)
-
 -- the library's test of a visible ASCII character
 graphic-within : (b : ℕ) → is_ascii_graphic b ≡ within b 0x21 0x7e
 unfolding within and
@@ -57,7 +53,7 @@ module _ (s : List ℕ) (i : ℕ) (inside : i < length s) (b : ℕ) (eb : b ≡ 
 
   -- a byte of ASCII is read as a character
   one_byte : b ≤ 0x7f → Some (record { taken = 1; value = b }) ≡ scalar_of (drop i s)
-  one_byte h = at_ascii (drop i s) some_left b (eb ∙ sym (first s i)) (lead_of b) refl (sym (lead-one b h)) b refl
+  one_byte h = at_ascii (drop i s) some_left b (eb ∙ sym (first s i)) h
 
   -- ---- a visible character
   module _ (g : Bool) (eg : g ≡ is_ascii_graphic b) (yes-graphic : g ≡ true) where

@@ -1,4 +1,5 @@
 -- Returns and turns of the functions that match on all rows of a path.
+use Rattle.std.specs.Prelude.{Option, Some, None, MatchOption}
 use Prim.Native.Nat.{ℕ, zero, suc, ◌+◌, ◌≤◌, ◌<◌}
 use mathlib.Core.Bool.{Bool, true, false}
 use mathlib.Core.List.{List, ◌∷◌}
@@ -47,6 +48,16 @@ unfolding below_top
 below-fails nodes attributes text cs row top g t e Matches f d = absurd (d refl)
 below-fails nodes attributes text cs row top g t e FailsLocally f d = below-ended nodes attributes text cs row top g t e _ _ f refl
 below-fails nodes attributes text cs row top g t e FailsCompletely f d = below-ended nodes attributes text cs row top g t e _ _ f refl
+
+-- what was found of an ancestor, where the row itself stands for none
+abbrev pub found_by : ℕ → Option ℕ → ℕ
+found_by row None = row
+found_by row (Some found) = found
+
+-- the row that was found is told, or that there is none
+pub seek-told : (row : ℕ) (o : Option ℕ) (t : ℕ) → found_by row o ≡ t → MatchOption o (t ≡ row) (λ found. found ≡ t)
+seek-told row None t e = sym e
+seek-told row (Some found) t e = e
 
 module _ (store components nodes attributes text : List ℕ) where
   -- ---- turns of `topmost_ancestor`: what is found from a row on is what is found from the first on
@@ -166,6 +177,6 @@ module _ (store components nodes attributes text : List ℕ) where
 
   -- the return of `selector_top` there
   pub top-none : (left row : ℕ) → Rooted nodes row → (i : ℕ) → i < left → (k : ℕ) → k ≡ component_number components i component_kind_at → k ≡ descendant_kind
-      → (t : ℕ) → t ≡ topmost nodes attributes text (components_at store components i) row → t ≡ row
+      → topmost nodes attributes text (components_at store components i) row ≡ row
       → (row ≡ selector_top nodes attributes text row (components_at store components left)) × (row ≤ row)
-  top-none left row r i h k ek e t et z = (sym (none-behind row r i (sym ek ∙ e) (sym et ∙ z) left h), omega arith)
+  top-none left row r i h k ek e z = (sym (none-behind row r i (sym ek ∙ e) z left h), omega arith)

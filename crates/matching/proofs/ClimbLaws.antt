@@ -46,7 +46,7 @@ module _ (store components nodes attributes text : List ℕ) where
 
   -- where the first l components lead from a row
   abbrev Climb : ℕ → ℕ → Climbed
-  Climb l r = climb_of nodes attributes text (components_at store components l) r
+  Climb = one.Climb store components nodes attributes text
 
   -- ---- `match_locally`: n components on a row above lead where all lead from the row
   module _ (left row : ℕ) where

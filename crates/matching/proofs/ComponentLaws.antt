@@ -9,14 +9,14 @@ use lib.ListN.{length, get_or, drop, get_or-eq_default}
 use lib.Seq.{drop-drop, get_or-drop}
 use Rattle.combinators.specs.Choice.{pick, is}
 use Rattle.combinators.specs.Part.{part}
-use Rattle.combinators.proofs.Rules.{is_true, pick-holds, lt-or-ge}
+use Rattle.combinators.proofs.Rules.{is_true, is_false, pick-holds, lt-or-ge}
 use Rattle.syntax.specs.RuleLayout.{star_kind, class_kind, element_kind, hash_kind, child_kind, descendant_kind, nth_kind, attribute_kind, component_width, component_kind_at, component_text_at, component_first_at, component_second_at, component_from, read_component}
 use Rattle.syntax.specs.Selector.{Component, star, class, element, hash, child, descendant, nth, attribute, attribute_equal}
 use Rattle.syntax.specs.Stream.{Read, read_many}
 use Rattle.cascade.specs.Specificity.{specificity_of, no_specificity, sum, SumFits}
 use Rattle.cascade.specs.declared.specificity.Specificity.{Specificity}
 use Rattle.matching.specs.Rows.{component_number, component_at, components_at, first_text, second_text}
-use Rattle.matching.specs.Specificity.{added, specificity}
+use Rattle.matching.specs.Specificity.{added, name_added, specificity}
 
 -- ---- numbers and texts
 module _ (components : List ℕ) (i column : ℕ) where
@@ -90,7 +90,7 @@ components-length store components (suc k) = ap length (components-more store co
 -- ---- specificity
 
 -- as the code's constant has it
-abbrev nothing : Specificity
+abbrev pub nothing : Specificity
 nothing = record { inline = false; id = 0; class = 0; typ = 0 }
 
 -- what a component of kind k adds
@@ -101,12 +101,12 @@ module _ (store : List ℕ) (k f a b : ℕ) where
   adds-star e = rw e
 
   -- an element name adds one to the element names
-  pub adds-element : k ≡ element_kind → specificity_of 0 0 1 ≡ added (component_from store k f a b)
+  adds-element : k ≡ element_kind → specificity_of 0 0 1 ≡ added (component_from store k f a b)
   unfolding component_from added pick is
   adds-element e = rw e
 
   -- a hash adds one to the ids
-  pub adds-hash : k ≡ hash_kind → specificity_of 1 0 0 ≡ added (component_from store k f a b)
+  adds-hash : k ≡ hash_kind → specificity_of 1 0 0 ≡ added (component_from store k f a b)
   unfolding component_from added pick is
   adds-hash e = rw e
 
@@ -132,7 +132,7 @@ module _ (store : List ℕ) (k f a b : ℕ) where
   AsClass c = specificity_of 0 1 0 ≡ added c
 
   -- a component of any other kind counts as a class
-  pub adds-class : ¬ (k ≡ star_kind) → ¬ (k ≡ element_kind) → ¬ (k ≡ hash_kind) → ¬ (k ≡ child_kind) → ¬ (k ≡ descendant_kind) → AsClass (component_from store k f a b)
+  adds-class : ¬ (k ≡ star_kind) → ¬ (k ≡ element_kind) → ¬ (k ≡ hash_kind) → ¬ (k ≡ child_kind) → ¬ (k ≡ descendant_kind) → AsClass (component_from store k f a b)
   unfolding component_from added
   adds-class no-star no-element no-hash no-child no-descendant =
       pick-holds AsClass (is k star_kind) _ _ (λ e. absurd (no-star (is_true k star_kind e)))
@@ -144,8 +144,16 @@ module _ (store : List ℕ) (k f a b : ℕ) where
       (λ e5. pick-holds AsClass (is k nth_kind) _ _ (λ e. refl)
       (λ e6. pick-holds AsClass (is k attribute_kind) _ _ (λ e. refl) (λ e7. refl))))))))
 
+  -- so one that is no star and no combinator adds what its kind says
+  pub adds-name : ¬ (k ≡ star_kind) → ¬ (k ≡ child_kind) → ¬ (k ≡ descendant_kind) → name_added k ≡ added (component_from store k f a b)
+  unfolding name_added
+  adds-name no-star no-child no-descendant =
+      pick-holds (λ (x : Specificity). x ≡ added (component_from store k f a b)) (is k element_kind) _ _ (λ e. adds-element (is_true k element_kind e))
+      (λ no-element. pick-holds (λ (x : Specificity). x ≡ added (component_from store k f a b)) (is k hash_kind) _ _ (λ e. adds-hash (is_true k hash_kind e))
+      (λ no-hash. adds-class no-star (is_false k element_kind no-element) (is_false k hash_kind no-hash) no-child no-descendant))
+
 -- a component adds at most one to each count
-added-few : (c : Component) → ((added c).id ≤ 1) × (((added c).class ≤ 1) × ((added c).typ ≤ 1))
+pub added-few : (c : Component) → ((added c).id ≤ 1) × (((added c).class ≤ 1) × ((added c).typ ≤ 1))
 unfolding added specificity_of no_specificity
 added-few star = (omega arith, (omega arith, omega arith))
 added-few (class c) = (omega arith, (omega arith, omega arith))

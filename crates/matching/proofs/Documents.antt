@@ -10,8 +10,8 @@ use lib.ListN.{length}
 use Rattle.combinators.specs.All.{All}
 use Rattle.combinators.specs.Choice.{pick, or, and}
 use Rattle.combinators.specs.Word.{same_text}
-use Rattle.combinators.proofs.AllLaws.{all_weaker}
-use Rattle.combinators.proofs.Rules.{never, either, or_left, and_both, and-true}
+use Rattle.combinators.proofs.AllLaws.{all_weaker, of-all}
+use Rattle.combinators.proofs.Rules.{never, either, or_left, and_both, and-true, or-second, Exactly}
 use Rattle.combinators.proofs.Words.{same-is, same_self}
 use Rattle.characters.specs.Literal.{text}
 use Rattle.characters.specs.Utf8.{valid}
@@ -26,7 +26,6 @@ use Rattle.page.proofs.RowFacts.{attribute-value-valid}
 use Rattle.matching.specs.Matches.{any_attribute, is_named, is_class, has_class, is_id, has_id, has_attribute, first_is, attribute_is, name_is, here, on_parent, on_ancestors, step, matches}
 use Rattle.matching.specs.Texts.{has_word}
 use Rattle.matching.specs.Documents.{Some, is_selectors_white_space, WordOf, PlainText, Named, FirstValue, Distinct, Simple}
-use Rattle.matching.proofs.Selectors.{Exactly, or_yes}
 use Rattle.matching.proofs.WordList.{exactly-then, exactly-either, word-exactly, plain_word}
 
 -- ---- tests
@@ -43,7 +42,7 @@ both-exactly a b P Q f g =
 -- one of two does exactly if either does
 either-exactly : (a b : Bool) → Exactly (or a b ≡ true) ((a ≡ true) ⊎ (b ≡ true))
 either-exactly a b =
-    ((λ e. either ((a ≡ true) ⊎ (b ≡ true)) a b e inl inr), ⊎_elim (λ (e : a ≡ true). or_left a b e) (λ (e : b ≡ true). or_yes a b e))
+    ((λ e. either ((a ≡ true) ⊎ (b ≡ true)) a b e inl inr), ⊎_elim (λ (e : a ≡ true). or_left a b e) (λ (e : b ≡ true). or-second a b e))
 
 -- a test beside one that holds
 alone : (a : Bool) → Exactly (and a true ≡ true) (a ≡ true)
@@ -58,11 +57,6 @@ any-exactly : (f : Attribute → Bool) (P : Attribute → Type 0) (l : List Attr
 unfolding any_attribute
 any-exactly f P [] h = ((λ e. never e), (λ q. absurd q))
 any-exactly f P (a ∷ l) h = exactly-then _ _ _ (either-exactly (f a) (any_attribute f l)) (exactly-either _ _ _ _ h.0 (any-exactly f P l h.1))
-
--- what holds of every attribute holds of those of a list
-of-all : (P : Attribute → Type 0) → ((a : Attribute) → P a) → (l : List Attribute) → All P l
-of-all P f [] = tt
-of-all P f (a ∷ l) = (f a, of-all P f l)
 
 -- an attribute passes the test for a name exactly if it has that name
 named-exactly : (n : List ℕ) (a : Attribute) → Exactly (is_named n a ≡ true) (Named n a)

@@ -3,7 +3,6 @@ pub mod Selectors
 pub mod Signed
 pub mod AsciiLaws
 pub mod Words
-pub mod PartLaws
 pub mod ComponentLaws
 pub mod AttributeLaws
 pub mod PathLaws

@@ -45,7 +45,7 @@ module _ (store components nodes attributes text : List ℕ) (i row k : ℕ) (ek
 -- ---- `match_locally`: where components lead from a row, one by one
 module _ (store components nodes attributes text : List ℕ) where
   -- where the first l components lead from a row
-  abbrev Climb : ℕ → ℕ → Climbed
+  abbrev pub Climb : ℕ → ℕ → Climbed
   Climb l r = climb_of nodes attributes text (components_at store components l) r
 
   -- the last of them decides, with those before it

@@ -16,7 +16,7 @@ use Rattle.combinators.specs.Choice.{pick, is}
 use Rattle.combinators.proofs.Rules.{never, pick_true, pick-false, pick-holds, is-yes, is-no, is_true, is_false}
 use Rattle.syntax.specs.RuleLayout.{descendant_kind, component_kind_at}
 use Rattle.syntax.specs.Selector.{Component}
-use Rattle.page.specs.Ancestors.{ancestors_from, ancestors_of, line_of}
+use Rattle.page.specs.Ancestors.{ancestors_from, ancestors_of}
 use Rattle.page.proofs.Ancestry.{below-ancestors}
 use Rattle.page.specs.PathOf.{path_of}
 use Rattle.page.specs.Rows.{node_at}
@@ -35,6 +35,7 @@ use Rattle.matching.proofs.CallLaws.{by-combinator}
 use Rattle.matching.proofs.ComponentLaws.{components-none, components-more}
 use Rattle.matching.proofs.PassLaws.{from-descendant, second-passed}
 use Rattle.matching.proofs.PathLaws.{parent-rooted, parent-before}
+use Rattle.matching.proofs.ReachLaws as reach
 use Rattle.matching.proofs.ReachLaws.{first-document, first-opened, first-here, first_above}
 use Rattle.matching.proofs.TopmostLaws.{line_before, line-rooted, line_on, right-top, top_within, right-above}
 
@@ -173,7 +174,7 @@ module _ (nodes attributes text : List ℕ) where
 
   module _ (cs : List Component) where
     abbrev First : ℕ → ℕ
-    First row = first_reaching nodes attributes text cs (line_of nodes row)
+    First = reach.First nodes attributes text cs
 
     module _ (row : ℕ) (r : Rooted nodes row) (y : ¬ (row ≡ 0)) where
       -- what holds of the rows above a row holds of it: where none is first, it is reached from none

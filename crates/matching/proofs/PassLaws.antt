@@ -7,31 +7,18 @@ use native.Mathlib.Omega.{arith}
 use Rattle.combinators.specs.Choice.{pick, and, is}
 use Rattle.combinators.specs.Part.{part}
 use Rattle.combinators.specs.Word.{same_text}
-use Rattle.combinators.proofs.Rules.{never, pick-holds, pick_true, pick-false, is_true, is_false, is-yes, is-no}
+use Rattle.combinators.proofs.Rules.{never, pick-holds, pick_true, pick-false, is_true, is_false, is-yes, is-no, and_yes}
 use Rattle.syntax.specs.RuleLayout.{star_kind, class_kind, element_kind, hash_kind, child_kind, descendant_kind, nth_kind, attribute_kind, component_kind_at, component_first_at, component_second_at, component_from}
 use Rattle.syntax.specs.Selector.{Component, star, class, element, hash, child, descendant, nth, attribute, attribute_equal}
 use Rattle.syntax.specs.Signed.{signed_of}
 use Rattle.page.specs.Ancestors.{place_of}
 use Rattle.page.specs.Path.{Attribute, Element, Path}
 use Rattle.page.specs.PathOf.{element_at}
-use Rattle.page.specs.Rows.{node_at, name_of}
+use Rattle.page.specs.Rows.{name_of}
 use Rattle.matching.specs.Matches.{any_attribute, is_class, is_id, is_named, first_is, has_class, has_id, has_attribute, attribute_is, name_is, here, on_parent, on_ancestors, step, matches}
 use Rattle.matching.specs.Nth.{nth_matches}
 use Rattle.matching.specs.Rows.{component_number, first_text, second_text, attributes_pass, element_passes}
 use Rattle.matching.specs.Recursion.{by_combinator}
-
--- a test beside one that holds is the test itself
-pub and_yes : (x : Bool) → and x true ≡ x
-unfolding and
-and_yes true = refl
-and_yes false = refl
-
--- ---- the return of `is_called`: the part that is compared is the name
--- comparing the part that the node's numbers name is comparing the element's name
-pub called-as : (nodes text name : List ℕ) (row start n : ℕ) → start ≡ (node_at nodes row).name_start → n ≡ (node_at nodes row).name_length → (r : Bool)
-    → r ≡ same_text (part text start n) name → r ≡ same_text (name_of nodes text row) name
-unfolding name_of
-called-as nodes text name row start n es el r e = rw (← es, ← el) e
 
 -- ---- the returns of `attributes_asked`, with the first text of a component and the attributes l of an element
 module _ (store components nodes attributes text : List ℕ) (i row k : ℕ) (name : List ℕ) (en : name ≡ first_text store components i)

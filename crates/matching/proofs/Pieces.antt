@@ -9,9 +9,8 @@ use native.Mathlib.Omega.{arith}
 use lib.ListN.{length}
 use Rattle.combinators.specs.All.{All}
 use Rattle.combinators.specs.Choice.{pick}
-use Rattle.combinators.proofs.Rules.{never, pick_true, pick-false}
+use Rattle.combinators.proofs.Rules.{never, pick_true, pick-false, Exactly}
 use Rattle.matching.specs.Documents.{Some, pieces, without_empty, words, EndsInWhite, nothing-before, white-before, BeginsWithWhite, nothing-behind, white-behind, Parted}
-use Rattle.matching.proofs.Selectors.{Exactly}
 use Rattle.matching.proofs.WordList.{exactly-then, exactly-either, front, behind, joined, others, first_piece}
 
 module _ (white : ℕ → Bool) (w : List ℕ) where

@@ -18,7 +18,7 @@ module _ (nodes attributes text : List ℕ) (cs : List Component) where
   abbrev Climb : ℕ → Climbed
   Climb row = climb_of nodes attributes text cs row
 
-  abbrev First : ℕ → ℕ
+  abbrev pub First : ℕ → ℕ
   First row = first_reaching nodes attributes text cs (line_of nodes row)
 
   -- the document comes to nothing

@@ -4,7 +4,7 @@ use mathlib.Core.Bool.{Bool, true, false}
 use mathlib.Core.List.{List, [], ◌∷◌}
 use mathlib.Core.Path.{◌≡◌, refl, sym, ap, subst, ◌∙◌}
 use Rattle.combinators.specs.Choice.{pick, or, and}
-use Rattle.combinators.proofs.Rules.{never, or_left, or_right, or-none, and_both, and_left, and_right}
+use Rattle.combinators.proofs.Rules.{never, or_left, or_right, or-none, and_both, and_left, and_right, neither, and_yes, Exactly}
 use Rattle.syntax.specs.Selector.{Component, star, class, element, hash, child, descendant, nth, attribute, attribute_equal}
 use Rattle.page.specs.Path.{Element, Path}
 use Rattle.matching.specs.Matches.{has_class, has_id, has_attribute, attribute_is, name_is, here, on_parent, on_ancestors, step, matches}
@@ -13,14 +13,7 @@ use Rattle.matching.specs.Recursion.{on_ancestors_or_self, ResultHolds, result_o
 use Rattle.matching.specs.declared.matcher.SelectorMatch.{SelectorMatch}
 use Rattle.matching.specs.declared.matcher.SelectorMatch.TheVariants.{Matches, FailsLocally, FailsCompletely}
 use Rattle.matching.specs.Selectors.{Ancestor}
-use Rattle.matching.proofs.PassLaws.{and_yes}
-use Rattle.matching.proofs.Selectors.{Exactly, ancestor-seen}
-
--- neither of two tests holds where their `or` fails
-pub neither : (a b : Bool) → or a b ≡ false → (a ≡ false) × (b ≡ false)
-unfolding or
-neither true b e = never (sym e)
-neither false b e = (refl, e)
+use Rattle.matching.proofs.Selectors.{ancestor-seen}
 
 -- where f fails on all ancestors, what fails without f on an ancestor fails on the path and on all ancestors
 module _ (f g : Path → Bool) (weaker : (q : Path) → on_ancestors f q ≡ false → g q ≡ false) where

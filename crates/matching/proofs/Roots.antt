@@ -4,41 +4,17 @@ use mathlib.Core.Bool.{true}
 use mathlib.Core.List.{List}
 use mathlib.Core.Path.{◌≡◌}
 use native.Mathlib.Omega.{arith}
-use borrow.Author.Tests.{ltb-true}
-use lib.Dec.{ltb}
 use Rattle.combinators.specs.Choice.{is}
 use Rattle.combinators.specs.Refusal.{no_refusal}
-use Rattle.combinators.proofs.Rules.{never, pick-holds, either, and-true, is_true, is-yes}
+use Rattle.combinators.proofs.Rules.{either, and-true, is_true, is-yes, or-second}
 use Rattle.page.specs.Accepted.{is_document, is_parent, parent_right, row_right, page_refusal}
-use Rattle.page.specs.Ancestors.{ancestors_from, ancestors_of, line_of, member, element_children}
+use Rattle.page.specs.Ancestors.{element_children}
 use Rattle.page.specs.Rows.{element_kind, node_at, node_count}
 use Rattle.page.proofs.AcceptedPages.{accepted}
 use Rattle.page.proofs.Paths.{none_yet}
+use Rattle.page.proofs.RowLaws.{line_before}
 use Rattle.matching.specs.Rows.{Rooted}
 use Rattle.matching.specs.Rows.Rooted.{document, below}
-use Rattle.matching.proofs.Selectors.{or_yes}
-
--- ---- ancestors stand before their rows
-module _ (nodes : List ℕ) (x : ℕ) where
-  -- a row among the ancestors of another stands before it
-  above_before : (k row : ℕ) → member x (ancestors_from k nodes row) ≡ true → x < row
-  unfolding ancestors_from member
-  above_before zero row e = never e
-  above_before (suc k) row e =
-      pick-holds (λ (l : List ℕ). member x l ≡ true → x < row) (ltb (node_at nodes row).parent row) _ _
-      (λ t. let l : (node_at nodes row).parent < row = ltb-true (node_at nodes row).parent row t in
-      λ m. either (x < row) (is x (node_at nodes row).parent) (member x (ancestors_from k nodes (node_at nodes row).parent)) m
-      (λ y. let z : x ≡ (node_at nodes row).parent = is_true x (node_at nodes row).parent y in omega arith)
-      (λ y. let z : x < (node_at nodes row).parent = above_before k (node_at nodes row).parent y in omega arith))
-      (λ t m. never m) e
-
-  -- a row among another and its ancestors is that row or stands before it
-  line_before : (row : ℕ) → member x (line_of nodes row) ≡ true → x ≤ row
-  unfolding ancestors_of member
-  line_before row e =
-      either (x ≤ row) (is x row) (member x (ancestors_from row nodes row)) e
-      (λ y. let z : x ≡ row = is_true x row y in omega arith)
-      (λ y. let z : x < row = above_before row row y in omega arith)
 
 -- ---- rows that keep the rules
 module _ (nodes attributes : List ℕ) (n : ℕ) (right : (k : ℕ) → k < n → row_right nodes attributes k ≡ true)
@@ -63,7 +39,7 @@ module _ (nodes attributes : List ℕ) (n : ℕ) (right : (k : ℕ) → k < n �
   -- the parent of a row stands before it
   parent-le : (b : ℕ) → suc b < n → (node_at nodes (suc b)).parent ≤ b
   unfolding parent_right
-  parent-le b h = line_before nodes (node_at nodes (suc b)).parent b (and-true _ _ (parent-right b h)).1
+  parent-le b h = line_before nodes b (node_at nodes (suc b)).parent (and-true _ _ (parent-right b h)).1
 
   -- a row other than row 0 that may be a parent is an element
   parent-kind : (b : ℕ) → is_parent nodes (suc b) ≡ true → (node_at nodes (suc b)).kind ≡ element_kind
@@ -98,4 +74,4 @@ module _ (nodes attributes text : List ℕ) (e : page_refusal nodes attributes t
   -- from every element of an accepted page parents lead to the document
   pub accepted-element : (row : ℕ) → row < node_count nodes → (node_at nodes row).kind ≡ element_kind → Rooted nodes row
   unfolding is_parent
-  accepted-element row h k = accepted-rooted row h (or_yes (is row 0) (is (node_at nodes row).kind element_kind) (is-yes (node_at nodes row).kind element_kind k))
+  accepted-element row h k = accepted-rooted row h (or-second (is row 0) (is (node_at nodes row).kind element_kind) (is-yes (node_at nodes row).kind element_kind k))

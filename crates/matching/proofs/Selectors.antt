@@ -1,11 +1,11 @@
 -- Laws from Selectors Level 3: what a combinator, nth-child and the specificity of a selector mean.
 use Prim.Native.Nat.{ℕ, ◌+◌}
-use mathlib.Core.Bool.{Bool, true, false}
+use mathlib.Core.Bool.{Bool, true}
 use mathlib.Core.List.{List, [], ◌∷◌}
 use mathlib.Core.Path.{◌≡◌, refl, ap, ◌∙◌}
 use lib.IntN.{ℤ}
 use Rattle.combinators.specs.Choice.{pick, or, and, is}
-use Rattle.combinators.proofs.Rules.{never, either, or_left, and_both, and-true}
+use Rattle.combinators.proofs.Rules.{never, either, or_left, and_both, and-true, or-second, Exactly}
 use Rattle.syntax.specs.Selector.{Component, star, class, element, hash, child, descendant, nth, attribute, attribute_equal}
 use Rattle.syntax.specs.RuleLayout.{component_kind, star_kind}
 use Rattle.cascade.specs.Specificity.{specificity_of, no_specificity, sum}
@@ -18,16 +18,6 @@ use Rattle.matching.specs.Selectors.Parent.{above}
 use Rattle.matching.specs.Selectors.Ancestor.{parent, higher}
 use Rattle.matching.specs.Specificity.{added, specificity}
 use Rattle.matching.proofs.Multiples.{nth-sound, nth-complete}
-
--- each of the two follows from the other
-abbrev pub Exactly : Type 0 → Type 0 → Type 0
-Exactly P Q = (P → Q) × (Q → P)
-
--- a test that holds beside any other
-pub or_yes : (a b : Bool) → b ≡ true → or a b ≡ true
-unfolding or
-or_yes true b e = refl
-or_yes false b e = e
 
 -- ---- the document
 
@@ -82,7 +72,7 @@ module _ (f : Path → Bool) where
   -- where f is found above the parent, it is found above the path
   by-higher : (p q : Path) → Parent p q → on_ancestors f q ≡ true → on_ancestors f p ≡ true
   unfolding on_ancestors
-  by-higher p q (above {up = up}) m = or_yes (f up) (on_ancestors f up) m
+  by-higher p q (above {up = up}) m = or-second (f up) (on_ancestors f up) m
 
   -- where f passes some ancestor, it is found above the path
   pub ancestor-seen : (p q : Path) → Ancestor p q → f q ≡ true → on_ancestors f p ≡ true

@@ -8,7 +8,7 @@ use native.Mathlib.Omega.{arith}
 use borrow.Author.Tests.{lt-ltb, le-ltb}
 use lib.Dec.{ltb}
 use Rattle.combinators.specs.Choice.{pick, or, and, is}
-use Rattle.combinators.proofs.Rules.{never, or-none, and_right, is-no}
+use Rattle.combinators.proofs.Rules.{never, or-none, and_right, is-no, neither}
 use Rattle.syntax.specs.Selector.{Component, star, class, element, hash, child, descendant, nth, attribute, attribute_equal}
 use Rattle.page.specs.Ancestors.{ancestors_from, ancestors_of}
 use Rattle.page.specs.Path.{Path}
@@ -27,7 +27,6 @@ use Rattle.matching.specs.declared.matcher.Climbed.{Climbed}
 use Rattle.matching.specs.declared.matcher.Climbed.TheVariants.{Ended}
 use Rattle.matching.proofs.CallLaws.{by-combinator}
 use Rattle.matching.proofs.PathLaws.{top-path, other_path}
-use Rattle.matching.proofs.RecursionLaws.{neither}
 
 -- ---- a row and its ancestors
 module _ (nodes : List ℕ) where

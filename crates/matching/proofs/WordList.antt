@@ -12,20 +12,19 @@ use Rattle.combinators.specs.Choice.{pick, or, is}
 use Rattle.combinators.specs.Repeat.{many}
 use Rattle.combinators.specs.Word.{same_text}
 use Rattle.combinators.proofs.Repeats.{many-took, many-stop, many-from}
-use Rattle.combinators.proofs.Rules.{never, pick_true, pick-false, pick-holds, is-yes, is-no, either, or_left}
+use Rattle.combinators.proofs.Rules.{never, pick_true, pick-false, pick-holds, is-yes, is-no, either, or_left, or-second, Exactly}
 use Rattle.combinators.proofs.Words.{same-is, same_self}
 use Rattle.characters.specs.Trim.{white_of, white_taken, word_of, word_taken, trimmed_start}
 use Rattle.characters.specs.Utf8.{is_scalar, utf8, scalar_of, valid, encode, Scalars}
 use Rattle.characters.specs.Utf8.Scalars.{none, more}
 use Rattle.characters.specs.WhiteSpace.{is_white_space}
 use Rattle.std.specs.Prelude.{Option, option_map, unwrap_or}
-use Rattle.characters.specs.declared.utf8.Scalar.{Scalar}
+use Rattle.combinators.specs.declared.taken.Taken.{Taken}
 use Rattle.characters.proofs.RoundTrip.{read_back}
 use Rattle.characters.proofs.Scalars.{utf8-some}
 use Rattle.characters.proofs.Texts.{valid-is}
 use Rattle.matching.specs.Texts.{word_length, word_among, has_word}
 use Rattle.matching.specs.Documents.{Some, is_selectors_white_space, longer, pieces, without_empty, words, WordOf, PlainText}
-use Rattle.matching.proofs.Selectors.{Exactly, or_yes}
 
 -- ---- two things that each follow from the other
 
@@ -300,7 +299,7 @@ module _ (w : List ℕ) (k : ℕ) (vs : List ℕ) (h : Scalars vs) where
         back q =
             asked
             ∙ ⊎_elim (λ (m : encode (x ∷ p) ≡ w). or_left _ _ (ap (same_text (encode (x ∷ p))) (sym m) ∙ same_self (encode (x ∷ p))))
-            (λ (m : Found w (words is_white_space more-text)). or_yes _ _ (r.1 m))
+            (λ (m : Found w (words is_white_space more-text)). or-second _ _ (r.1 m))
             (subst (Found w) listed q)
 
 -- the empty text, and one that is not
@@ -332,8 +331,8 @@ has-word-exactly w vs h = found w (length (encode vs)) vs h (omega arith)
 -- ---- by characters
 
 -- the value of a character that was read
-unfoldable value_of : ℕ → Option Scalar → ℕ
-value_of d s = unwrap_or (option_map (λ (x : Scalar). x.value) s) d
+unfoldable value_of : ℕ → Option (Taken ℕ) → ℕ
+value_of d s = unwrap_or (option_map (λ (x : Taken ℕ). x.value) s) d
 
 -- two texts with the same bytes have the same characters
 pub encode-once : (a b : List ℕ) → Scalars a → Scalars b → encode a ≡ encode b → a ≡ b

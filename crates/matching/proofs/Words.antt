@@ -1,90 +1,105 @@
--- A loop over the words of a text that White_Space parts.
-use Prim.Native.Nat.{ℕ, zero, suc, ◌+◌, ◌-◌, ◌≤◌, ◌<◌}
-use mathlib.Core.Bool.{Bool, true, false}
-use mathlib.Core.List.{List, []}
-use mathlib.Core.Path.{◌≡◌, refl, sym, ap, ◌∙◌}
+-- The first word of a text that White_Space parts, and a loop over its words.
+use Rattle.std.specs.Prelude.{Option, MatchOption}
+use Rattle.std.specs.Bool.{then_some}
+use Prim.Native.Nat.{ℕ, zero, suc, ◌-◌, ◌≤◌}
+use mathlib.Core.Bool.{Bool, true, false, not}
+use mathlib.Core.List.{List}
+use mathlib.Core.Path.{◌≡◌, refl, sym, ap, ap₂, subst, ◌∙◌}
 use native.Mathlib.Omega.{arith}
-use lib.ListN.{length, take, drop, drop_of_length-le}
-use lib.Seq.{drop-drop}
-use Rattle.combinators.specs.Choice.{pick, or, is}
+use borrow.Author.Tests.{eq-eqb, eqb-true}
+use lib.Dec.{eqb}
+use lib.ListN.{length, take, drop, length-take, length-drop}
+use Rattle.combinators.specs.Choice.{or, is}
 use Rattle.combinators.specs.Repeat.{many}
 use Rattle.combinators.specs.Word.{same_text}
 use Rattle.combinators.proofs.Lists.{rest}
-use Rattle.combinators.proofs.Rules.{is-yes, is-no, pick_true, pick-false, or_left}
+use Rattle.combinators.proofs.Rules.{never, is-yes, is-no, pick_true, pick-false, or_left}
 use Rattle.characters.specs.Trim.{white_taken, word_taken, trimmed_start}
-use Rattle.matching.specs.Texts.{word_length, word_among, has_word}
+use Rattle.matching.specs.Texts.{word_length, word_among, has_word, NoWord, FirstWord}
 
--- an empty text has no words
-none_left : (k : ℕ) (w : List ℕ) → word_among k w [] ≡ false
-unfolding word_among trimmed_start word_length many pick is
-none_left zero w = refl
-none_left (suc k) w = refl
-
--- at i: w is among the words that are left exactly if it is among all
-pub record Splitting (w s : List ℕ) (i : ℕ) : Type 0 where
-  pub within_text : i ≤ length s
-  pub words : ℕ
-  pub enough : length s ≤ i + words
-  pub left : word_among words w (drop i s) ≡ has_word w s
-
--- before the first byte all words are left
-pub split-begin : (w s : List ℕ) → Splitting w s 0
-unfolding has_word
-split-begin w s = record { within_text = omega arith; words = length s; enough = omega arith; left = refl }
-
--- where nothing is left the word was not found
-pub split-end : (w s : List ℕ) (i : ℕ) → Splitting w s i → length s ≤ i → false ≡ has_word w s
-split-end w s i v h = sym (ap (word_among v.words w) (drop_of_length-le s h) ∙ none_left v.words w) ∙ v.left
-
--- a turn: behind a bytes of White_Space stands a word of n bytes
-module _ (w s : List ℕ) (i : ℕ) (v : Splitting w s i) (inside : i < length s)
-    (a : ℕ) (white : a ≡ many white_taken 0 0 (take (length s - i) (drop i s)))
-    (n : ℕ) (word : n ≡ many word_taken 0 0 (take (length s - (i + a)) (drop (i + a) s))) where
-  -- without the White_Space in front, what is left begins a bytes further on
-  front : trimmed_start (drop i s) ≡ drop (i + a) s
+-- ---- a text that begins with a bytes of White_Space, and behind them with a word of n bytes
+module _ (s : List ℕ) (a : ℕ) (white : a ≡ many white_taken 0 0 s) (n : ℕ) (word : n ≡ many word_taken 0 0 (take (length s - a) (drop a s))) where
+  -- what is left behind a bytes is what is left behind the White_Space in front
+  front : take (length s - a) (drop a s) ≡ trimmed_start s
   unfolding trimmed_start
-  front = ap (λ k. drop k (drop i s)) (ap (many white_taken 0 0) (sym (rest s i)) ∙ sym white) ∙ drop-drop a i s
+  front = rest s a ∙ ap (λ (k : ℕ). drop k s) white
 
   -- the word that stands there has n bytes
-  long : word_length (drop (i + a) s) ≡ n
+  long : n ≡ word_length (trimmed_start s)
   unfolding word_length
-  long = ap (many word_taken 0 0) (sym (rest s (i + a))) ∙ sym word
+  long = word ∙ ap (many word_taken 0 0) front
 
-  -- a test of k + 1 words compares those n bytes, and asks what stands behind them with k
-  opened : (k : ℕ) → word_among (suc k) w (drop i s) ≡ pick (is n 0) false (or (same_text (take n (drop (i + a) s)) w) (word_among k w (drop (i + a + n) s)))
-  unfolding word_among
-  opened k = rw (front, long, drop-drop n (i + a) s)
+  -- where it has none, no word is left
+  no-word : n ≡ 0 → NoWord s
+  no-word e = record { none = sym long ∙ e }
 
-  -- the comparison of that word, or the answer of what stands behind it, is the answer for the whole text
-  turned : pick (is n 0) false (or (same_text (take n (drop (i + a) s)) w) (word_among (v.words - 1) w (drop (i + a + n) s))) ≡ has_word w s
-  turned =
-      let h = v.enough in
-      let e : suc (v.words - 1) ≡ v.words = omega arith in
-      sym (opened (v.words - 1)) ∙ ap (λ k. word_among k w (drop i s)) e ∙ v.left
+  -- and any other is the first
+  pub first-word : ¬ (n ≡ 0) → n ≤ length (take (length s - a) (drop a s)) → (w others : List ℕ) → w ≡ take n (take (length s - a) (drop a s)) → others ≡ drop n (take (length s - a) (drop a s))
+      → FirstWord s w others
+  first-word h l w others ew eo =
+      record {
+        some = λ z. h (long ∙ z);
+        word = ew ∙ ap₂ take long front;
+        left = eo ∙ ap₂ drop long front;
+        shorter = omega (arith, ap length eo, length-drop n (take (length s - a) (drop a s)), length-take (length s - a) (drop a s));
+      }
 
-  -- where only White_Space is left the word was not found
-  pub split-none : n ≡ 0 → false ≡ has_word w s
-  split-none e = pick_true _ _ _ (is n 0) (is-yes n 0 e) refl ∙ turned
+  -- what is told of the two parts of a split
+  pub split-told : {T : Type 0} (P : T → Type 0) (x : T) (o : Option T) → o ≡ then_some (not (eqb n 0)) x → (¬ (n ≡ 0) → P x) → MatchOption o (NoWord s) P
+  split-told P x o e p = subst (λ (r : Option _). MatchOption r (NoWord s) P) (sym e) (go (eqb n 0) refl)
+    where
+      go : (b : Bool) → eqb n 0 ≡ b → MatchOption (then_some (not b) x) (NoWord s) P
+      go true h = no-word (eqb-true n 0 h)
+      go false h = p (λ z. never (sym h ∙ eq-eqb n 0 z))
 
-  module _ (some : ¬ (n ≡ 0)) (r : Bool) (same : r ≡ same_text (take (i + a + n - (i + a)) (drop (i + a) s)) w) where
-    -- what the code compared is that word of n bytes with w
-    compared : same_text (take n (drop (i + a) s)) w ≡ r
-    compared = let e : n ≡ i + a + n - (i + a) = omega arith in ap (λ k. same_text (take k (drop (i + a) s)) w) e ∙ sym same
+-- ---- the loop
+-- where no word is left, none is among those that are
+none-among : (k : ℕ) (w left : List ℕ) → NoWord left → false ≡ word_among k w left
+unfolding word_among
+none-among zero w left e = refl
+none-among (suc k) w left e = pick_true _ _ _ (is (word_length (trimmed_start left)) 0) (is-yes _ 0 e.none) refl
+
+-- w is among the words that are left of a text exactly if it is among all
+pub record Splitting (w s left : List ℕ) : Type 0 where
+  pub words : ℕ
+  pub enough : length left ≤ words
+  pub same : word_among words w left ≡ has_word w s
+
+-- before the first word all are left
+pub split-begin : (w s : List ℕ) → Splitting w s s
+unfolding has_word
+split-begin w s = record { words = length s; enough = omega arith; same = refl }
+
+module _ (w s left : List ℕ) (v : Splitting w s left) where
+  -- where no word is left the word was not found
+  pub split-end : NoWord left → false ≡ has_word w s
+  split-end e = none-among v.words w left e ∙ v.same
+
+  module _ (found others : List ℕ) (f : FirstWord left found others) where
+    -- a test of k + 1 words compares the first, and asks the others with k
+    opened : (k : ℕ) → or (same_text found w) (word_among k w others) ≡ word_among (suc k) w left
+    unfolding word_among
+    opened k =
+        pick-false _ _ _ (is (word_length (trimmed_start left)) 0) (is-no _ 0 f.some)
+        (ap₂ (λ (x y : List ℕ). or (same_text x w) (word_among k w y)) f.word f.left)
+
+    -- the comparison of the first, or the answer of the others, is the answer for the whole text
+    turned : or (same_text found w) (word_among (v.words - 1) w others) ≡ has_word w s
+    turned =
+        let h = v.enough in
+        let l = f.shorter in
+        let e : suc (v.words - 1) ≡ v.words = omega arith in
+        opened (v.words - 1) ∙ ap (λ (k : ℕ). word_among k w left) e ∙ v.same
 
     -- a word of the text that is the one sought is found
-    pub split-found : r ≡ true → true ≡ has_word w s
-    split-found e = sym (or_left _ _ (compared ∙ e)) ∙ pick-false _ _ _ (is n 0) (is-no n 0 some) refl ∙ turned
+    pub split-found : same_text found w ≡ true → true ≡ has_word w s
+    split-found e = sym (or_left _ _ e) ∙ turned
 
     -- a word that is not the one sought is passed over, and those behind it are left
-    pub split-more : r ≡ false → i + a + n ≤ length s → Splitting w s (i + a + n)
+    pub split-more : same_text found w ≡ false → Splitting w s others
     unfolding or
-    split-more e h =
-        let m = v.enough in
-        let others = word_among (v.words - 1) w (drop (i + a + n) s) in
-        let step : others ≡ or (same_text (take n (drop (i + a) s)) w) others = rw (compared, e) in
-        record {
-          within_text = h;
-          words = v.words - 1;
-          enough = omega arith;
-          left = step ∙ pick-false _ _ _ (is n 0) (is-no n 0 some) refl ∙ turned;
-        }
+    split-more e =
+        let h = v.enough in
+        let l = f.shorter in
+        let step : word_among (v.words - 1) w others ≡ or (same_text found w) (word_among (v.words - 1) w others) = rw e in
+        record { words = v.words - 1; enough = omega arith; same = step ∙ turned }

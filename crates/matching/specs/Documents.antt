@@ -2,13 +2,13 @@
 -- 6.3.1), an attribute of an element (section 6.3), a simple selector (section 4). They speak of characters, as numbers of Unicode; a page has its texts
 -- in UTF-8. The document's text is not at hand: the numbers of its sections and its list of white space are from memory, and nothing is quoted.
 use Rattle.std.specs.Prelude.{ℕ, Bool, true, false, List, [], ◌∷◌, ◌++◌, ◌⊎◌, ◌≡◌, refl}
-use Rattle.combinators.specs.All.{All}
+use Rattle.combinators.specs.All.{All, member}
 use Rattle.combinators.specs.Ascii.{tabulation, line_feed, form_feed, carriage_return, space, small_a, small_f, small_n}
 use Rattle.combinators.specs.Choice.{pick, or, and, is}
 use Rattle.combinators.specs.Word.{same_text}
 use Rattle.characters.specs.Literal.{text}
 use Rattle.characters.specs.Utf8.{utf8, encode, Scalars}
-use Rattle.characters.specs.WhiteSpace.{member, is_white_space}
+use Rattle.characters.specs.WhiteSpace.{is_white_space}
 use Rattle.syntax.specs.Selector.{Component, star, element, child, descendant}
 use Rattle.page.specs.Path.{Attribute}
 use Rattle.matching.specs.Matches.{name_is, here, on_parent, step, matches}

@@ -4,10 +4,11 @@ use Rattle.std.specs.Prelude.{ℕ, Bool, true, false, List, [], ◌∷◌, ◌�
 use Rattle.combinators.specs.Choice.{pick, or, and, is, within}
 use Rattle.combinators.specs.Repeat.{many, took}
 use Rattle.combinators.specs.Word.{same_text}
+use Rattle.combinators.specs.All.{member}
 use Rattle.characters.specs.Literal.{text}
 use Rattle.characters.specs.Trim.{white_of, white_taken, word_of, word_taken, trimmed_start}
 use Rattle.characters.specs.Utf8.{utf8, continuation, is_continuation, lead_of, two, three, scalar_tail, scalar_by, scalar_of}
-use Rattle.characters.specs.WhiteSpace.{is_white_space, member}
+use Rattle.characters.specs.WhiteSpace.{is_white_space}
 use Rattle.syntax.specs.Selector.{Component, star, class, element, hash, child, descendant, nth, attribute, attribute_equal}
 use Rattle.page.specs.Path.{Attribute, Element, Path}
 use Rattle.matching.specs.Nth.{is_zero, nth_matches}
@@ -89,7 +90,7 @@ matches (c ∷ cs) p = step c (matches cs) p
 -- ---- cases
 
 -- an element without attributes, the first child of its parent, and one with one attribute
-unfoldable named : List ℕ → Element
+unfoldable pub named : List ℕ → Element
 named n = record { name = n; attributes = []; place = 1 }
 
 unfoldable having : List ℕ → List ℕ → Element

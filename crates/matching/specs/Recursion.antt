@@ -6,8 +6,8 @@ use Rattle.combinators.specs.Word.{same_text}
 use Rattle.characters.specs.Literal.{text}
 use Rattle.characters.specs.Utf8.{utf8}
 use Rattle.syntax.specs.Selector.{Component, star, class, element, hash, child, descendant, nth, attribute, attribute_equal}
-use Rattle.page.specs.Path.{Element, Path}
-use Rattle.matching.specs.Matches.{name_is, here, on_ancestors, step, matches}
+use Rattle.page.specs.Path.{Path}
+use Rattle.matching.specs.Matches.{name_is, here, on_ancestors, step, matches, named}
 use Rattle.matching.specs.declared.matcher.SelectorMatch.{SelectorMatch}
 use Rattle.matching.specs.declared.matcher.SelectorMatch.TheVariants.{Matches, FailsLocally, FailsCompletely}
 
@@ -91,10 +91,6 @@ calls [] p = 1
 calls (c ∷ cs) p = calls_step c (match_recursively cs) (calls cs) p
 
 -- ---- cases
-
--- an element of a name
-unfoldable named : List ℕ → Element
-named n = record { name = n; attributes = []; place = 1 }
 
 -- n elements `a`, each the child of the next
 unfoldable nested : ℕ → Path

@@ -1,6 +1,6 @@
 -- What matching reads off rows: the components of a selector, and the attributes of an element. The views are total: a number that is not there reads
 -- as 0.
-use Rattle.std.specs.Prelude.{ℕ, suc, ◌+◌, ◌*◌, ◌<◌, ◌^◌, Bool, List, [], ◌∷◌, reverse, ◌≡◌, refl, get_or}
+use Rattle.std.specs.Prelude.{ℕ, suc, ◌+◌, ◌*◌, ◌<◌, Bool, List, [], ◌∷◌, reverse, ◌≡◌, refl, get_or}
 use Rattle.std.specs.Coded.{Coded-set, coded_ℕ, le_prop}
 use mathlib.Core.HLevel.{¬_prop}
 use Rattle.combinators.specs.Choice.{pick, is}
@@ -52,10 +52,6 @@ pub record SimpleAt (components : List ℕ) (i : ℕ) : Type 0 where
 -- ---- attributes
 unfoldable pub attribute_of : List ℕ → List ℕ → ℕ → Attribute
 attribute_of attributes text row = record { name = attribute_name attributes text row; value = attribute_value attributes text row }
-
--- the rows of an element's attributes can be counted
-pub record Countable (at count : ℕ) : Type 0 where
-  pub counted : at + count < 2 ^ 64
 
 -- what a component of a kind that is neither star, element nor nth asks of an element's attributes, with its two texts
 unfoldable pub attributes_pass : ℕ → List ℕ → List ℕ → List Attribute → Bool

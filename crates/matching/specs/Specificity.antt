@@ -1,7 +1,8 @@
 -- How specific a selector is: `Selector::specificity` of src/css.rs, "with the counts of classes, attributes and nth-child together".
-use Rattle.std.specs.Prelude.{List, [], ◌∷◌, ◌≡◌, refl, pos}
-use Rattle.combinators.specs.Choice.{or}
+use Rattle.std.specs.Prelude.{ℕ, List, [], ◌∷◌, ◌≡◌, refl, pos}
+use Rattle.combinators.specs.Choice.{pick, or, is}
 use Rattle.characters.specs.Literal.{text}
+use Rattle.syntax.specs.RuleLayout.{element_kind, hash_kind}
 use Rattle.syntax.specs.Selector.{Component, star, class, element, hash, child, descendant, nth, attribute, attribute_equal}
 use Rattle.cascade.specs.Specificity.{specificity_of, no_specificity, sum}
 use Rattle.cascade.specs.declared.specificity.Specificity.{Specificity}
@@ -17,6 +18,10 @@ added star = no_specificity
 added child = no_specificity
 added descendant = no_specificity
 added (nth a b) = specificity_of 0 1 0
+
+-- the same of one that is no star and no combinator, by its kind
+unfoldable pub name_added : ℕ → Specificity
+name_added kind = pick (is kind element_kind) (specificity_of 0 0 1) (pick (is kind hash_kind) (specificity_of 1 0 0) (specificity_of 0 1 0))
 
 unfoldable pub specificity : List Component → Specificity
 specificity [] = no_specificity

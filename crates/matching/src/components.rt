@@ -2,7 +2,7 @@
 ghost use Rattle.std.specs.Prelude.{◌≡◌, List, ℕ};
 ghost use Rattle.syntax.specs.RuleLayout.{component_kind_at, component_first_at, component_second_at, component_from};
 ghost use Rattle.matching.specs.Rows.{component_number, components_at, first_text, second_text};
-ghost use Rattle.matching.specs.Specificity.{added, specificity};
+ghost use Rattle.matching.specs.Specificity.{added, name_added, specificity};
 
 use cascade::specificity::Specificity;
 use combinators::texts::part_of;
@@ -19,7 +19,8 @@ fn component_number(components: &[u32], i: usize, column: usize) -> u32
     number_in::<COMPONENT_WIDTH>(components, i, column)
 }
 
-// A selector: the first `left` components of some rows, and the store of their texts.
+// A selector: the first `left` components of some rows, and the store of their texts. `left` is no length of the rows: fewer may be lent, and what is not lent
+// reads as 0.
 #[derive(Clone, Copy)]
 pub struct Selector<'a> {
     pub components: &'a [u32],
@@ -28,7 +29,7 @@ pub struct Selector<'a> {
 }
 
 impl<'a> Selector<'a> {
-    // What a component is.
+    // What a component is. This and the next two differ in a column, which has its name here alone.
     pub fn kind_at(self, i: usize) -> u32
         ensures { result ≡ component_number self.entry.components.now i component_kind_at }
     {
@@ -67,15 +68,26 @@ impl<'a> Selector<'a> {
     }
 }
 
-// What a component of a kind adds to the specificity of its selector. A kind is a number of a lent row, of any content: the last arm is that of any other.
+// What a component that is no star and no combinator adds to the specificity of its selector, by its kind: a number of lent rows or bytes, of any content, so
+// that the last arm is that of any other.
+#[tactic(auto, unfolding(crate::specs::Specificity::name_added, combinators::specs::Choice::pick, combinators::specs::Choice::is))]
+pub fn name_weight(kind: u32) -> Specificity
+    ensures { result ≡ name_added kind }
+{
+    match kind {
+        ELEMENT => Specificity::new(0, 0, 1),
+        HASH => Specificity::new(1, 0, 0),
+        _ => Specificity::new(0, 1, 0),
+    }
+}
+
+// What a component of any kind adds.
 fn added_by(kind: u32) -> Specificity
     ensures { (store : List ℕ) (f a b : ℕ) → result ≡ added (component_from store kind f a b) }
 {
     match kind {
         STAR | CHILD | DESCENDANT => Specificity::NONE,
-        ELEMENT => Specificity::new(0, 0, 1),
-        HASH => Specificity::new(1, 0, 0),
-        _ => Specificity::new(0, 1, 0),
+        _ => name_weight(kind),
     }
 }
 
@@ -87,7 +99,7 @@ pub fn specificity(components: &[u32], n: u32) -> Specificity
     let mut result = Specificity::NONE;
     for i in 0..n {
         let kind = component_number(components, i as usize, COMPONENT_KIND);
-        result = added_by(kind).add(result);
+        result = added_by(kind) + result;
     }
     result
 }

@@ -1,25 +1,21 @@
 // What a selector asks of an element: its name, its place among its siblings and its attributes. Names and values asked for are texts, whether rule
 // rows or compiled bytes name them.
-ghost use Rattle.std.specs.Prelude.{◌≡◌, ◌<◌, MatchOption, ℕ, Bool};
-ghost use Rattle.std.specs.List.{find, range_with_len};
+ghost use Rattle.std.specs.Prelude.{◌≡◌, MatchOption};
 ghost use Rattle.combinators.specs.Word.{same_text};
 ghost use Rattle.page.specs.Ancestors.{place_of};
 ghost use Rattle.page.specs.PathOf.{attributes_from, element_at};
-ghost use Rattle.page.specs.Rows.{node_at, name_of, attribute_value};
+ghost use Rattle.page.specs.Rows.{node_at, name_of, attribute_rows, attribute_value};
 ghost use Rattle.matching.specs.Matches.{any_attribute, is_class, is_id, is_named, first_is};
-ghost use Rattle.matching.specs.Rows.{attribute_of, Countable, Rooted, Rooted-prop};
+ghost use Rattle.matching.specs.Rows.{attribute_of, Rooted, Rooted-prop};
 
-use crate::texts::{has_word, part_is};
+use crate::texts::has_word;
+use combinators::texts::part_of;
 use page::ancestors::{element_children, place_among};
 use page::lent::Page;
 use page::rows::{
-    NODE_WIDTH, attribute_count, attribute_name_length, attribute_name_start, attribute_value,
-    first_attribute, name_length, name_start, parent_of, value_length, value_start,
+    ATTRIBUTE_WIDTH, NODE_WIDTH, attribute_count, attribute_name, attribute_rows, attribute_value,
+    first_attribute, name_of, parent_of,
 };
-
-const CLASS_NAME: [u8; 5] = *b"class";
-
-const ID_NAME: [u8; 2] = *b"id";
 
 // An element of a page, or its document, row 0: a row from which parents lead to the document. On an accepted page they do from every element (law
 // `accepted-element`).
@@ -56,108 +52,102 @@ impl<'a> Element<'a> {
     pub fn is_called(self, name: &[u8]) -> bool
         ensures { result ≡ same_text (name_of self.entry.page.nodes.now self.entry.page.text.now self.entry.row) name.now }
     {
-        let start = name_start(self.page.nodes, self.row);
-        let n = name_length(self.page.nodes, self.row);
-        part_is(self.page.text, start, n, name)
+        name_of(self.page.nodes, self.page.text, self.row) == name
     }
 
     // Its attributes.
-    #[tactic(auto, unfolding(page::specs::PathOf::element_at))]
     pub fn attributes(self) -> Attributes<'a>
-        ensures { attributes_from result.rows.now result.text.now result.count result.at ≡ (element_at self.entry.page.nodes.now self.entry.page.attributes.now self.entry.page.text.now self.entry.row).attributes }
+        ensures { attributes_from result.rows.now result.text.now result.count 0 ≡ (element_at self.entry.page.nodes.now self.entry.page.attributes.now self.entry.page.text.now self.entry.row).attributes }
     {
+        let first = first_attribute(self.page.nodes, self.row);
+        let count = attribute_count(self.page.nodes, self.row);
         Attributes {
-            rows: self.page.attributes,
+            rows: part_of(
+                self.page.attributes,
+                first * ATTRIBUTE_WIDTH,
+                count * ATTRIBUTE_WIDTH,
+            ),
             text: self.page.text,
-            at: first_attribute(self.page.nodes, self.row),
-            count: attribute_count(self.page.nodes, self.row),
+            count,
         }
     }
 }
 
-// The attributes of an element: `count` rows from row `at` on, and the text that they name theirs in.
+// The attributes of an element: their rows, and the text that they name theirs in. `count` is how many the element has: of a page that is not accepted fewer
+// rows may be lent, and what is not lent reads as 0, which names an empty text.
 #[derive(Clone, Copy)]
 pub struct Attributes<'a> {
     pub rows: &'a [u32],
     pub text: &'a [u8],
-    pub at: usize,
     pub count: usize,
-    pub ghost countable: { Countable at count },
 }
 
-impl Attributes<'_> {
-    // Whether the attribute in a row has a name. Names and values lie in columns of their own, so that one function for both would be told the columns.
-    fn is_named(self, row: usize, name: &[u8]) -> bool
+impl<'a> Attributes<'a> {
+    // All rows that are lent.
+    pub fn of_rows(rows: &'a [u32], text: &'a [u8]) -> Attributes<'a>
+        ensures { attributes_from result.rows.now result.text.now result.count 0 ≡ attributes_from rows.now text.now (attribute_rows rows.now) 0 }
+    {
+        Attributes {
+            rows,
+            text,
+            count: attribute_rows(rows),
+        }
+    }
+
+    // Whether the attribute in a row has a name.
+    pub fn is_named(self, row: usize, name: &[u8]) -> bool
         ensures { result ≡ is_named name.now (attribute_of self.entry.rows.now self.entry.text.now row) }
     {
-        let start = attribute_name_start(self.rows, row);
-        let n = attribute_name_length(self.rows, row);
-        part_is(self.text, start, n, name)
+        attribute_name(self.rows, self.text, row) == name
     }
 
     // Whether it has a value.
     fn has_value(self, row: usize, value: &[u8]) -> bool
         ensures { result ≡ same_text (attribute_value self.entry.rows.now self.entry.text.now row) value.now }
     {
-        let start = value_start(self.rows, row);
-        let n = value_length(self.rows, row);
-        part_is(self.text, start, n, value)
+        attribute_value(self.rows, self.text, row) == value
     }
 
     // Whether it is a `class` and `class` one of its words.
     fn is_class(self, row: usize, class: &[u8]) -> bool
         ensures { result ≡ is_class class.now (attribute_of self.entry.rows.now self.entry.text.now row) }
     {
-        self.is_named(row, &CLASS_NAME)
-            && has_word(attribute_value(self.rows, self.text, row), class)
+        self.is_named(row, b"class") && has_word(attribute_value(self.rows, self.text, row), class)
     }
 
     // Whether it is an `id` and `hash` its value.
     fn is_id(self, row: usize, hash: &[u8]) -> bool
         ensures { result ≡ is_id hash.now (attribute_of self.entry.rows.now self.entry.text.now row) }
     {
-        self.is_named(row, &ID_NAME) && self.has_value(row, hash)
+        self.is_named(row, b"id") && self.has_value(row, hash)
     }
 
-    // The first row that passes what is asked. A loop: through a closure handed to `Iterator::find` what `asked` answers does not reach the goals.
-    fn find<F: Fn(usize) -> bool>(self, asked: F) -> Option<usize>
-        requires { F.IsAlwaysCallable asked }
-        ensures { (f : ℕ → Bool) → ((row : ℕ) (r : Bool) → F.post asked row r → r ≡ f row) → result ≡ find f (range_with_len self.entry.at self.entry.count) }
-    {
-        for row in self.at..self.at + self.count {
-            if asked(row) {
-                return Some(row);
-            }
-        }
-        None
-    }
-
-    // Whether `class` is a word of any `class`. What this and the next two share is `find`; what is asked of a row is three definitions.
+    // Whether `class` is a word of any `class`. What this and the next two ask of a row is three definitions.
     pub fn has_class(self, class: &[u8]) -> bool
-        ensures { result ≡ any_attribute (is_class class.now) (attributes_from self.entry.rows.now self.entry.text.now self.entry.count self.entry.at) }
+        ensures { result ≡ any_attribute (is_class class.now) (attributes_from self.entry.rows.now self.entry.text.now self.entry.count 0) }
     {
-        self.find(|row| self.is_class(row, class)).is_some()
+        (0..self.count).any(|row| self.is_class(row, class))
     }
 
     // Whether any `id` is `hash`.
     pub fn has_id(self, hash: &[u8]) -> bool
-        ensures { result ≡ any_attribute (is_id hash.now) (attributes_from self.entry.rows.now self.entry.text.now self.entry.count self.entry.at) }
+        ensures { result ≡ any_attribute (is_id hash.now) (attributes_from self.entry.rows.now self.entry.text.now self.entry.count 0) }
     {
-        self.find(|row| self.is_id(row, hash)).is_some()
+        (0..self.count).any(|row| self.is_id(row, hash))
     }
 
     // Whether there is an attribute of a name.
     pub fn has_attribute(self, name: &[u8]) -> bool
-        ensures { result ≡ any_attribute (is_named name.now) (attributes_from self.entry.rows.now self.entry.text.now self.entry.count self.entry.at) }
+        ensures { result ≡ any_attribute (is_named name.now) (attributes_from self.entry.rows.now self.entry.text.now self.entry.count 0) }
     {
-        self.find(|row| self.is_named(row, name)).is_some()
+        (0..self.count).any(|row| self.is_named(row, name))
     }
 
-    // Whether the first attribute of a name has a value.
+    // Whether the first attribute of a name has a value. (No `is_some_and`: what its closure ensures does not reach the proof.)
     pub fn attribute_is(self, name: &[u8], value: &[u8]) -> bool
-        ensures { result ≡ first_is name.now value.now (attributes_from self.entry.rows.now self.entry.text.now self.entry.count self.entry.at) }
+        ensures { result ≡ first_is name.now value.now (attributes_from self.entry.rows.now self.entry.text.now self.entry.count 0) }
     {
-        let Some(row) = self.find(|row| self.is_named(row, name)) else {
+        let Some(row) = (0..self.count).find(|row| self.is_named(*row, name)) else {
             return false;
         };
         self.has_value(row, value)

@@ -1,31 +1,19 @@
 // Whether a selector, in component rows, matches a row of a page (`Selector::do_matches`). Row 0 is the document.
 ghost use Rattle.std.specs.Prelude.{◌≡◌, [], ◌∷◌};
 ghost use Rattle.page.specs.Lent.{element_in, path_in};
-ghost use Rattle.syntax.specs.RuleLayout.{component_kind_at, component_first_at, component_second_at};
-ghost use Rattle.syntax.specs.Signed.{signed_of};
-ghost use Rattle.page.specs.Ancestors.{place_of};
+ghost use Rattle.syntax.specs.RuleLayout.{component_kind_at};
 ghost use Rattle.matching.specs.Matches.{matches};
-ghost use Rattle.matching.specs.Nth.{nth_matches};
-ghost use Rattle.matching.specs.Lent.{components_in};
+ghost use Rattle.matching.specs.Lent.{components_in, climb_in};
 ghost use Rattle.matching.specs.Rows.{component_number, component_at, components_at, first_text, second_text, SimpleAt, Rooted, attributes_pass, element_passes};
 ghost use Rattle.matching.specs.Recursion.{result_on_ancestors, match_recursively};
-ghost use Rattle.matching.specs.Climb.{NameAt, climb_of};
+ghost use Rattle.matching.specs.Climb.{NameAt};
 ghost use Rattle.matching.specs.Next.{IsNext};
 
 use crate::components::Selector;
 use crate::elements::Element;
-use crate::nth::{nth, signed_of};
+use crate::nth::nth_passes;
 use page::rows::parent_of;
 use syntax::rows::{ATTRIBUTE, CHILD, CLASS, DESCENDANT, ELEMENT, HASH, NTH, STAR};
-
-// Whether an nth-child holds of an element's place among its siblings.
-fn is_nth(selector: Selector<'_>, i: usize, element: Element<'_>) -> bool
-    ensures { result ≡ nth_matches (signed_of (component_number selector.entry.components.now i component_first_at)) (signed_of (component_number selector.entry.components.now i component_second_at)) (place_of element.entry.page.nodes.now element.entry.row) }
-{
-    let a = signed_of(selector.first_number(i));
-    let b = signed_of(selector.second_number(i));
-    nth(a, b, element.place())
-}
 
 // Whether an element passes a component of a kind that asks for its attributes. The second text is taken only where one is asked for. Kinds are numbers of
 // lent rows, of any content, so here and below a `match` ends with an arm for any other. Kind, selector, place and element are told one by one: the loop in
@@ -50,7 +38,11 @@ fn element_passes(kind: u32, selector: Selector<'_>, i: usize, element: Element<
 {
     match kind {
         ELEMENT => element.is_called(selector.first_text(i)),
-        NTH => is_nth(selector, i, element),
+        NTH => nth_passes(
+            selector.first_number(i),
+            selector.second_number(i),
+            element.place(),
+        ),
         _ => attributes_asked(kind, selector, i, element),
     }
 }
@@ -84,7 +76,7 @@ pub enum Climbed {
 // the matcher calls itself only for a descendant combinator, however many tests a selector has. Here and below loops go up by rows, and an `Element` is
 // made where one is asked: with an `Option<Element>` for the parent the matcher took a tenth longer.
 pub fn match_locally(selector: Selector<'_>, element: Element<'_>) -> Climbed
-    ensures { result ≡ climb_of element.entry.page.nodes.now element.entry.page.attributes.now element.entry.page.text.now (components_in selector.entry) element.entry.row }
+    ensures { result ≡ climb_in element.entry.page (components_in selector.entry) element.entry.row }
 {
     let page = element.page;
     let mut row = element.row;
@@ -123,7 +115,7 @@ fn named_ancestor(selector: Selector<'_>, element: Element<'_>) -> Option<usize>
 }
 
 // The next ancestor of a row on which the components can do more than fail locally, or an ancestor before it.
-pub fn next_ancestor(selector: Selector<'_>, element: Element<'_>) -> Option<usize>
+pub(crate) fn next_ancestor(selector: Selector<'_>, element: Element<'_>) -> Option<usize>
     ensures { IsNext selector.entry element.entry result }
 {
     if selector.left > 0 && selector.kind_at(selector.left - 1) == ELEMENT {

@@ -1,22 +1,14 @@
 // nth-child(an+b), on signed numbers of 64 bits, in which the sums are exact.
-ghost use Rattle.std.specs.Prelude.{◌≡◌, ◌≤◌, ◌<◌, ◌^◌, pos, nat_abs};
+ghost use Rattle.std.specs.Prelude.{◌≡◌, ◌≤◌, ◌^◌, nat_abs};
 ghost use Rattle.syntax.specs.Signed.{signed_of};
 ghost use Rattle.matching.specs.Nth.{Small, nth_matches};
 
-// A number with room for a sign: the library's `try_from` would answer an error too, which cannot come.
-fn widened(n: usize) -> i64
-    requires { n < 2 ^ 63 }
-    ensures { result ≡ pos n }
-{
-    n as i64
-}
-
-// Whether `idx` is a·n + b for some n of 0 or more.
+// Whether `idx` is a·n + b for some n of 0 or more. (A cast: the library's `try_from` would answer an error too, which cannot come.)
 pub fn nth(a: i64, b: i64, idx: usize) -> bool
     requires { Small a b idx }
     ensures { result ≡ nth_matches a b idx }
 {
-    let offset = widened(idx) - b;
+    let offset = idx as i64 - b;
     if a == 0 {
         offset == 0
     } else {
@@ -31,4 +23,12 @@ pub fn signed_of(v: u32) -> i64
 {
     let half = i64::from(v / 2);
     if v % 2 == 0 { half } else { -1 - half }
+}
+
+// Whether an nth-child of two numbers, as rows and the compiled sheet have them, holds of a place among siblings.
+pub fn nth_passes(first: u32, second: u32, place: usize) -> bool
+    requires { place ≤ 2 ^ 62 }
+    ensures { result ≡ nth_matches (signed_of first) (signed_of second) place }
+{
+    nth(signed_of(first), signed_of(second), place)
 }

@@ -21,7 +21,7 @@ sets-drop (suc a) [] vs h = absurd (omega arith)
 sets-drop (suc a) (x ∷ l) vs h = ap (drop (suc a)) (sets-second x l a vs) ∙ sets-drop a l vs (omega arith)
 
 -- the numbers before a place, with what is stored at the start of those behind it, are the whole stored from there on
-sets-take : (a : ℕ) (l vs : List ℕ) → a ≤ length l → take a l ++ sets (drop a l) 0 vs ≡ sets l a vs
+pub sets-take : (a : ℕ) (l vs : List ℕ) → a ≤ length l → take a l ++ sets (drop a l) 0 vs ≡ sets l a vs
 sets-take zero l vs h = refl
 sets-take (suc a) [] vs h = absurd (omega arith)
 sets-take (suc a) (x ∷ l) vs h = ap (λ (r : List ℕ). x ∷ r) (sets-take a l vs (omega arith)) ∙ sym (sets-second x l a vs)

@@ -8,7 +8,7 @@ use lib.ListN.{length, take, drop, get_or, length-append}
 use lib.Seq.{sets, get_or-drop}
 use Rattle.combinators.proofs.Lists.{rest}
 use Rattle.combinators.proofs.AllLaws.{all_weaker}
-use Rattle.syntax.specs.Layout.{read_declaration, declarations_at, declaration_rows, declaration_texts, style_width, styles_at}
+use Rattle.syntax.specs.Layout.{read_declaration, declarations_at, declaration_rows, declaration_texts, declaration_width, style_width, styles_at}
 use Rattle.syntax.specs.RuleLayout.{rule_declarations, read_rule, selector_rows, selector_texts, rule_text, rule_row, rule_rows, rule_texts}
 use Rattle.syntax.specs.RuleSize.{rule_size}
 use Rattle.syntax.specs.Selector.{RuleSet}
@@ -17,7 +17,7 @@ use Rattle.syntax.proofs.RowSizes.{length-declarations, length-rules}
 use Rattle.syntax.proofs.RuleRows.{selectors-back, rule-back, RulesFit}
 use Rattle.syntax.proofs.Streams.{Held, held-left, held-right}
 use Rattle.declarations.specs.Styles.{styles_of}
-use Rattle.declarations.specs.StyleNumbers.{style_numbers, style_count, StylesRoom}
+use Rattle.declarations.specs.StyleNumbers.{style_numbers, style_count}
 use Rattle.declarations.proofs.StyleLaws.{reads-styles, count-styles, styles-few}
 use Rattle.selectors.specs.Outcome.{reads}
 use Rattle.sheets.specs.Rules.{rule_width}
@@ -48,9 +48,13 @@ module _ (rows : List ℕ) (at d place count : ℕ) (e : (texts : List ℕ) → 
   unfolding read_rule selectors_read declarations_at
   declared-is texts = rw (lent_is texts, count-is)
 
-  -- a store with room for the rule has room for the styles of its declarations
-  pub room : (tokens : List ℕ) → RuleRoom (drop at rows) (length tokens) → StylesRoom lent count tokens
-  room tokens o = record { for-declarations = rw (lent_is o.texts, count-is) o.declared; for-styles = rw count-is o.styled }
+  -- where there is room for the rule, the rows of its declarations are there
+  pub declared-there : (l : ℕ) → RuleRoom (drop at rows) l → declaration_width * count ≤ length lent
+  declared-there l o = rw (lent_is o.texts, count-is) o.declared
+
+  -- and there is room for their styles
+  pub room : (l : ℕ) → RuleRoom (drop at rows) l → (n : ℕ) → n ≡ count → style_width * (n + 1) ≤ l
+  room l o n e = rw (e, count-is) o.styled
 
   -- the styles are no more than the declarations, whose count is a number of 32 bits
   pub bits : (n : ℕ) → n ≡ style_count lent count → count < 2 ^ 32 → n < 2 ^ 32

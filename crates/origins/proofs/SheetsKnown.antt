@@ -5,7 +5,7 @@ use Prim.Native.Nat.{ℕ, ◌+◌, ◌*◌, ◌-◌, ◌^◌, ◌≤◌, ◌<◌
 use native.Mathlib.Omega.{arith}
 use lib.ListN.{length, drop, replicate, length-append}
 use lib.Seq.{sets, drop_at}
-use Rattle.combinators.specs.Store.{cleared, Zeros}
+use Rattle.combinators.specs.Store.{cleared}
 use Rattle.combinators.specs.All.{All}
 use Rattle.combinators.proofs.Cleared.{cleared-is, length-cleared}
 use Rattle.syntax.specs.Layout.{style_width}
@@ -17,12 +17,12 @@ use Rattle.sheets.specs.Sheet.{sheet_of}
 use Rattle.sheets.specs.SheetAnswer.{padded}
 use Rattle.sheets.proofs.SheetBounds.{SheetKeeps, sheet-keeps}
 use Rattle.sheets.proofs.SheetLaws.{sheet-never-fails, stored}
-use Rattle.combinators.proofs.ZeroLaws.{zeros-all}
+use Rattle.combinators.proofs.ZeroLaws.{clear-zeros}
 use Rattle.origins.specs.Reading.{Sheets, rules, panicked, and_then, sheets_of, sheets_rules, sheets_answer, rules_from, SheetsRoom}
 use Rattle.origins.specs.Checks.{Lent}
 use Rattle.origins.specs.Rules.{RulesRoom}
 use Rattle.origins.specs.declared.reading.SheetRules.{SheetRules}
-use Rattle.origins.specs.declared.reading.SheetsRules.{SheetsRules}
+use Rattle.origins.specs.Reading.{SheetsRules}
 use Rattle.std.specs.Prelude.{Ok, Err}
 use Rattle.origins.specs.declared.reading.SheetPanic.{SheetPanic}
 use Rattle.origins.proofs.RuleStyles.{each-room, styles-few-enough}
@@ -142,10 +142,6 @@ pub zeros_of : (l m : List ℕ) → length l ≡ length m → cleared 0 l ≡ re
 zeros_of l m e =
     let z : length l - 0 ≡ length m = omega (arith, e) in
     cleared-is 0 l ∙ ap (λ (n : ℕ). replicate n 0) z
-
--- a store that was cleared is zero from its start on
-pub clear-zeros : (l : List ℕ) → Zeros (cleared 0 l) 0
-clear-zeros l = rw (zeros_of l l refl) (zeros-all (length l) 0)
 
 -- room for the three sheets in stores of the least lengths
 pub room-cleared : {agent user author rules₀ tokens brackets texts : List ℕ} → Lent agent user author rules₀ tokens brackets texts → length rules₀ < 2 ^ 64

@@ -6,23 +6,23 @@ use native.Mathlib.Nat.{zero-add}
 use native.Mathlib.Omega.{arith}
 use lib.ListN.{length, length-append}
 use lib.Seq.{sets, length-sets}
-use Rattle.combinators.specs.Store.{wiped, Zeros}
+use Rattle.combinators.specs.Store.{wiped, filled_part, Zeros}
 use Rattle.combinators.proofs.Wiped.{sets-append}
 use Rattle.lexer.specs.TokenRow.{token_width}
 use Rattle.syntax.specs.RuleLayout.{rule_rows, rule_texts}
 use Rattle.syntax.specs.Stream.{rows_many, texts_many}
 use Rattle.syntax.specs.Selector.{RuleSet}
 use Rattle.selectors.specs.Outcome.{Outcome, reads, fails, panics, on_outcome}
-use Rattle.selectors.specs.Reading.{written}
+use Rattle.selectors.specs.Reading.{many_reading, written}
 use Rattle.sheets.specs.Rules.{rule_width}
 use Rattle.sheets.specs.Sheet.{sheet_of}
 use Rattle.sheets.specs.SheetAnswer.{sheet_limit}
 use Rattle.combinators.proofs.ZeroLaws.{zeros-after, zeros-back}
-use Rattle.origins.specs.Reading.{agent_text, user_text, author_text, rules_answer, RulesSize, RulesBounds, ReadRoom, Sheets, rules, panicked, and_then, sheets_of, sheets_rows, sheets_texts, sheets_rules, sheets_answer, SheetsRoom}
-use Rattle.origins.specs.declared.reading.RulesRead.{RulesRead}
+use Rattle.origins.specs.Reading.{agent_text, user_text, author_text, RulesSize, RulesBounds, in_sheet, stored_behind, ReadRoom, Sheets, rules, panicked, and_then, sheets_of, sheets_rows, sheets_texts, sheets_rules, sheets_answer, SheetsRoom}
+use Rattle.selectors.specs.declared.readings.Read.{Read}
 use Rattle.std.specs.Prelude.{Result, Ok, Err}
 use Rattle.selectors.specs.declared.readings.Panic.{Panic}
-use Rattle.origins.specs.declared.reading.SheetsRules.{SheetsRules}
+use Rattle.origins.specs.Reading.{SheetsRules}
 use Rattle.origins.specs.declared.reading.SheetPanic.{SheetPanic}
 
 -- ---- what the answer of one sheet tells of what it means
@@ -33,29 +33,64 @@ pub record Came (o : Outcome (List RuleSet)) (c n t : ℕ) : Type 0 where
   pub counted : c ≡ length read
   pub numbers : n ≡ length (rule_rows 0 read)
   pub bytes : t ≡ length (rule_texts read)
-  pub rows : written (rule_rows 0) o ≡ rule_rows 0 read
-  pub texts : written rule_texts o ≡ rule_texts read
+  pub rows : (p : ℕ) (l : List ℕ) → stored_behind (rule_rows 0) o p l ≡ sets l p (rule_rows 0 read)
+  pub texts : (p : ℕ) (l : List ℕ) → stored_behind rule_texts o p l ≡ sets l p (rule_texts read)
   pub next : (which : ℕ) (f : List RuleSet → Sheets) → and_then which o f ≡ f read
 
+-- what is answered of a sheet with a number
+abbrev Answer : ℕ → Outcome (List RuleSet) → Result Read SheetPanic
+Answer which o = in_sheet which (many_reading length (rule_rows 0) rule_texts o)
+
 -- an answer with rules says that the sheet reads, what is counted and written of it, and that the next sheet is read
-pub came : (o : Outcome (List RuleSet)) (got : RulesRead) → Ok got ≡ rules_answer o → Came o got.count got.numbers got.bytes
-unfolding rules_answer written and_then on_outcome rule_rows rule_texts rows_many texts_many
-came (reads k rs) got e = record { read = rs; counted = cc; numbers = cc; bytes = cc; rows = refl; texts = refl; next = λ which f. refl }
-came fails got e = record { read = []; counted = cc; numbers = cc; bytes = cc; rows = refl; texts = refl; next = λ which f. refl }
-came (panics p) got e = absurd (let z : ◌≡◌ {A = ℕ} 0 1 = cc in omega arith)
+pub came : (which : ℕ) (o : Outcome (List RuleSet)) (got : Read) → Ok got ≡ Answer which o → Came o got.count got.numbers got.text
+unfolding in_sheet many_reading stored_behind and_then on_outcome rule_rows rule_texts rows_many texts_many
+came which (reads k rs) got e = record { read = rs; counted = cc; numbers = cc; bytes = cc; rows = λ p l. refl; texts = λ p l. refl; next = λ which f. refl }
+came which fails got e = record { read = []; counted = cc; numbers = cc; bytes = cc; rows = λ p l. refl; texts = λ p l. refl; next = λ which f. refl }
+came which (panics p) got e = absurd (let z : ◌≡◌ {A = ℕ} 0 1 = cc in omega arith)
 
--- or a panic, where nothing is written
-pub record Broke (o : Outcome (List RuleSet)) (p : ℕ) : Type 0 where
-  pub rows : written (rule_rows 0) o ≡ []
-  pub texts : written rule_texts o ≡ []
-  pub next : (which : ℕ) (f : List RuleSet → Sheets) → and_then which o f ≡ panicked which p
+-- or a panic, where what was written before it is wiped
+pub record Broke (which : ℕ) (o : Outcome (List RuleSet)) (x : SheetPanic) : Type 0 where
+  pub rows : (p : ℕ) (l : List ℕ) → stored_behind (rule_rows 0) o p l ≡ wiped 0 p l
+  pub texts : (p : ℕ) (l : List ℕ) → stored_behind rule_texts o p l ≡ wiped 0 p l
+  pub next : (f : List RuleSet → Sheets) → and_then which o f ≡ panicked x.text x.place
 
--- an answer with a panic says that nothing is written of the sheet, and that the whole panics there
-pub broke : (o : Outcome (List RuleSet)) (p : Panic) → Err p ≡ rules_answer o → Broke o p.place
-unfolding rules_answer written and_then on_outcome
-broke (reads k rs) p e = absurd (let z : ◌≡◌ {A = ℕ} 0 1 = cc in omega arith)
-broke fails p e = absurd (let z : ◌≡◌ {A = ℕ} 0 1 = cc in omega arith)
-broke (panics q) p e = let z : q ≡ p.place = cc in record { rows = refl; texts = refl; next = λ which f. ap (panicked which) z }
+-- an answer with a panic says that what stood before the sheet is wiped, and that the whole panics there
+pub broke : (which : ℕ) (o : Outcome (List RuleSet)) (x : SheetPanic) → Err x ≡ Answer which o → Broke which o x
+unfolding in_sheet many_reading stored_behind and_then on_outcome
+broke which (reads k rs) x e = absurd (let z : ◌≡◌ {A = ℕ} 0 1 = cc in omega arith)
+broke which fails x e = absurd (let z : ◌≡◌ {A = ℕ} 0 1 = cc in omega arith)
+broke which (panics q) x e =
+    let n : which ≡ x.text = cc in
+    let z : q ≡ x.place = cc in
+    record { rows = λ p l. refl; texts = λ p l. refl; next = λ f. rw (n, z) refl }
+
+-- ---- returns of `read_next`
+-- where a sheet reads, its part of a store is behind what stood before
+pub stored-read : (w : List RuleSet → List ℕ) (o : Outcome (List RuleSet)) (got : Read) → Ok got ≡ many_reading length (rule_rows 0) rule_texts o
+    → (p : ℕ) (l : List ℕ) → sets l p (written w o) ≡ stored_behind w o p l
+unfolding many_reading written stored_behind on_outcome
+stored-read w (reads k rs) got e p l = refl
+stored-read w fails got e p l = refl
+stored-read w (panics q) got e p l = absurd (let z : ◌≡◌ {A = ℕ} 0 1 = cc in omega arith)
+
+-- where it panics, what stood before is wiped
+pub stored-panics : (w : List RuleSet → List ℕ) (o : Outcome (List RuleSet)) (x : Panic) → Err x ≡ many_reading length (rule_rows 0) rule_texts o
+    → (p : ℕ) (l : List ℕ) → wiped 0 p (sets l p (written w o)) ≡ stored_behind w o p l
+unfolding many_reading written stored_behind on_outcome
+stored-panics w (reads k rs) x e p l = absurd (let z : ◌≡◌ {A = ℕ} 0 1 = cc in omega arith)
+stored-panics w fails x e p l = absurd (let z : ◌≡◌ {A = ℕ} 0 1 = cc in omega arith)
+stored-panics w (panics q) x e p l = refl
+
+module _ (which : ℕ) (s : List ℕ) {r : Result Read Panic} (e : r ≡ many_reading length (rule_rows 0) rule_texts (sheet_of s)) where
+  -- an answer with rules is the same, with the same bounds
+  pub next-read : {got : Read} → r ≡ Ok got → RulesBounds s r → (Ok got ≡ Answer which (sheet_of s)) × RulesBounds {E = SheetPanic} s (Ok got)
+  unfolding in_sheet RulesBounds
+  next-read g k = (ap (in_sheet which) (sym g ∙ e), subst (RulesBounds s) g k)
+
+  -- a panic is told with the number of the sheet
+  pub next-panics : {x : Panic} → r ≡ Err x → Err (record { text = which; place = x.place }) ≡ Answer which (sheet_of s)
+  unfolding in_sheet
+  next-panics g = ap (in_sheet which) (sym g ∙ e)
 
 -- ---- room for a sheet behind what is stored at the start of stores that were zero
 -- where the lengths suffice, there is room for a sheet behind rows and texts that were stored at the start
@@ -111,7 +146,7 @@ module _ {a u w y₀ x₀ b₀ z₀ : List ℕ} (o : SheetsRoom a u w y₀ x₀ 
       × (z ≡ sets z₀ 0 (sheets_texts (sheets_of a u w))))))
 
   -- where the crate panics the stores are as they were
-  left-panic : {which p : ℕ} {y x b z : List ℕ} → sheets_of a u w ≡ panicked which p → y ≡ y₀ → x ≡ x₀ → b ≡ b₀ → z ≡ z₀ → Left (Err (record { text = which; place = p })) y x b z
+  left-panic : {p : SheetPanic} {y x b z : List ℕ} → sheets_of a u w ≡ panicked p.text p.place → y ≡ y₀ → x ≡ x₀ → b ≡ b₀ → z ≡ z₀ → Left (Err p) y x b z
   unfolding sheets_answer sheets_rows sheets_texts
   left-panic e ey ex eb ez = rw e (refl, (ey, (ex, (eb, ez))))
 
@@ -132,62 +167,60 @@ module _ {a u w y₀ x₀ b₀ z₀ : List ℕ} (o : SheetsRoom a u w y₀ x₀ 
         within = o.agent-within;
       }
 
-  module _ {r₁ : Result RulesRead Panic} {y₁ x₁ b₁ z₁ : List ℕ} (e₁ : r₁ ≡ rules_answer (sheet_of a)) (ey₁ : y₁ ≡ sets y₀ 0 (written (rule_rows 0) (sheet_of a))) (ex₁ : x₁ ≡ x₀)
-      (eb₁ : b₁ ≡ b₀) (ez₁ : z₁ ≡ sets z₀ 0 (written rule_texts (sheet_of a))) (k₁ : RulesBounds a r₁) where
+  module _ {r₁ : Result Read SheetPanic} {y₁ x₁ b₁ z₁ : List ℕ} (e₁ : r₁ ≡ Answer agent_text (sheet_of a)) (ey₁ : y₁ ≡ stored_behind (rule_rows 0) (sheet_of a) 0 y₀) (ex₁ : x₁ ≡ x₀)
+      (eb₁ : b₁ ≡ b₀) (ez₁ : z₁ ≡ stored_behind rule_texts (sheet_of a) 0 z₀) (k₁ : RulesBounds a r₁) where
     -- the return where the crate panics in the agent's sheet: the stores are as they were
-    pub agent-panics : {p : Panic} → r₁ ≡ Err p → Left (Err (record { text = agent_text; place = p.place })) y₁ x₁ b₁ z₁
-    unfolding sheets_of
-    agent-panics {p} g =
-        let q = broke (sheet_of a) p (sym g ∙ e₁) in
-        left-panic (q.next agent_text _) (ey₁ ∙ ap (λ (v : List ℕ). sets y₀ 0 v) q.rows) ex₁ eb₁ (ez₁ ∙ ap (λ (v : List ℕ). sets z₀ 0 v) q.texts)
+    pub agent-panics : {x : SheetPanic} → r₁ ≡ Err x → Left (Err x) y₁ x₁ b₁ z₁
+    unfolding sheets_of filled_part
+    agent-panics {x} g =
+        let q = broke agent_text (sheet_of a) x (sym g ∙ e₁) in
+        left-panic (q.next _) (ey₁ ∙ q.rows 0 y₀) ex₁ eb₁ (ez₁ ∙ q.texts 0 z₀)
 
     -- ---- the user's sheet
-    module _ {got₁ : RulesRead} (g₁ : r₁ ≡ Ok got₁) where
+    module _ {got₁ : Read} (g₁ : r₁ ≡ Ok got₁) where
       -- the agent's sheet came to rules, with the counts that are answered
-      first : Came (sheet_of a) got₁.count got₁.numbers got₁.bytes
-      first = came (sheet_of a) got₁ (sym g₁ ∙ e₁)
+      first : Came (sheet_of a) got₁.count got₁.numbers got₁.text
+      first = came agent_text (sheet_of a) got₁ (sym g₁ ∙ e₁)
 
       -- its rules, numbers and bytes are within the bounds of the sheet
-      first-size : RulesSize a got₁.count got₁.numbers got₁.bytes
+      first-size : RulesSize a got₁.count got₁.numbers got₁.text
       unfolding RulesBounds
       first-size = subst (RulesBounds a) g₁ k₁
 
       -- the rules store has the agent's rows at its start
       rows₁ : y₁ ≡ sets y₀ 0 (rule_rows 0 first.read)
-      rows₁ = ey₁ ∙ ap (λ (v : List ℕ). sets y₀ 0 v) first.rows
+      rows₁ = ey₁ ∙ first.rows 0 y₀
 
       -- the text store has the agent's texts at its start
       texts₁ : z₁ ≡ sets z₀ 0 (rule_texts first.read)
-      texts₁ = ez₁ ∙ ap (λ (v : List ℕ). sets z₀ 0 v) first.texts
+      texts₁ = ez₁ ∙ first.texts 0 z₀
 
       -- the stores have room for the user's sheet behind the agent's
-      pub second-room : ReadRoom u y₁ got₁.numbers x₁ b₁ z₁ got₁.bytes
+      pub second-room : ReadRoom u y₁ got₁.numbers x₁ b₁ z₁ got₁.text
       second-room =
           let h = first-size in
           behind-room (rule_rows 0 first.read) (rule_texts first.read) o.rules-zeros o.tokens-zeros o.brackets-zeros o.texts-zeros rows₁ ex₁ eb₁ texts₁ first.numbers first.bytes
           (omega (arith, h.wide, o.for-rules)) o.row-bits (omega (arith, o.for-tokens)) (omega (arith, o.for-brackets)) (omega (arith, h.short, o.for-texts)) o.user-within
 
-      module _ {r₂ : Result RulesRead Panic} {y₂ x₂ b₂ z₂ : List ℕ} (e₂ : r₂ ≡ rules_answer (sheet_of u)) (ey₂ : y₂ ≡ sets y₁ got₁.numbers (written (rule_rows 0) (sheet_of u))) (ex₂ : x₂ ≡ x₁)
-          (eb₂ : b₂ ≡ b₁) (ez₂ : z₂ ≡ sets z₁ got₁.bytes (written rule_texts (sheet_of u))) (k₂ : RulesBounds u r₂) where
+      module _ {r₂ : Result Read SheetPanic} {y₂ x₂ b₂ z₂ : List ℕ} (e₂ : r₂ ≡ Answer user_text (sheet_of u)) (ey₂ : y₂ ≡ stored_behind (rule_rows 0) (sheet_of u) got₁.numbers y₁) (ex₂ : x₂ ≡ x₁)
+          (eb₂ : b₂ ≡ b₁) (ez₂ : z₂ ≡ stored_behind rule_texts (sheet_of u) got₁.text z₁) (k₂ : RulesBounds u r₂) where
         -- the return where the crate panics in the user's sheet: the agent's rows and texts are wiped, and the stores are as they were
-        pub user-panics : {p : Panic} → r₂ ≡ Err p → {y z : List ℕ} → y ≡ wiped 0 got₁.numbers y₂ → z ≡ wiped 0 got₁.bytes z₂ → Left (Err (record { text = user_text; place = p.place })) y x₂ b₂ z
+        pub user-panics : {x : SheetPanic} → r₂ ≡ Err x → Left (Err x) y₂ x₂ b₂ z₂
         unfolding sheets_of
-        user-panics {p} g {y} {z} ey ez =
-            let q = broke (sheet_of u) p (sym g ∙ e₂) in
-            let s₂ : y₂ ≡ y₁ = ey₂ ∙ ap (λ (v : List ℕ). sets y₁ got₁.numbers v) q.rows in
-            let s₃ : z₂ ≡ z₁ = ez₂ ∙ ap (λ (v : List ℕ). sets z₁ got₁.bytes v) q.texts in
-            left-panic (first.next agent_text _ ∙ q.next user_text _)
-            (taken_back y₀ y₁ y (rule_rows 0 first.read) got₁.numbers o.rules-zeros rows₁ first.numbers (ey ∙ ap (wiped 0 got₁.numbers) s₂)) (ex₂ ∙ ex₁) (eb₂ ∙ eb₁)
-            (taken_back z₀ z₁ z (rule_texts first.read) got₁.bytes o.texts-zeros texts₁ first.bytes (ez ∙ ap (wiped 0 got₁.bytes) s₃))
+        user-panics {x} g =
+            let q = broke user_text (sheet_of u) x (sym g ∙ e₂) in
+            left-panic (first.next agent_text _ ∙ q.next _)
+            (taken_back y₀ y₁ y₂ (rule_rows 0 first.read) got₁.numbers o.rules-zeros rows₁ first.numbers (ey₂ ∙ q.rows got₁.numbers y₁)) (ex₂ ∙ ex₁) (eb₂ ∙ eb₁)
+            (taken_back z₀ z₁ z₂ (rule_texts first.read) got₁.text o.texts-zeros texts₁ first.bytes (ez₂ ∙ q.texts got₁.text z₁))
 
         -- ---- the author's sheet
-        module _ {got₂ : RulesRead} (g₂ : r₂ ≡ Ok got₂) where
+        module _ {got₂ : Read} (g₂ : r₂ ≡ Ok got₂) where
           -- the user's sheet came to rules, with the counts that are answered
-          second : Came (sheet_of u) got₂.count got₂.numbers got₂.bytes
-          second = came (sheet_of u) got₂ (sym g₂ ∙ e₂)
+          second : Came (sheet_of u) got₂.count got₂.numbers got₂.text
+          second = came user_text (sheet_of u) got₂ (sym g₂ ∙ e₂)
 
           -- its rules, numbers and bytes are within the bounds of the sheet
-          second-size : RulesSize u got₂.count got₂.numbers got₂.bytes
+          second-size : RulesSize u got₂.count got₂.numbers got₂.text
           unfolding RulesBounds
           second-size = subst (RulesBounds u) g₂ k₂
 
@@ -196,7 +229,7 @@ module _ {a u w y₀ x₀ b₀ z₀ : List ℕ} (o : SheetsRoom a u w y₀ x₀ 
           places-fit = omega (arith, first-size.wide, second-size.wide, o.agent-within, o.user-within)
 
           -- the fill behind the texts of both sheets fits a word
-          pub fills-fit : got₁.bytes + got₂.bytes < 2 ^ 64
+          pub fills-fit : got₁.text + got₂.text < 2 ^ 64
           fills-fit = omega (arith, first-size.short, second-size.short, o.agent-within, o.user-within)
 
           -- the rows of the agent's rules, and then those of the user's
@@ -213,7 +246,7 @@ module _ {a u w y₀ x₀ b₀ z₀ : List ℕ} (o : SheetsRoom a u w y₀ x₀ 
           rows₂ =
               let l : List ℕ = rule_rows 0 first.read in
               let m : List ℕ = rule_rows 0 second.read in
-              ey₂ ∙ ap (λ (v : List ℕ). sets y₁ got₁.numbers v) second.rows ∙ ap (λ (v : List ℕ). sets v got₁.numbers m) rows₁
+              ey₂ ∙ second.rows got₁.numbers y₁ ∙ ap (λ (v : List ℕ). sets v got₁.numbers m) rows₁
               ∙ ap (λ (i : ℕ). sets (sets y₀ 0 l) i m) (first.numbers ∙ sym (zero-add (length l))) ∙ sym (sets-append y₀ 0 l m)
 
           -- the text store has the texts of both sheets at its start
@@ -222,7 +255,7 @@ module _ {a u w y₀ x₀ b₀ z₀ : List ℕ} (o : SheetsRoom a u w y₀ x₀ 
           texts₂ =
               let l : List ℕ = rule_texts first.read in
               let m : List ℕ = rule_texts second.read in
-              ez₂ ∙ ap (λ (v : List ℕ). sets z₁ got₁.bytes v) second.texts ∙ ap (λ (v : List ℕ). sets v got₁.bytes m) texts₁
+              ez₂ ∙ second.texts got₁.text z₁ ∙ ap (λ (v : List ℕ). sets v got₁.text m) texts₁
               ∙ ap (λ (i : ℕ). sets (sets z₀ 0 l) i m) (first.bytes ∙ sym (zero-add (length l))) ∙ sym (sets-append z₀ 0 l m)
 
           -- the place behind those rows is the sum of the two answers' numbers
@@ -231,40 +264,37 @@ module _ {a u w y₀ x₀ b₀ z₀ : List ℕ} (o : SheetsRoom a u w y₀ x₀ 
           place_is = omega (arith, first.numbers, second.numbers, length-append (rule_rows 0 first.read) (rule_rows 0 second.read))
 
           -- the fill behind those texts is the sum of the two answers' bytes
-          fill_is : got₁.bytes + got₂.bytes ≡ length ts
+          fill_is : got₁.text + got₂.text ≡ length ts
           unfolding ts
           fill_is = omega (arith, first.bytes, second.bytes, length-append (rule_texts first.read) (rule_texts second.read))
 
           -- texts before the third sheet take no more than their sheets and two bytes each, and none of an empty sheet
-          third-texts : got₁.bytes + got₂.bytes + length w + 10 ≤ length z₀
-          third-texts = omega (arith, little (length a) got₁.bytes first-size.short first-size.nothing, little (length u) got₂.bytes second-size.short second-size.nothing, o.for-texts)
+          third-texts : got₁.text + got₂.text + length w + 10 ≤ length z₀
+          third-texts = omega (arith, little (length a) got₁.text first-size.short first-size.nothing, little (length u) got₂.text second-size.short second-size.nothing, o.for-texts)
 
           -- the stores have room for the author's sheet behind the other two
-          pub third-room : ReadRoom w y₂ (got₁.numbers + got₂.numbers) x₂ b₂ z₂ (got₁.bytes + got₂.bytes)
+          pub third-room : ReadRoom w y₂ (got₁.numbers + got₂.numbers) x₂ b₂ z₂ (got₁.text + got₂.text)
           third-room =
               behind-room xs ts o.rules-zeros o.tokens-zeros o.brackets-zeros o.texts-zeros rows₂ (ex₂ ∙ ex₁) (eb₂ ∙ eb₁) texts₂ place_is fill_is
               (omega (arith, first-size.wide, second-size.wide, o.for-rules)) o.row-bits (omega (arith, o.for-tokens)) (omega (arith, o.for-brackets)) third-texts o.author-within
 
-          module _ {r₃ : Result RulesRead Panic} {y₃ x₃ b₃ z₃ : List ℕ} (e₃ : r₃ ≡ rules_answer (sheet_of w)) (ey₃ : y₃ ≡ sets y₂ (got₁.numbers + got₂.numbers) (written (rule_rows 0) (sheet_of w)))
-              (ex₃ : x₃ ≡ x₂) (eb₃ : b₃ ≡ b₂) (ez₃ : z₃ ≡ sets z₂ (got₁.bytes + got₂.bytes) (written rule_texts (sheet_of w))) (k₃ : RulesBounds w r₃) where
+          module _ {r₃ : Result Read SheetPanic} {y₃ x₃ b₃ z₃ : List ℕ} (e₃ : r₃ ≡ Answer author_text (sheet_of w)) (ey₃ : y₃ ≡ stored_behind (rule_rows 0) (sheet_of w) (got₁.numbers + got₂.numbers) y₂)
+              (ex₃ : x₃ ≡ x₂) (eb₃ : b₃ ≡ b₂) (ez₃ : z₃ ≡ stored_behind rule_texts (sheet_of w) (got₁.text + got₂.text) z₂) (k₃ : RulesBounds w r₃) where
             -- the return where the crate panics in the author's sheet: the rows and texts of the others are wiped, and the stores are as they were
-            pub author-panics : {p : Panic} → r₃ ≡ Err p → {y z : List ℕ} → y ≡ wiped 0 (got₁.numbers + got₂.numbers) y₃ → z ≡ wiped 0 (got₁.bytes + got₂.bytes) z₃
-                → Left (Err (record { text = author_text; place = p.place })) y x₃ b₃ z
+            pub author-panics : {x : SheetPanic} → r₃ ≡ Err x → Left (Err x) y₃ x₃ b₃ z₃
             unfolding sheets_of
-            author-panics {p} g {y} {z} ey ez =
-                let q = broke (sheet_of w) p (sym g ∙ e₃) in
-                let s₂ : y₃ ≡ y₂ = ey₃ ∙ ap (λ (v : List ℕ). sets y₂ (got₁.numbers + got₂.numbers) v) q.rows in
-                let s₃ : z₃ ≡ z₂ = ez₃ ∙ ap (λ (v : List ℕ). sets z₂ (got₁.bytes + got₂.bytes) v) q.texts in
-                left-panic (first.next agent_text _ ∙ second.next user_text _ ∙ q.next author_text _)
-                (taken_back y₀ y₂ y xs (got₁.numbers + got₂.numbers) o.rules-zeros rows₂ place_is (ey ∙ ap (wiped 0 (got₁.numbers + got₂.numbers)) s₂)) (ex₃ ∙ ex₂ ∙ ex₁) (eb₃ ∙ eb₂ ∙ eb₁)
-                (taken_back z₀ z₂ z ts (got₁.bytes + got₂.bytes) o.texts-zeros texts₂ fill_is (ez ∙ ap (wiped 0 (got₁.bytes + got₂.bytes)) s₃))
+            author-panics {x} g =
+                let q = broke author_text (sheet_of w) x (sym g ∙ e₃) in
+                left-panic (first.next agent_text _ ∙ second.next user_text _ ∙ q.next _)
+                (taken_back y₀ y₂ y₃ xs (got₁.numbers + got₂.numbers) o.rules-zeros rows₂ place_is (ey₃ ∙ q.rows (got₁.numbers + got₂.numbers) y₂)) (ex₃ ∙ ex₂ ∙ ex₁) (eb₃ ∙ eb₂ ∙ eb₁)
+                (taken_back z₀ z₂ z₃ ts (got₁.text + got₂.text) o.texts-zeros texts₂ fill_is (ez₃ ∙ q.texts (got₁.text + got₂.text) z₂))
 
-            module _ {got₃ : RulesRead} (g₃ : r₃ ≡ Ok got₃) where
+            module _ {got₃ : Read} (g₃ : r₃ ≡ Ok got₃) where
               -- the end of all three texts fits a word
-              pub texts-fit : got₁.bytes + got₂.bytes + got₃.bytes < 2 ^ 64
+              pub texts-fit : got₁.text + got₂.text + got₃.text < 2 ^ 64
               unfolding RulesBounds
               texts-fit =
-                  let h : RulesSize w got₃.count got₃.numbers got₃.bytes = subst (RulesBounds w) g₃ k₃ in
+                  let h : RulesSize w got₃.count got₃.numbers got₃.text = subst (RulesBounds w) g₃ k₃ in
                   omega (arith, first-size.short, second-size.short, h.short, o.agent-within, o.user-within, o.author-within)
 
               -- where the rules lie
@@ -272,16 +302,16 @@ module _ {a u w y₀ x₀ b₀ z₀ : List ℕ} (o : SheetsRoom a u w y₀ x₀ 
               lying =
                   record {
                     agent = record { count = got₁.count; place = 0; from = 0 };
-                    user = record { count = got₂.count; place = got₁.numbers; from = got₁.bytes };
-                    author = record { count = got₃.count; place = got₁.numbers + got₂.numbers; from = got₁.bytes + got₂.bytes };
-                    end = got₁.bytes + got₂.bytes + got₃.bytes;
+                    user = record { count = got₂.count; place = got₁.numbers; from = got₁.text };
+                    author = record { count = got₃.count; place = got₁.numbers + got₂.numbers; from = got₁.text + got₂.text };
+                    end = got₁.text + got₂.text + got₃.text;
                   }
 
               -- the return where all three read: rows and texts stand one behind the other, and the answer says where
               pub all_read : Left (Ok lying) y₃ x₃ b₃ z₃
               unfolding sheets_of sheets_answer sheets_rows sheets_texts xs ts
               all_read =
-                  let third : Came (sheet_of w) got₃.count got₃.numbers got₃.bytes = came (sheet_of w) got₃ (sym g₃ ∙ e₃) in
+                  let third : Came (sheet_of w) got₃.count got₃.numbers got₃.text = came author_text (sheet_of w) got₃ (sym g₃ ∙ e₃) in
                   let e : sheets_of a u w ≡ rules first.read second.read third.read =
                   first.next agent_text _ ∙ second.next user_text _ ∙ third.next author_text _ in
                   let ys : List ℕ = rule_rows 0 third.read in
@@ -291,14 +321,14 @@ module _ {a u w y₀ x₀ b₀ z₀ : List ℕ} (o : SheetsRoom a u w y₀ x₀ 
                         (same-rules first.read second.read third.read first.counted second.counted third.counted first.numbers first.bytes (omega (arith, first.numbers, second.numbers))
                         (omega (arith, first.bytes, second.bytes)) (omega (arith, first.bytes, second.bytes, third.bytes))),
                     (
-                      ey₃ ∙ ap (λ (v : List ℕ). sets y₂ (got₁.numbers + got₂.numbers) v) third.rows ∙ ap (λ (v : List ℕ). sets v (got₁.numbers + got₂.numbers) ys) rows₂
+                      ey₃ ∙ third.rows (got₁.numbers + got₂.numbers) y₂ ∙ ap (λ (v : List ℕ). sets v (got₁.numbers + got₂.numbers) ys) rows₂
                           ∙ ap (λ (i : ℕ). sets (sets y₀ 0 xs) i ys) (place_is ∙ sym (zero-add (length xs))) ∙ sym (sets-append y₀ 0 xs ys)
                           ∙ ap (λ (v : List ℕ). sets y₀ 0 v) (append_assoc (rule_rows 0 first.read) (rule_rows 0 second.read) ys),
                       (
                         ex₃ ∙ ex₂ ∙ ex₁,
                         (
                           eb₃ ∙ eb₂ ∙ eb₁,
-                          ez₃ ∙ ap (λ (v : List ℕ). sets z₂ (got₁.bytes + got₂.bytes) v) third.texts ∙ ap (λ (v : List ℕ). sets v (got₁.bytes + got₂.bytes) vs) texts₂
+                          ez₃ ∙ third.texts (got₁.text + got₂.text) z₂ ∙ ap (λ (v : List ℕ). sets v (got₁.text + got₂.text) vs) texts₂
                               ∙ ap (λ (i : ℕ). sets (sets z₀ 0 ts) i vs) (fill_is ∙ sym (zero-add (length ts))) ∙ sym (sets-append z₀ 0 ts vs)
                               ∙ ap (λ (v : List ℕ). sets z₀ 0 v) (append_assoc (rule_texts first.read) (rule_texts second.read) vs),
                         ),

@@ -8,11 +8,12 @@ use Rattle.selectors.specs.Outcome.{Outcome, on_outcome}
 use Rattle.sheets.specs.Rules.{rule_width}
 use Rattle.sheets.specs.Sheet.{sheet_of}
 use Rattle.sheets.specs.SheetAnswer.{sheet_limit}
-use Rattle.combinators.specs.Store.{Zeros}
+use Rattle.combinators.specs.Store.{Zeros, wiped}
+use Rattle.std.proofs.lemmas.List.Edits.{sets}
 use Rattle.selectors.specs.declared.readings.Panic.{Panic}
-use Rattle.origins.specs.declared.reading.RulesRead.{RulesRead}
+use Rattle.selectors.specs.declared.readings.Read.{Read}
 use Rattle.origins.specs.declared.reading.SheetRules.{SheetRules}
-use Rattle.origins.specs.declared.reading.SheetsRules.{SheetsRules}
+use Rattle.origins.specs.declared.reading.Sheets as lying
 use Rattle.origins.specs.declared.reading.SheetPanic.{SheetPanic}
 
 -- "the text (0 agent, 1 user, 2 author ..)"
@@ -27,13 +28,6 @@ author_text = 2
 
 -- ---- one sheet
 
--- how many rules, the numbers that they take and the bytes of their texts; or the byte where the crate panics. Reading a sheet never fails
--- (`sheet-never-fails` of `sheets`).
-unfoldable pub rules_answer : Outcome (List RuleSet) → Result RulesRead Panic
-rules_answer o =
-    on_outcome o (λ _ rs. Ok (record { count = length rs; numbers = length (rule_rows 0 rs); bytes = length (rule_texts rs) }))
-    (Ok (record { count = 0; numbers = 0; bytes = 0 })) (λ p. Err (record { place = p }))
-
 -- eight numbers for each byte, texts no longer than the sheet but for two bytes, and none of an empty sheet
 pub record RulesSize (s : List ℕ) (count numbers bytes : ℕ) : Type 0 where
   pub counted : count ≤ length s
@@ -41,9 +35,18 @@ pub record RulesSize (s : List ℕ) (count numbers bytes : ℕ) : Type 0 where
   pub short : bytes ≤ length s + 2
   pub nothing : length s ≡ 0 → bytes ≡ 0
 
-unfoldable pub RulesBounds : List ℕ → Result RulesRead Panic → Type 0
-RulesBounds s (Ok read) = RulesSize s read.count read.numbers read.bytes
-RulesBounds s (Err panic) = Unit
+unfoldable pub RulesBounds : {E : Type 0} → List ℕ → Result Read E → Type 0
+RulesBounds s (Ok read) = RulesSize s read.count read.numbers read.text
+RulesBounds s (Err error) = Unit
+
+-- a panic told with the number of its sheet
+unfoldable pub in_sheet : ℕ → Result Read Panic → Result Read SheetPanic
+in_sheet which (Ok read) = Ok read
+in_sheet which (Err panic) = Err (record { text = which; place = panic.place })
+
+-- a store that sheets fill up to a place, and what is written of the next behind it: where the crate panics, nothing is left of any
+unfoldable pub stored_behind : (List RuleSet → List ℕ) → Outcome (List RuleSet) → ℕ → List ℕ → List ℕ
+stored_behind w o place l = on_outcome o (λ _ rs. sets l place (w rs)) l (λ p. wiped 0 place l)
 
 -- what is asked of the stores, which are zero from a place and a fill on
 pub record ReadRoom (s rules : List ℕ) (place : ℕ) (tokens brackets texts : List ℕ) (fill : ℕ) : Type 0 where
@@ -82,6 +85,9 @@ sheets_texts (rules a u w) = rule_texts a ++ (rule_texts u ++ rule_texts w)
 sheets_texts (panicked which p) = []
 
 -- where the rules of each sheet lie, and where the texts end
+abbrev pub SheetsRules : Type 0
+SheetsRules = lying.Sheets SheetRules
+
 unfoldable pub sheets_rules : List RuleSet → List RuleSet → List RuleSet → SheetsRules
 sheets_rules a u w =
     record {

@@ -1,5 +1,5 @@
 // What a call with three sheets asks of them before anything is written.
-ghost use Rattle.std.specs.Prelude.{◌≡◌};
+ghost use Rattle.std.specs.Prelude.{◌≡◌, length};
 ghost use Rattle.origins.specs.Checks.{any_too_long, all_valid};
 
 use characters::utf8::is_valid;
@@ -7,13 +7,17 @@ use combinators::lent::SheetTexts;
 use sheets::sheet::SHEET_LIMIT;
 
 // Whether a sheet has more bytes than a sheet may have.
-pub fn any_too_long(agent: usize, user: usize, author: usize) -> bool
-    ensures { result ≡ any_too_long agent user author }
+#[tactic(auto, unfolding(crate::specs::Checks::any_too_long, combinators::specs::Choice::or))]
+pub fn any_too_long(sheets: SheetTexts<'_>) -> bool
+    ensures { result ≡ any_too_long (length sheets.entry.agent.now) (length sheets.entry.user.now) (length sheets.entry.author.now) }
 {
-    agent > SHEET_LIMIT || user > SHEET_LIMIT || author > SHEET_LIMIT
+    sheets.agent.len() > SHEET_LIMIT
+        || sheets.user.len() > SHEET_LIMIT
+        || sheets.author.len() > SHEET_LIMIT
 }
 
 // Whether all sheets are UTF-8.
+#[tactic(auto, unfolding(crate::specs::Checks::all_valid, combinators::specs::Choice::and))]
 pub fn all_valid(sheets: SheetTexts<'_>) -> bool
     ensures { result ≡ all_valid sheets.entry.agent.now sheets.entry.user.now sheets.entry.author.now }
 {

@@ -6,7 +6,7 @@ ghost use Rattle.syntax.specs.RuleLayout.{rule_rows, rule_texts};
 ghost use Rattle.selectors.specs.Reading.{many_reading, written};
 ghost use Rattle.sheets.specs.Rules.{SheetRoom};
 ghost use Rattle.sheets.specs.Sheet.{sheet_of};
-ghost use Rattle.origins.specs.Reading.{rules_answer, ReadRoom, RulesBounds, sheets_of, sheets_rows, sheets_texts, sheets_answer, SheetsRoom};
+ghost use Rattle.origins.specs.Reading.{ReadRoom, RulesBounds, in_sheet, stored_behind, sheets_of, sheets_rows, sheets_texts, sheets_answer, SheetsRoom};
 
 use combinators::lent::{SheetTexts, Stores};
 use selectors::readings::{Panic, Read, take_back};
@@ -19,14 +19,6 @@ pub const USER_TEXT: usize = 1;
 
 pub const AUTHOR_TEXT: usize = 2;
 
-// Of one sheet: how many rules, the numbers that they take and the bytes of their texts.
-#[derive(Clone, Copy, Debug, PartialEq, Eq)]
-pub struct RulesRead {
-    pub count: usize,
-    pub numbers: usize,
-    pub bytes: usize,
-}
-
 // Of a sheet in stores that hold several: how many rules, and where their numbers and their texts start.
 #[derive(Clone, Copy, Debug, PartialEq, Eq)]
 pub struct SheetRules {
@@ -35,30 +27,22 @@ pub struct SheetRules {
     pub from: usize,
 }
 
-// Those of three sheets, and where the texts end.
+// What there is of each of three sheets, and where the texts of their rules end.
 #[derive(Clone, Copy, Debug, PartialEq, Eq)]
-pub struct SheetsRules {
-    pub agent: SheetRules,
-    pub user: SheetRules,
-    pub author: SheetRules,
+pub struct Sheets<T> {
+    pub agent: T,
+    pub user: T,
+    pub author: T,
     pub end: usize,
 }
+
+pub type SheetsRules = Sheets<SheetRules>;
 
 // Of three sheets: the sheet and the byte where the crate panics.
 #[derive(Clone, Copy, Debug, PartialEq, Eq)]
 pub struct SheetPanic {
     pub text: usize,
     pub place: usize,
-}
-
-// A panic in the sheet of a number.
-fn in_sheet(text: usize, panic: Panic) -> SheetPanic
-    ensures { result ≡ record { text = text; place = panic.place } }
-{
-    SheetPanic {
-        text,
-        place: panic.place,
-    }
 }
 
 // Reads a sheet into parts of stores. The struct is made here, since the borrow checker does not cover one that is made of parts of another's slices.
@@ -87,32 +71,51 @@ fn read_part(
 
 // Reads a sheet behind what the stores hold: its numbers from `place` on, its texts from `fill` on, which is where its rows count from. Both
 // go on from sheet to sheet, so they stand beside the stores.
-fn read_behind(
-    s: &[u8],
-    stores: &mut Stores<'_>,
-    place: usize,
-    fill: usize,
-) -> Result<RulesRead, Panic>
+fn read_behind(s: &[u8], stores: &mut Stores<'_>, place: usize, fill: usize) -> Result<Read, Panic>
     requires { OfStores (ReadRoom s.now) stores.old place fill }
     ensures same { SameStores stores.old stores.new }
     ensures work_unchanged { SameWork stores.old stores.new }
-    ensures value { result ≡ rules_answer (sheet_of s.now) }
+    ensures value { result ≡ many_reading length (rule_rows 0) rule_texts (sheet_of s.now) }
     ensures rules_after { stores.new.rules.now ≡ sets stores.old.rules.now place (written (rule_rows 0) (sheet_of s.now)) }
     ensures texts_after { stores.new.texts.now ≡ sets stores.old.texts.now fill (written rule_texts (sheet_of s.now)) }
     ensures rules_bounds { RulesBounds s.now result }
 {
-    let read = read_part(
+    read_part(
         s,
         &mut stores.rules[place..],
         stores.tokens,
         stores.brackets,
         &mut stores.texts[fill..],
-    )?;
-    Ok(RulesRead {
-        count: read.count,
-        numbers: read.numbers,
-        bytes: read.text,
-    })
+    )
+}
+
+// Reads the sheet of a number behind those before it; where the crate panics, what they left is wiped. No map_err: its closure would take the stores along, of
+// which nothing would be known behind it.
+fn read_next(
+    text: usize,
+    s: &[u8],
+    stores: &mut Stores<'_>,
+    place: usize,
+    fill: usize,
+) -> Result<Read, SheetPanic>
+    requires { OfStores (ReadRoom s.now) stores.old place fill }
+    ensures same { SameStores stores.old stores.new }
+    ensures work_unchanged { SameWork stores.old stores.new }
+    ensures value { result ≡ in_sheet text (many_reading length (rule_rows 0) rule_texts (sheet_of s.now)) }
+    ensures rules_after { stores.new.rules.now ≡ stored_behind (rule_rows 0) (sheet_of s.now) place stores.old.rules.now }
+    ensures texts_after { stores.new.texts.now ≡ stored_behind rule_texts (sheet_of s.now) fill stores.old.texts.now }
+    ensures rules_bounds { RulesBounds s.now result }
+{
+    match read_behind(s, stores, place, fill) {
+        Ok(read) => Ok(read),
+        Err(panic) => {
+            take_back(stores, 0, place, 0, fill);
+            Err(SheetPanic {
+                text,
+                place: panic.place,
+            })
+        }
+    }
 }
 
 // Reads the three sheets into stores that are zero; where the crate panics they are zero again.
@@ -127,30 +130,14 @@ pub fn read_sheets(
     ensures rules_after { stores.new.rules.now ≡ sets stores.old.rules.now 0 (sheets_rows (sheets_of sheets.entry.agent.now sheets.entry.user.now sheets.entry.author.now)) }
     ensures texts_after { stores.new.texts.now ≡ sets stores.old.texts.now 0 (sheets_texts (sheets_of sheets.entry.agent.now sheets.entry.user.now sheets.entry.author.now)) }
 {
-    // no `?`: a panic is told with its sheet, and what the sheets before left is wiped first
-    let agents = match read_behind(sheets.agent, stores, 0, 0) {
-        Ok(read) => read,
-        Err(panic) => return Err(in_sheet(AGENT_TEXT, panic)),
-    };
+    let agents = read_next(AGENT_TEXT, sheets.agent, stores, 0, 0)?;
     let numbers = agents.numbers;
-    let bytes = agents.bytes;
-    let users = match read_behind(sheets.user, stores, numbers, bytes) {
-        Ok(read) => read,
-        Err(panic) => {
-            take_back(stores, 0, numbers, 0, bytes);
-            return Err(in_sheet(USER_TEXT, panic));
-        }
-    };
+    let bytes = agents.text;
+    let users = read_next(USER_TEXT, sheets.user, stores, numbers, bytes)?;
     let place = numbers + users.numbers;
-    let from = bytes + users.bytes;
-    let authors = match read_behind(sheets.author, stores, place, from) {
-        Ok(read) => read,
-        Err(panic) => {
-            take_back(stores, 0, place, 0, from);
-            return Err(in_sheet(AUTHOR_TEXT, panic));
-        }
-    };
-    Ok(SheetsRules {
+    let from = bytes + users.text;
+    let authors = read_next(AUTHOR_TEXT, sheets.author, stores, place, from)?;
+    Ok(Sheets {
         agent: SheetRules {
             count: agents.count,
             place: 0,
@@ -166,6 +153,6 @@ pub fn read_sheets(
             place,
             from,
         },
-        end: from + authors.bytes,
+        end: from + authors.text,
     })
 }

@@ -9,7 +9,7 @@ ghost use Rattle.origins.specs.Rules.{rule_styles, RuleRoom};
 use crate::walk::rule_declarations;
 use combinators::stores::number_at;
 use declarations::styles::styles_from_properties;
-use syntax::rows::RULE_DECLARATIONS;
+use syntax::rows::{DECLARATION_WIDTH, RULE_DECLARATIONS};
 use syntax::walk::forward;
 
 // Leaves the styles of the rule at `at` in `tokens`, as style rows from 0 on; how many there are.
@@ -21,6 +21,7 @@ pub fn styles_of_rule(rules: &[u32], at: usize, tokens: &mut [u32]) -> u32
 {
     // no further than the rows go, so that they can be lent from there on
     let declarations = forward(rules, rule_declarations(rules, at), 0);
-    let count = number_at(rules, at, RULE_DECLARATIONS);
-    styles_from_properties(&rules[declarations..], count as usize, tokens) as u32
+    let count = number_at(rules, at, RULE_DECLARATIONS) as usize;
+    let (rows, _) = rules[declarations..][..DECLARATION_WIDTH * count].as_chunks();
+    styles_from_properties(rows, tokens) as u32
 }

@@ -1,4 +1,5 @@
-// Places in rule rows, whatever numbers they hold: behind a selector, behind selectors, behind a rule.
+// Places in rule rows, whatever numbers they hold: behind a selector, behind selectors, behind a rule. Places and no rests: callers hand one on
+// beside places in other rows, and read a head at it.
 ghost use Rattle.std.specs.Prelude.{◌≡◌, List, ℕ, drop};
 ghost use Rattle.syntax.specs.Stream.{read_many};
 ghost use Rattle.syntax.specs.RuleLayout.{read_selector, read_rule};

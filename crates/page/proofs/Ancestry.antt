@@ -10,9 +10,10 @@ use lib.Dec.{ltb}
 use lib.ListN.{length}
 use Rattle.std.specs.Prelude.{Some, None}
 use Rattle.combinators.specs.Choice.{pick, or, is}
+use Rattle.combinators.specs.All.{member}
 use Rattle.combinators.proofs.Rules.{pick_true, pick-false, pick-holds, never, either, or_left, or-gives, is-yes, is-no, is_true, lt-or-ge}
 use Rattle.page.specs.Rows.{node_at}
-use Rattle.page.specs.Ancestors.{ancestors_from, ancestors_of, line_of, depth_of, member, climbed}
+use Rattle.page.specs.Ancestors.{ancestors_from, ancestors_of, line_of, depth_of, climbed}
 
 -- two choices by one test agree where their first arms do, if the test holds
 pub pick_same : {A : Type 0} (t : Bool) (x x' y : A) → (t ≡ true → x ≡ x') → pick t x y ≡ pick t x' y

@@ -3,9 +3,11 @@ pub mod Ancestry
 pub mod Children
 pub mod TextLaws
 pub mod FirstFault
+pub mod Fits
 pub mod RowLaws
 pub mod PageLaws
 pub mod AcceptedPages
 pub mod RowFacts
 pub mod Paths
 pub mod Sums
+pub mod OwnAttributes

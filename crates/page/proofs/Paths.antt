@@ -10,10 +10,11 @@ use native.Mathlib.Nat.{not-suc-le-zero}
 use native.Mathlib.Numerals.{add-one}
 use lib.ListN.{length}
 use Rattle.combinators.specs.Choice.{pick, is}
+use Rattle.combinators.specs.All.{member}
 use Rattle.combinators.proofs.Rules.{pick_true, pick-false, pick-holds, and_both, and_left, and_right, is-yes, is-no}
 use Rattle.page.specs.Path.{Element, Path}
 use Rattle.page.specs.Rows.{node_count, node_at, element_kind, other_kind}
-use Rattle.page.specs.Ancestors.{ancestors_of, line_of, depth_of, member, is_element_child, element_children, place_of}
+use Rattle.page.specs.Ancestors.{ancestors_of, line_of, depth_of, is_element_child, element_children, place_of}
 use Rattle.page.specs.PathOf.{element_at, elements_of, path_of}
 use Rattle.page.proofs.Ancestry.{below-ancestors, top-ancestors, depth-most, line-ends}
 use Rattle.page.proofs.AcceptedPages.{Accepted}

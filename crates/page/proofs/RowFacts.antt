@@ -10,10 +10,11 @@ use borrow.Author.Tests.{leb-true}
 use lib.ListN.{length}
 use Rattle.combinators.specs.Choice.{pick, and, is}
 use Rattle.combinators.specs.Part.{part}
+use Rattle.combinators.specs.All.{member}
 use Rattle.combinators.proofs.Rules.{and-true, either, is_true}
 use Rattle.characters.specs.Utf8.{valid}
 use Rattle.page.specs.Rows.{node_count, node_at, document_kind, element_kind, other_kind, attribute_rows, attribute_at, name_of, attribute_name, attribute_value}
-use Rattle.page.specs.Ancestors.{line_of, depth_of, member}
+use Rattle.page.specs.Ancestors.{line_of, depth_of}
 use Rattle.page.specs.Accepted.{attributes_before, bytes_before, ends_in_zeros, is_document, is_parent, parent_right, depth_limit, element_follows, kind_right, row_right, text_right, attribute_text_right, attribute_texts_right, texts_right}
 use Rattle.page.proofs.Ancestry.{below-depth, depth-most}
 use Rattle.page.proofs.RowLaws.{later-right, line_before}

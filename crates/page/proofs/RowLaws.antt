@@ -6,14 +6,15 @@ use Prim.Native.Nat.{ℕ, zero, suc, ◌+◌, ◌-◌, ◌≤◌, ◌<◌}
 use native.Mathlib.Omega.{arith}
 use native.Mathlib.Nat.{not-suc-le-zero}
 use native.Mathlib.Numerals.{add-one}
-use borrow.Author.Tests.{ltb-true, le-leb, lt-leb}
+use borrow.Author.Tests.{ltb-true, ltb-false, le-leb, lt-leb}
 use lib.Dec.{eqb, leb, ltb}
 use Rattle.std.specs.Prelude.{Option, Some, None}
 use Rattle.std.specs.Bool.{then_some}
 use Rattle.combinators.specs.Choice.{pick, or, and, is}
+use Rattle.combinators.specs.All.{member}
 use Rattle.combinators.proofs.Rules.{never, pick_true, pick-false, pick-holds, and_both, and_left, and_right, and-gives, and-true, either, is-yes, is-no, is_true}
 use Rattle.page.specs.Rows.{NodeRow, node_at, node_count, element_kind, other_kind, attribute_at, attribute_rows}
-use Rattle.page.specs.Ancestors.{ancestors_from, ancestors_of, line_of, depth_of, member, climbed}
+use Rattle.page.specs.Ancestors.{ancestors_from, ancestors_of, line_of, depth_of, climbed}
 use Rattle.page.specs.Accepted.{attributes_before, attributes_end, texts_end, bytes_before, ends_in_zeros, is_document, is_parent, parent_right, depth_limit, attributes_follow, element_follows, kind_right, row_right, first_bad_row}
 use Rattle.page.specs.CheckAnswers.{attributes_answer, behind, element_answer, kind_answer, depth_answer, BehindRow, Carried, row_answer}
 use Rattle.page.specs.declared.rules.Totals.{Totals}
@@ -237,18 +238,30 @@ module _ (nodes : List ℕ) (row depth : ℕ) (h : BehindRow nodes row depth) (p
           omega arith
 
       -- it is not too deep
-      pub parent-right : t ≡ true → above < depth_limit → Some (above + 1) ≡ depth_answer nodes row
+      parent-right : t ≡ true → above < depth_limit → Some (above + 1) ≡ depth_answer nodes row
       unfolding depth_answer parent_right
       parent-right y l =
           let s : depth_of nodes row ≤ depth_limit = omega (arith, own-depth) in
           pick_true _ _ _ _ (and_both _ _ (and_both _ _ (rw (← ep) (sym et ∙ y)) (rw (← ep) open-parent)) (le-leb (depth_of nodes row) depth_limit s)) (ap Some (sym own-depth))
 
       -- a parent at the greatest depth has no children
-      pub too-deep : depth_limit ≤ above → None ≡ depth_answer nodes row
+      too-deep : depth_limit ≤ above → None ≡ depth_answer nodes row
       unfolding depth_answer
       too-deep l =
           let s : depth_limit < depth_of nodes row = omega (arith, own-depth) in
           pick-false _ _ _ _ (and_right _ _ (lt-leb (depth_of nodes row) depth_limit s)) refl
+
+      -- so the depth is told where the parent leaves room for a level more
+      pub depth-told : t ≡ true → then_some (ltb above depth_limit) (above + 1) ≡ depth_answer nodes row
+      depth-told y = go (ltb above depth_limit) refl
+        where
+          go : (b : Bool) → ltb above depth_limit ≡ b → then_some b (above + 1) ≡ depth_answer nodes row
+          go true l = parent-right y (ltb-true above depth_limit l)
+          go false l = too-deep (ltb-false above depth_limit l)
+
+      -- and it is no greater than the row
+      pub depth-within : above + 1 ≤ row
+      depth-within = omega (arith, own-depth, depth-most nodes row)
 
 -- ---- `check_row`: row 0, or a row by its parent and its kind
 module _ (nodes attributes : List ℕ) where

@@ -4,9 +4,10 @@ use Rattle.combinators.specs.Choice.{pick, or, and, is}
 use Rattle.combinators.specs.Refusal.{no_refusal, refused, refused_at, too_large, bad_row, bad_text}
 use Rattle.combinators.specs.declared.refusals.Refusal.{Refusal}
 use Rattle.combinators.specs.Part.{part}
+use Rattle.combinators.specs.All.{member}
 use Rattle.characters.specs.Utf8.{valid}
 use Rattle.page.specs.Rows.{node_width, node_count, NodeRow, node_at, document_kind, element_kind, other_kind, attribute_width, attribute_rows, attribute_at}
-use Rattle.page.specs.Ancestors.{line_of, depth_of, member}
+use Rattle.page.specs.Ancestors.{line_of, depth_of}
 use Rattle.page.specs.declared.check.PageError.{PageError}
 use Rattle.page.specs.declared.check.PageError.TheVariants.{TooLarge, BadRow, BadText}
 

@@ -1,6 +1,7 @@
 -- The ancestors of a row, its depth, and its place among the element children of its parent.
-use Rattle.std.specs.Prelude.{ℕ, zero, suc, ◌+◌, Bool, false, List, [], ◌∷◌, ltb, length, Option, Some, None}
-use Rattle.combinators.specs.Choice.{pick, or, and, is}
+use Rattle.std.specs.Prelude.{ℕ, zero, suc, ◌+◌, Bool, List, [], ◌∷◌, ltb, length, Option, Some, None}
+use Rattle.combinators.specs.Choice.{pick, and, is}
+use Rattle.combinators.specs.All.{member}
 use Rattle.page.specs.Rows.{node_at, element_kind}
 
 -- the parent, its parent and so on, as long as each row is before the one below it; on an accepted page that is up to row 0. At most k are counted.
@@ -22,10 +23,6 @@ line_of nodes row = row ∷ ancestors_of nodes row
 -- depth, which is 0 at row 0
 unfoldable pub depth_of : List ℕ → ℕ → ℕ
 depth_of nodes row = length (ancestors_of nodes row)
-
-unfoldable pub member : ℕ → List ℕ → Bool
-member x [] = false
-member x (y ∷ l) = or (is x y) (member x l)
 
 -- the depth of a row that is row `from` or an ancestor of it
 unfoldable pub climbed : List ℕ → ℕ → ℕ → Option ℕ

@@ -1,4 +1,5 @@
-// How deep a row lies, and its place among its siblings.
+// How deep a row lies, and its place among its siblings. Ancestors are gone over by parents, by a `loop` or a `while`: that is no step of a range, and
+// `successors` would be told a closure that answers an `Option` of what the loop tests anyway.
 ghost use Rattle.std.specs.Prelude.{◌≡◌, ◌≤◌};
 ghost use Rattle.page.specs.Ancestors.{depth_of, climbed, is_element_child, element_children, place_of};
 
@@ -20,7 +21,7 @@ pub fn depth_of(nodes: &[u32], row: usize) -> usize
     }
 }
 
-// The depth of row `target`, if it is row `from`, which lies at `depth`, or an ancestor of it. A `while`: it goes up by parents, which is no step of a range.
+// The depth of row `target`, if it is row `from`, which lies at `depth`, or an ancestor of it.
 pub fn climb_to(nodes: &[u32], from: usize, depth: usize, target: usize) -> Option<usize>
     requires { depth ≡ depth_of nodes.now from }
     ensures { result ≡ climbed nodes.now from target }

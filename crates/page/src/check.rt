@@ -6,9 +6,7 @@ use crate::lent::Page;
 use crate::rows::{ATTRIBUTE_WIDTH, NODE_WIDTH, attribute_rows, node_count};
 use crate::rules::first_bad_row;
 use crate::texts::first_bad_text;
-use combinators::refusals::{
-    BAD_ROW, BAD_TEXT, Refusal, TOO_LARGE, no_refusal, refused, refused_at,
-};
+use combinators::refusals::{BAD_ROW, BAD_TEXT, Refusal, TOO_LARGE, refused, refused_at};
 
 pub const NODE_LIMIT: usize = 4096;
 
@@ -34,16 +32,6 @@ impl From<PageError> for Refusal {
             PageError::BadRow(row) => refused_at(BAD_ROW, row),
             PageError::BadText(row) => refused_at(BAD_TEXT, row),
         }
-    }
-}
-
-// What an answer stands for. That of compiled bytes has the same two arms and a definition of its own, by another error.
-pub fn refusal_of(answer: Result<(), PageError>) -> Refusal
-    ensures { result ≡ refusal_of answer }
-{
-    match answer {
-        Ok(()) => no_refusal(),
-        Err(error) => Refusal::from(error),
     }
 }
 

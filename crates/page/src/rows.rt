@@ -1,4 +1,6 @@
-// The rows of a page: a node's numbers and an attribute's, and the texts that they name. A number that is not there reads as 0.
+// The rows of a page: a node's numbers and an attribute's, and the texts that they name. A number that is not there reads as 0. Readers that differ in a
+// column have a name for each, so that no other file knows the columns. Rows and a row's number are told one by one: callers go from row to row over the same
+// rows, and a struct of the two would be made for each.
 ghost use Rattle.std.specs.Prelude.{◌≡◌, ◌+◌, ◌*◌, ◌<◌, get_or};
 ghost use Rattle.page.specs.Rows.{number_bound, node_number, node_at, node_count, attribute_number, attribute_at, attribute_rows, name_of, attribute_name, attribute_value};
 
@@ -19,7 +21,7 @@ const FIRST_ATTRIBUTE: usize = 4;
 
 const ATTRIBUTE_COUNT: usize = 5;
 
-// Its kinds.
+// Its kinds: numbers, since rows are lent with any number for a kind.
 pub const DOCUMENT: usize = 0;
 
 pub const ELEMENT: usize = 1;

@@ -65,11 +65,7 @@ fn check_parent(nodes: &[u32], row: usize, depth: usize) -> Option<usize>
         return None;
     }
     let above = climb_to(nodes, row - 1, depth, parent)?;
-    if above < DEPTH_LIMIT {
-        Some(above + 1)
-    } else {
-        None
-    }
+    (above < DEPTH_LIMIT).then_some(above + 1)
 }
 
 // Where the texts of `count` attribute rows from `first` on end, if they lie end to end from `start`. Readers of a row are told all rows and its number, as

@@ -15,7 +15,9 @@ use characters::utf8::is_valid;
 fn is_text(text: &[u8], start: usize, n: usize) -> bool
     ensures { result ≡ text_right text.now start n }
 {
-    start <= text.len() && n <= text.len() - start && is_valid(&text[start..start + n])
+    text.get(start..)
+        .and_then(|rest| rest.get(..n))
+        .is_some_and(is_valid)
 }
 
 // Whether the name and the value of an attribute are texts.

@@ -41,7 +41,7 @@ use Rattle.attributes.specs.Merging.{InlineRoom}
 use Rattle.path_styles.specs.Path.{kept_sheet, kept_sheets, SameKept, SheetsTops, Steady, EarlyRoom, ElementRoom, PathRoom}
 use Rattle.origins.specs.declared.reading.SheetRules.{SheetRules}
 use Rattle.path_styles.specs.Tops.{TextsIn}
-use Rattle.path_styles.specs.declared.tops.ReadySheets.{ReadySheets}
+use Rattle.path_styles.specs.Tops.{ReadySheets}
 use Rattle.cascade.proofs.Windows.{all-wiped}
 use Rattle.path_styles.proofs.TopsLaws.{right-parent}
 
@@ -116,11 +116,11 @@ module _ (c : Cascade) (settings : Settings) (e : Element) where
 -- ---- the room that they ask for, in the parts that are lent
 module _ (s : ReadySheets) (e : Element) (fill : ℕ) where
   -- there is room for the colours that come before the author's rules
-  pub early-room : (tokens brackets texts : List ℕ) → EarlyRoom s e fill tokens brackets texts → (h : s.behind ≤ length tokens) (k : s.end ≤ length texts)
-      → InlineRoom e.attributes 0 fill (lent_part tokens s.behind h) (lent_part tokens s.behind h) brackets (lent_part texts s.end k)
+  pub early-room : (tokens brackets texts : List ℕ) → EarlyRoom s e fill tokens brackets texts → (h : s.behind ≤ length tokens) (k : s.sheets.end ≤ length texts)
+      → InlineRoom e.attributes 0 fill (lent_part tokens s.behind h) (lent_part tokens s.behind h) brackets (lent_part texts s.sheets.end k)
   early-room tokens brackets texts r h k =
       let t = part_length tokens s.behind h in
-      let u = part_length texts s.end k in
+      let u = part_length texts s.sheets.end k in
       record {
         for-rules = omega (arith, t, r.for-tokens);
         for-tokens = omega (arith, t, r.for-tokens);
@@ -130,12 +130,12 @@ module _ (s : ReadySheets) (e : Element) (fill : ℕ) where
       }
 
   -- there is room for the attributes that come behind the author's rules
-  pub late-room : (rows tokens brackets texts : List ℕ) → ElementRoom s e fill rows tokens brackets texts → (j : s.rows ≤ length rows) (h : s.behind ≤ length tokens) (k : s.end ≤ length texts)
-      → InlineRoom e.attributes 0 fill (lent_part rows s.rows j) (lent_part tokens s.behind h) brackets (lent_part texts s.end k)
+  pub late-room : (rows tokens brackets texts : List ℕ) → ElementRoom s e fill rows tokens brackets texts → (j : s.rows ≤ length rows) (h : s.behind ≤ length tokens) (k : s.sheets.end ≤ length texts)
+      → InlineRoom e.attributes 0 fill (lent_part rows s.rows j) (lent_part tokens s.behind h) brackets (lent_part texts s.sheets.end k)
   late-room rows tokens brackets texts r j h k =
       let v = part_length rows s.rows j in
       let t = part_length tokens s.behind h in
-      let u = part_length texts s.end k in
+      let u = part_length texts s.sheets.end k in
       record {
         for-rules = omega (arith, v, r.for-rules);
         for-tokens = omega (arith, t, r.for-tokens);
@@ -197,7 +197,7 @@ module _ (s : ReadySheets) where
   same-twice h k = record { same_rows = k.same_rows ∙ h.same_rows; same-tokens = k.same-tokens ∙ h.same-tokens; same-texts = k.same-texts ∙ h.same-texts }
 
   -- it can be kept on
-  steady-on : {texts texts₁ : List ℕ} → length texts₁ ≡ length texts → (x : SheetRules) → TextsIn texts s.end x → TextsIn texts₁ s.end x
+  steady-on : {texts texts₁ : List ℕ} → length texts₁ ≡ length texts → (x : SheetRules) → TextsIn texts s.sheets.end x → TextsIn texts₁ s.sheets.end x
   steady-on e x t = record { begins = t.begins; ends = omega (arith, e, t.ends) }
 
   module _ {nodes attributes text : List ℕ} {row : ℕ} {rows tokens texts : List ℕ} (h : Steady s nodes attributes text row rows tokens texts) where
@@ -207,9 +207,9 @@ module _ (s : ReadySheets) where
         record {
           kept = λ rows₂ tokens₂ texts₂ m. h.kept rows₂ tokens₂ texts₂ (same-twice k m) ∙ sym (h.kept rows₁ tokens₁ texts₁ k);
           tops = λ rows₂ tokens₂ texts₂ m. h.tops rows₂ tokens₂ texts₂ (same-twice k m);
-          agent-in = steady-on e s.agent.rules h.agent-in;
-          user-in = steady-on e s.user.rules h.user-in;
-          author-in = steady-on e s.author.rules h.author-in;
+          agent-in = steady-on e s.sheets.agent.styled.rules h.agent-in;
+          user-in = steady-on e s.sheets.user.styled.rules h.user-in;
+          author-in = steady-on e s.sheets.author.styled.rules h.author-in;
         }
 
     -- also for the parent of the row
@@ -265,7 +265,7 @@ texts-again n r texts texts₁ more ys h e = h ∙ ap (λ (l : List ℕ). l ++ m
 
 -- the author's rules are the same behind the attributes that come early
 pub author-still : (s : ReadySheets) (rows tokens texts rows₁ tokens₁ texts₁ : List ℕ) {nodes attributes text : List ℕ} {row : ℕ} → Steady s nodes attributes text row rows tokens texts
-    → SameKept s rows tokens texts rows₁ tokens₁ texts₁ → kept_sheet rows₁ tokens₁ texts₁ s.end s.author ≡ (kept_sheets rows tokens texts s).author
+    → SameKept s rows tokens texts rows₁ tokens₁ texts₁ → kept_sheet rows₁ tokens₁ texts₁ s.sheets.end s.sheets.author ≡ (kept_sheets rows tokens texts s).author
 unfolding kept_sheets
 author-still s rows tokens texts rows₁ tokens₁ texts₁ h k = ap (λ (k : Rules (StyledRule Value)). k.author) (h.kept rows₁ tokens₁ texts₁ k)
 
@@ -331,11 +331,11 @@ module _ (s : ReadySheets) (settings : Settings) where
 
   -- the texts up to that fill are those before the path, then the contents of the whole path
   pub below-texts : (p : Path) (e : Element) (up : Path) (fill r : ℕ) (texts texts₁ texts₂ : List ℕ) → p ≡ e ∷ up
-      → take (s.end + fill) texts₁ ≡ take (s.end + s.fill) texts ++ path_contents settings up → take (s.end + r) texts₂ ≡ take (s.end + fill) texts₁ ++ inline_contents settings e
-      → take (s.end + r) texts₂ ≡ take (s.end + s.fill) texts ++ path_contents settings p
+      → take (s.sheets.end + fill) texts₁ ≡ take (s.sheets.end + s.fill) texts ++ path_contents settings up → take (s.sheets.end + r) texts₂ ≡ take (s.sheets.end + fill) texts₁ ++ inline_contents settings e
+      → take (s.sheets.end + r) texts₂ ≡ take (s.sheets.end + s.fill) texts ++ path_contents settings p
   unfolding path_contents
   below-texts p e up fill r texts texts₁ texts₂ n t₁ t₂ =
-      rw n (t₂ ∙ ap (λ (l : List ℕ). l ++ inline_contents settings e) t₁ ∙ append_assoc (take (s.end + s.fill) texts) (path_contents settings up) (inline_contents settings e))
+      rw n (t₂ ∙ ap (λ (l : List ℕ). l ++ inline_contents settings e) t₁ ∙ append_assoc (take (s.sheets.end + s.fill) texts) (path_contents settings up) (inline_contents settings e))
 
   -- for the document's path the fill stays
   pub top-fill : (p : Path) → p ≡ [] → s.fill ≡ s.fill + length (path_contents settings p)
@@ -343,9 +343,9 @@ module _ (s : ReadySheets) (settings : Settings) where
   top-fill p n = rw n (omega arith)
 
   -- for the document's path the texts stay
-  pub top-texts : (p : Path) (texts : List ℕ) → p ≡ [] → take (s.end + s.fill) texts ≡ take (s.end + s.fill) texts ++ path_contents settings p
+  pub top-texts : (p : Path) (texts : List ℕ) → p ≡ [] → take (s.sheets.end + s.fill) texts ≡ take (s.sheets.end + s.fill) texts ++ path_contents settings p
   unfolding path_contents
-  top-texts p texts n = rw n (sym (append-nil (take (s.end + s.fill) texts)))
+  top-texts p texts n = rw n (sym (append-nil (take (s.sheets.end + s.fill) texts)))
 
 -- the room of a path is room for the path above, and for its element behind the contents of that
 module _ (s : ReadySheets) (p : Path) (e : Element) (up : Path) (n : p ≡ e ∷ up) (rows tokens brackets texts : List ℕ) (r : PathRoom s p rows tokens brackets texts) where

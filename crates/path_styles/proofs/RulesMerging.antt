@@ -9,8 +9,8 @@ use lib.Seq.{get_or-drop, drop-drop}
 use Rattle.combinators.specs.Choice.{pick}
 use Rattle.combinators.proofs.Rules.{pick_true, pick-false, is-yes, is-no}
 use Rattle.syntax.specs.Layout.{declaration_width, style_width, numbers_at}
-use Rattle.syntax.specs.RuleLayout.{selector_head, selector_components, selector_pseudo, rule_head, rule_selectors, rule_declarations, pseudo_number, pseudo_from, read_selector, read_rule}
-use Rattle.syntax.specs.Selector.{Selector}
+use Rattle.syntax.specs.RuleLayout.{selector_pseudo, rule_head, rule_selectors, rule_declarations, pseudo_number, pseudo_from, read_selector, read_rule}
+use Rattle.syntax.specs.Selector.{Component, Selector}
 use Rattle.syntax.specs.Stream.{read_many}
 use Rattle.syntax.specs.declared.styles.StyleNumbers.{StyleNumbers}
 use Rattle.syntax.specs.declared.styles.Value.{Value}
@@ -21,7 +21,6 @@ use Rattle.cascade.specs.Record.{main_record, before_record, after_record, Style
 use Rattle.cascade.specs.Row.{Merged}
 use Rattle.page.specs.Path.{Path}
 use Rattle.matching.specs.Matches.{matches}
-use Rattle.matching.specs.Rows.{components_at}
 use Rattle.matching.specs.Specificity.{specificity}
 use Rattle.styles.specs.Merged.{merged_row}
 use Rattle.styles.specs.Said.{rule_style, selector_says, selectors_say, rules_say}
@@ -29,7 +28,7 @@ use Rattle.styles.specs.StyleCall.{in_numbers}
 use Rattle.styles.proofs.Merging.{merged-none, merged-more, Merging, merging-begin, merging-more, merging-done}
 use Rattle.rule_styles.specs.Placing.{kept_head, kept_count, read_styled, read_kept, rules_kept}
 use Rattle.path_styles.specs.Tops.{RightTops}
-use Rattle.path_styles.proofs.TopsLaws.{lent, lent-components, rule-selectors}
+use Rattle.path_styles.proofs.TopsLaws.{rule-selectors}
 
 -- ---- pseudo elements
 -- none is the main record
@@ -121,17 +120,16 @@ module _ (styles : List ℕ) (at n : ℕ) (e : n ≡ get_or styles (at + kept_co
       ∙ ap (λ (k : ℕ). drop (style_width * k) (drop kept_head (drop at styles))) (e ∙ sym (get_or-drop at styles kept_count 0))
       ∙ sym (many-rest read_styled style_width (λ _. refl) (get_or (drop at styles) kept_count 0) (drop kept_head (drop at styles)))
 
--- ---- returns of `merge_selector`: the selector at a place, whose components are lent from behind its head on
-module _ (c : Cascade) (origin : ℕ) (p : Path) (ds : List (Styled Value)) (texts rows : List ℕ) (at n behind : ℕ) (en : n ≡ get_or rows (at + selector_components) 0)
-    (eb : drop behind rows ≡ drop (at + selector_head) rows) where
+-- ---- returns of `merge_selector`: the components of the selector at a place
+module _ (c : Cascade) (origin : ℕ) (p : Path) (ds : List (Styled Value)) (texts rows : List ℕ) (at : ℕ) (components : List Component) (lent : components ≡ (read_selector texts (drop at rows)).value.components) where
   -- what the selector declares
   abbrev selector_declared : List (Declared Value)
   selector_declared = map (from_rule origin) (selector_says p ds (read_selector texts (drop at rows)).value)
 
-  module _ (m : Bool) (em : m ≡ matches (components_at texts (lent texts rows at n behind en eb) n) p) where
+  module _ (m : Bool) (em : m ≡ matches components p) where
     -- what is asked is whether it matches
     matched : m ≡ matches (read_selector texts (drop at rows)).value.components p
-    matched = em ∙ ap (λ cs. matches cs p) (lent-components texts rows at n behind en eb)
+    matched = em ∙ ap (λ cs. matches cs p) lent
 
     -- it does not match
     pub selector-fails : m ≡ false → (row : List ℕ) → row ≡ merged_row c row selector_declared
@@ -141,13 +139,13 @@ module _ (c : Cascade) (origin : ℕ) (p : Path) (ds : List (Styled Value)) (tex
 
     -- it matches: what is merged for its pseudo element and specificity is what it declares
     pub selector-holds : m ≡ true → (number pseudo : ℕ) → number ≡ get_or rows (at + selector_pseudo) 0 → pseudo ≡ pseudo_number (pseudo_from number)
-        → (spec : Specificity) → ((store : List ℕ) → spec ≡ specificity (components_at store (lent texts rows at n behind en eb) n)) → (row z : List ℕ)
+        → (spec : Specificity) → spec ≡ specificity components → (row z : List ℕ)
         → z ≡ merged_row c row (map (from_rule origin) (map (rule_style pseudo spec) ds)) → z ≡ merged_row c row selector_declared
     unfolding selector_says read_selector
     selector-holds h number pseudo e q spec es row z ez =
         let s = (read_selector texts (drop at rows)).value in
         let k : pseudo ≡ pseudo_number s.pseudo = q ∙ ap (λ (x : ℕ). pseudo_number (pseudo_from x)) (e ∙ sym (get_or-drop at rows selector_pseudo 0)) in
-        let l : spec ≡ specificity s.components = es texts ∙ ap specificity (lent-components texts rows at n behind en eb) in
+        let l : spec ≡ specificity s.components = es ∙ ap specificity lent in
         let g : map (rule_style pseudo spec) ds ≡ selector_says p ds s = pick_true _ _ _ _ (sym matched ∙ h) (rw (k, l)) in
         ez ∙ ap (λ (xs : List (RuleStyle Value)). merged_row c row (map (from_rule origin) xs)) g
 

@@ -1,11 +1,12 @@
 -- The numbers of selectors: those of the first ones and of the others, on a row and on its parent, and the returns and turns of the functions that find them.
 use mathlib.Core.Path.{◌≡◌, refl, sym, ap, ◌∙◌}
-use mathlib.Core.List.{List, [], ◌∷◌, ◌++◌}
+use mathlib.Core.List.{List, [], ◌∷◌, ◌++◌, append_assoc, append-nil}
 use Prim.Native.Nat.{ℕ, zero, suc, ◌+◌, ◌*◌, ◌-◌, ◌≤◌, ◌<◌}
 use native.Mathlib.Numerals.{add-one}
 use native.Mathlib.Omega.{arith}
-use lib.ListN.{length, get_or, take, drop, set, length-append, length-set}
-use lib.Seq.{sets, length-sets, get_or-drop, drop-drop}
+use borrow.Rule.Slice.PartMut.{put_mid, Post-is}
+use lib.ListN.{length, get_or, take, drop, set, length-append, length-set, length-take, length-drop, drop_of_length-le}
+use lib.Seq.{sets, sets-eq, length-sets, get_or-drop, drop-drop}
 use Rattle.combinators.proofs.Lists.{rest}
 use Rattle.combinators.proofs.Wiped.{sets-append}
 use Rattle.syntax.specs.RuleLayout.{selector_head, selector_components, rule_head, rule_selectors, read_selector, read_rule}
@@ -19,9 +20,20 @@ use Rattle.matching.specs.Topmost.Line.{same}
 use Rattle.matching.proofs.NumberLaws.{right-number, number-above}
 use Rattle.matching.proofs.TopmostLaws.{line-up}
 use Rattle.rule_styles.specs.Placing.{rules_selectors}
-use Rattle.rule_styles.specs.declared.styled.StyledSheets.{StyledSheets}
+use Rattle.rule_styles.specs.Held.{StyledSheets}
 use Rattle.path_styles.specs.Tops.{top_width, selectors_tops, RightTops, sheet_selectors, sheets_selectors, ready_places, ready_counts, ready_sheets, TopsRoom, SheetsTopsRoom}
-use Rattle.path_styles.specs.declared.tops.ReadySheets.{ReadySheets}
+use Rattle.path_styles.specs.Tops.{ReadySheets}
+
+-- ---- stores
+-- what is written to a part of a list is stored there
+part-written : (l : List ℕ) (a e : ℕ) (ys : List ℕ) → a ≤ e → length ys ≡ e - a → e ≤ length l → put_mid a (e - a) l ys ≡ sets l a ys
+part-written l a e ys h m k =
+    let q : a + length ys ≡ e = omega (arith, h, m) in
+    ap (λ (r : List ℕ). take a l ++ (ys ++ r)) (Post-is a e l h ∙ ap (λ (n : ℕ). drop n l) (sym q)) ∙ sym (append_assoc (take a l) ys (drop (a + length ys) l)) ∙ sym (sets-eq ys l a (omega (arith, q, k)))
+
+-- as many numbers as there are, stored from the start on, are what the list is then
+sets-all : (l vs : List ℕ) → length vs ≡ length l → sets l 0 vs ≡ vs
+sets-all l vs e = sets-eq vs l 0 (omega (arith, e)) ∙ ap (λ (r : List ℕ). vs ++ r) (drop_of_length-le l {i = 0 + length vs} (omega (arith, e))) ∙ append-nil vs
 
 -- ---- the selector at a place, whose components are lent from behind its head on
 module _ (texts rows : List ℕ) (at n behind : ℕ) (en : n ≡ get_or rows (at + selector_components) 0) (eb : drop behind rows ≡ drop (at + selector_head) rows) where
@@ -33,11 +45,6 @@ module _ (texts rows : List ℕ) (at n behind : ℕ) (en : n ≡ get_or rows (at
   pub lent-components : components_at texts lent n ≡ (read_selector texts (drop at rows)).value.components
   unfolding components_at read_selector
   lent-components = rw (rest rows behind, eb, en, get_or-drop at rows selector_components 0, drop-drop selector_head at rows)
-
-  -- so its number decides for them
-  pub lent-top : (nodes attributes text : List ℕ) (row top : ℕ) → RightNumber nodes attributes text (read_selector texts (drop at rows)).value.components row top
-      → RightNumber nodes attributes text (components_at texts lent n) row top
-  lent-top nodes attributes text row top r = rw lent-components r
 
 -- ---- the selectors of a rule, from the place and the count that its head says
 -- the selectors that are read from there, as many, are those of the rule
@@ -179,19 +186,19 @@ module _ (nodes attributes text : List ℕ) (row : ℕ) where
       ap (λ (i : ℕ). sets (sets l place (Tops xs)) i (Tops ys)) (e ∙ ap (λ (i : ℕ). place + i) (sym (tops-long xs)))
       ∙ sym (sets-append l place (Tops xs) (Tops ys)) ∙ ap (sets l place) (sym (tops-append xs ys))
 
-  -- turns of `find_selectors_tops`: what is left to store is what was to be stored
-  module _ (texts rows : List ℕ) (count at : ℕ) (tokens : List ℕ) (place : ℕ) where
+  -- turns of `find_selectors_tops`: what is left to store is what was to be stored, a number at each place of a part
+  module _ (texts rows : List ℕ) (at : ℕ) (tops : List ℕ) where
     abbrev Selected : ℕ → ℕ → List Selector
     Selected n from = (read_many (read_selector texts) n (drop from rows)).value
 
     pub record SelectorsStored (n from to : ℕ) (l : List ℕ) : Type 0 where
-      pub stores : sets l to (Tops (Selected n from)) ≡ sets tokens place (Tops (Selected count at))
-      pub long : length l ≡ length tokens
+      pub stores : sets l to (Tops (Selected n from)) ≡ sets tops 0 (Tops (Selected (length tops) at))
+      pub long : length l ≡ length tops
       pub room : to + n ≤ length l
 
     -- nothing is stored yet
-    pub store-begin : TopsRoom tokens place count → (n : ℕ) → n ≡ count → SelectorsStored n at place tokens
-    store-begin r n e = rw e (record { stores = refl; long = refl; room = r.room })
+    pub store-begin : (n : ℕ) → n ≡ length tops → SelectorsStored n at 0 tops
+    store-begin n e = rw e (record { stores = refl; long = refl; room = omega arith })
 
     module _ (n from to : ℕ) (l : List ℕ) (s : SelectorsStored n from to l) where
       -- the number of the first selector that is left is stored, and the others go behind it
@@ -212,10 +219,13 @@ module _ (nodes attributes text : List ℕ) (row : ℕ) where
             room = omega (arith, length-set l to top, s.room);
           })
 
-      -- when none is left, the numbers of all selectors are stored, one behind the other
-      pub store-done : n ≤ 0 → l ≡ sets tokens place (Tops (Selected count at))
+      -- when none is left, the part is the numbers of all selectors
+      pub store-done : n ≤ 0 → l ≡ Tops (Selected (length tops) at)
       unfolding selectors_tops
-      store-done h = (rw (no-selectors texts rows n from h) at s.stores)
+      store-done h =
+          let all = Tops (Selected (length tops) at) in
+          let m : length all ≡ length tops = tops-long (Selected (length tops) at) ∙ many-length (read_selector texts) _ _ in
+          (rw (no-selectors texts rows n from h) at s.stores) ∙ sets-all tops all m
 
   -- turns of `find_rules_tops`, likewise
   module _ (texts rows : List ℕ) (count at : ℕ) (tokens : List ℕ) (place : ℕ) where
@@ -245,13 +255,21 @@ module _ (nodes attributes text : List ℕ) (row : ℕ) where
             let others = rules_selectors (read_many (read_rule texts) (n - 1) (read_rule texts (drop from rows)).rest).value in
             record { room = omega (arith, s.room, ap length (rules-opened texts (drop from rows) n h), length-append S others, rule-counts texts rows from k ek) }
 
-        -- the numbers of a rule more
-        pub rules-more : (first : ℕ) → drop first rows ≡ drop (from + rule_head) rows → (l₁ : List ℕ) → l₁ ≡ sets l to (Tops (read_many (read_selector texts) k (drop first rows)).value)
-            → (next : ℕ) → ((texts : List ℕ) → drop next rows ≡ (read_rule texts (drop from rows)).rest) → (fewer : ℕ) → fewer ≡ n - 1 → RulesStored fewer next (to + top_width * k) l₁
-        rules-more first ef l₁ e₁ next f fewer z =
+        -- the part that is lent for them is as long
+        pub rule-part : length (take (to + top_width * k - to) (drop to l)) ≡ k
+        rule-part = omega (arith, length-take (to + top_width * k - to) (drop to l), length-drop to l, rule-room.room)
+
+        -- the numbers of a rule more, which are written to a part
+        pub rules-more : (first : ℕ) → drop first rows ≡ drop (from + rule_head) rows → (m : ℕ) → m ≡ k → (ys : List ℕ) → ys ≡ Tops (read_many (read_selector texts) m (drop first rows)).value
+            → (next : ℕ) → ((texts : List ℕ) → drop next rows ≡ (read_rule texts (drop from rows)).rest) → (fewer : ℕ) → fewer ≡ n - 1 → RulesStored fewer next (to + top_width * k) (put_mid to (to + top_width * k - to) l ys)
+        rules-more first ef m em ys ey next f fewer z =
+            let l₁ = put_mid to (to + top_width * k - to) l ys in
+            let ys-long : length ys ≡ k = ap length ey ∙ tops-long _ ∙ many-length (read_selector texts) _ _ ∙ em in
             let S = (read_rule texts (drop from rows)).value.selectors in
-            let e : l₁ ≡ sets l to (Tops S) = e₁ ∙ ap (λ (ss : List Selector). sets l to (Tops ss)) (rule-selectors texts rows from k first ek ef) in
-            let m : length l₁ ≡ length l = ap length e ∙ length-sets l to (Tops S) in
+            let e : l₁ ≡ sets l to (Tops S) =
+            part-written l to (to + top_width * k) ys (omega arith) (omega (arith, ys-long)) (omega (arith, rule-room.room))
+            ∙ ap (sets l to) (ey ∙ ap (λ (i : ℕ). Tops (read_many (read_selector texts) i (drop first rows)).value) em ∙ ap (λ (ss : List Selector). Tops ss) (rule-selectors texts rows from k first ek ef)) in
+            let j : length l₁ ≡ length l = ap length e ∙ length-sets l to (Tops S) in
             let p : to + top_width * k ≡ to + length S = omega (arith, rule-counts texts rows from k ek) in
             let o : length (Ruled n from) ≡ length S + length (Ruled (n - 1) next) = ap length (opened next (f texts)) ∙ length-append S (Ruled (n - 1) next) in
             rw z (record {
@@ -260,8 +278,8 @@ module _ (nodes attributes text : List ℕ) (row : ℕ) where
                   ∙ stored-both l to S (Ruled (n - 1) next) (to + top_width * k) p
                   ∙ ap (λ (ss : List Selector). sets l to (Tops ss)) (sym (opened next (f texts))) ∙ s.stores;
               ends = omega (arith, o, p, s.ends);
-              long = m ∙ s.long;
-              room = omega (arith, o, p, s.room, m);
+              long = j ∙ s.long;
+              room = omega (arith, o, p, s.room, j);
             })
 
       -- when none is left, the numbers of all selectors of the rules are stored, and the place is behind them
@@ -272,13 +290,13 @@ module _ (nodes attributes text : List ℕ) (row : ℕ) where
   -- ---- the return of `find_tops`: the numbers of three sheets, one behind the other
   module _ (rows tokens texts : List ℕ) (v : StyledSheets) (r : SheetsTopsRoom rows tokens texts v) where
     abbrev A : List Selector
-    A = sheet_selectors rows texts v.end v.agent.rules
+    A = sheet_selectors rows texts v.sheets.end v.sheets.agent.rules
 
     abbrev U : List Selector
-    U = sheet_selectors rows texts v.end v.user.rules
+    U = sheet_selectors rows texts v.sheets.end v.sheets.user.rules
 
     abbrev W : List Selector
-    W = sheet_selectors rows texts v.end v.author.rules
+    W = sheet_selectors rows texts v.sheets.end v.sheets.author.rules
 
     -- there is room for the numbers of all three sheets behind the kept styles
     all-long : v.behind + (length A + (length U + length W)) ≤ length tokens

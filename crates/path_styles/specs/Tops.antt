@@ -5,10 +5,12 @@ use Rattle.syntax.specs.RuleLayout.{read_rule}
 use Rattle.syntax.specs.Selector.{Selector}
 use Rattle.syntax.specs.Stream.{read_many}
 use Rattle.origins.specs.declared.reading.SheetRules.{SheetRules}
+use Rattle.page.specs.declared.lent.Page as code
 use Rattle.matching.specs.Topmost.{selector_number, RightNumber}
 use Rattle.rule_styles.specs.Placing.{sheet_text, rules_selectors}
-use Rattle.rule_styles.specs.declared.styled.StyledSheets.{StyledSheets}
-use Rattle.path_styles.specs.declared.tops.ReadySheets.{ReadySheets}
+use Rattle.rule_styles.specs.Held.{StyledSheets}
+use Rattle.rule_styles.specs.declared.styled.KeptSheets.{KeptSheets}
+use Rattle.path_styles.specs.declared.tops.ReadySheet.{ReadySheet}
 
 abbrev pub top_width : ℕ
 top_width = 1
@@ -24,6 +26,13 @@ module _ (nodes attributes text : List ℕ) (row : ℕ) where
   RightTops [] t = Unit
   RightTops (s ∷ ss) t = RightNumber nodes attributes text s.components row (get_or t 0 0) × RightTops ss (drop top_width t)
 
+-- the same of a page that is lent
+abbrev pub selectors_tops_of : code.Page → ℕ → List Selector → List ℕ
+selectors_tops_of g row = selectors_tops g.nodes.now g.attributes.now g.text.now row
+
+abbrev pub RightTopsOf : code.Page → ℕ → List Selector → List ℕ → Type 0
+RightTopsOf g row = RightTops g.nodes.now g.attributes.now g.text.now row
+
 -- ---- the selectors of a sheet, and of three
 unfoldable pub sheet_selectors : List ℕ → List ℕ → ℕ → SheetRules → List Selector
 sheet_selectors rows texts end x =
@@ -31,8 +40,8 @@ sheet_selectors rows texts end x =
 
 unfoldable pub sheets_selectors : List ℕ → List ℕ → StyledSheets → List Selector
 sheets_selectors rows texts v =
-    sheet_selectors rows texts v.end v.agent.rules
-    ++ (sheet_selectors rows texts v.end v.user.rules ++ sheet_selectors rows texts v.end v.author.rules)
+    sheet_selectors rows texts v.sheets.end v.sheets.agent.rules
+    ++ (sheet_selectors rows texts v.sheets.end v.sheets.user.rules ++ sheet_selectors rows texts v.sheets.end v.sheets.author.rules)
 
 -- the texts of a sheet's rules lie in the store
 pub record TextsIn (texts : List ℕ) (end : ℕ) (x : SheetRules) : Type 0 where
@@ -45,19 +54,25 @@ pub record TopsRoom (tokens : List ℕ) (place n : ℕ) : Type 0 where
 
 -- texts that lie in the store, and room for the numbers of three sheets
 pub record SheetsTopsRoom (rows tokens texts : List ℕ) (v : StyledSheets) : Type 0 where
-  pub agent-in : TextsIn texts v.end v.agent.rules
-  pub user-in : TextsIn texts v.end v.user.rules
-  pub author-in : TextsIn texts v.end v.author.rules
+  pub agent-in : TextsIn texts v.sheets.end v.sheets.agent.rules
+  pub user-in : TextsIn texts v.sheets.end v.sheets.user.rules
+  pub author-in : TextsIn texts v.sheets.end v.sheets.author.rules
   pub room : v.behind + length (sheets_selectors rows texts v) ≤ length tokens
 
 -- where all of it lies: the numbers of the agent's selectors behind the styles, the user's and the author's from a place on each, and the end
+abbrev pub ReadySheets : Type 0
+ReadySheets = KeptSheets ReadySheet
+
 unfoldable pub ready_places : StyledSheets → ℕ → ℕ → ℕ → ReadySheets
 ready_places v user author behind =
     record {
-      agent = record { rules = v.agent.rules; styles = v.agent.styles; tops = v.behind };
-      user = record { rules = v.user.rules; styles = v.user.styles; tops = user };
-      author = record { rules = v.author.rules; styles = v.author.styles; tops = author };
-      end = v.end;
+      sheets =
+          record {
+            agent = record { styled = v.sheets.agent; tops = v.behind };
+            user = record { styled = v.sheets.user; tops = user };
+            author = record { styled = v.sheets.author; tops = author };
+            end = v.sheets.end;
+          };
       rows = v.rows;
       behind = behind;
       fill = v.fill;
@@ -69,5 +84,5 @@ ready_counts v a u w = ready_places v (v.behind + a) (v.behind + a + u) (v.behin
 
 unfoldable pub ready_sheets : List ℕ → List ℕ → StyledSheets → ReadySheets
 ready_sheets rows texts v =
-    ready_counts v (length (sheet_selectors rows texts v.end v.agent.rules)) (length (sheet_selectors rows texts v.end v.user.rules))
-    (length (sheet_selectors rows texts v.end v.author.rules))
+    ready_counts v (length (sheet_selectors rows texts v.sheets.end v.sheets.agent.rules)) (length (sheet_selectors rows texts v.sheets.end v.sheets.user.rules))
+    (length (sheet_selectors rows texts v.sheets.end v.sheets.author.rules))

@@ -3,15 +3,15 @@ ghost use Rattle.std.specs.Prelude.{◌≡◌, ◌++◌, map, ℕ, ◌+◌, leng
 ghost use Rattle.syntax.specs.Style.{agent_origin, user_origin};
 ghost use Rattle.cascade.specs.Row.{inherited_row, handed_at, finished_row, row_of};
 ghost use Rattle.cascade.specs.Record.{from_rule, declared_by};
-ghost use Rattle.combinators.specs.Lent.{SameStores, SameLengths};
+ghost use Rattle.combinators.specs.Lent.{KeptStores};
 ghost use Rattle.page.specs.Lent.{element_in, path_in};
 ghost use Rattle.styles.specs.Said.{rules_say, counted_attributes, sources_from};
 ghost use Rattle.styles.specs.Computed.{cascaded};
 ghost use Rattle.styles.specs.Merged.{merged_row, early_declared, late_declared};
 ghost use Rattle.styles.specs.StyleCall.{attributes_contents, placed_attributes, inline_contents, path_contents, placed_from};
 ghost use Rattle.attributes.specs.Merging.{InlineRoom};
-ghost use Rattle.path_styles.specs.Tops.{RightTops, sheet_selectors, TextsIn};
-ghost use Rattle.path_styles.specs.Path.{kept_sheet, kept_sheets, SameKept, Steady, ElementRoom, EarlyRoom, PathRoom};
+ghost use Rattle.path_styles.specs.Tops.{RightTopsOf, sheet_selectors, TextsIn};
+ghost use Rattle.path_styles.specs.Path.{kept_sheet, kept_sheets_of, SameKeptOf, SteadyOf, ElementRoomOf, EarlyRoom, PathRoomOf};
 
 use crate::rules::SheetMerge;
 use crate::tops::{ReadySheet, ReadySheets};
@@ -20,12 +20,12 @@ use cascade::rows::{StyleRow, clear_row, finish, handed_on, inherit};
 use cascade::slots::Cascade;
 use combinators::lent::Stores;
 use matching::elements::Element;
-use page::rows::parent_of;
 use styles::settings::Settings;
 use syntax::rows::{AGENT_ORIGIN, AUTHOR_ORIGIN, USER_ORIGIN};
 
 // What the attributes of an element say before the author's rules. The stores come one by one, here and in `late_attributes`: they are parts of the call's stores, and of
-// parts the borrow checker makes no struct.
+// parts the borrow checker makes no struct; and they are two functions, since a closure that is lent the struct would bring the clauses of either along. `InlineRoom` is told the
+// tokens in the place of the rules, as colours are read without rules.
 fn early_attributes(
     cascade: Cascade,
     element: Element<'_>,
@@ -80,7 +80,7 @@ fn late_attributes(
 pub struct Styling {
     pub cascade: Cascade,
     pub settings: Settings,
-    pub sheets: ReadySheets,
+    pub kept: ReadySheets,
 }
 
 impl Styling {
@@ -93,12 +93,12 @@ impl Styling {
         element: Element<'_>,
         out: &mut StyleRow,
     )
-        requires texts_in { TextsIn stores.now.texts.now self.now.sheets.end sheet.rules }
-        requires right_tops { RightTops element.page.nodes.now element.page.attributes.now element.page.text.now element.row (sheet_selectors stores.now.rules.now stores.now.texts.now self.now.sheets.end sheet.rules) (drop sheet.tops stores.now.tokens.now) }
-        ensures { out.new ≡ merged_row self.now.cascade out.old (map (from_rule origin) (rules_say (path_in element.entry.page element.entry.row) (kept_sheet stores.now.rules.now stores.now.tokens.now stores.now.texts.now self.now.sheets.end sheet))) }
+        requires texts_in { TextsIn stores.now.texts.now self.now.kept.sheets.end sheet.styled.rules }
+        requires right_tops { RightTopsOf element.page element.row (sheet_selectors stores.now.rules.now stores.now.texts.now self.now.kept.sheets.end sheet.styled.rules) (drop sheet.tops stores.now.tokens.now) }
+        ensures { out.new ≡ merged_row self.now.cascade out.old (map (from_rule origin) (rules_say (path_in element.entry.page element.entry.row) (kept_sheet stores.now.rules.now stores.now.tokens.now stores.now.texts.now self.now.kept.sheets.end sheet))) }
     {
-        let from = sheet.rules.from;
-        let texts = &stores.texts[from..self.sheets.end];
+        let from = sheet.styled.rules.from;
+        let texts = &stores.texts[from..self.kept.sheets.end];
         let merge = SheetMerge {
             cascade: self.cascade,
             origin,
@@ -107,28 +107,23 @@ impl Styling {
             styles: stores.tokens,
             element,
         };
-        merge.merge_rules(
-            out,
-            sheet.rules.place,
-            sheet.rules.count,
-            sheet.styles,
-            sheet.tops,
-        );
+        merge.merge_rules(out, sheet);
     }
 
     // What an element begins with, and what the agent's and the user's rules say of it.
     fn begin_element(&self, stores: &Stores<'_>, element: Element<'_>, out: &mut StyleRow)
-        requires steady { Steady self.now.sheets element.page.nodes.now element.page.attributes.now element.page.text.now element.row stores.now.rules.now stores.now.tokens.now stores.now.texts.now }
+        requires steady { SteadyOf self.now.kept element.page element.row stores.now }
         ensures { out.new ≡ merged_row self.now.cascade (inherited_row self.now.cascade out.old)
-            (map (from_rule agent_origin) (rules_say (path_in element.entry.page element.entry.row) (kept_sheets stores.now.rules.now stores.now.tokens.now stores.now.texts.now self.now.sheets).agent)
-            ++ map (from_rule user_origin) (rules_say (path_in element.entry.page element.entry.row) (kept_sheets stores.now.rules.now stores.now.tokens.now stores.now.texts.now self.now.sheets).user)) }
+            (map (from_rule agent_origin) (rules_say (path_in element.entry.page element.entry.row) (kept_sheets_of self.now.kept stores.now).agent)
+            ++ map (from_rule user_origin) (rules_say (path_in element.entry.page element.entry.row) (kept_sheets_of self.now.kept stores.now).user)) }
     {
         inherit(out, self.cascade);
-        self.merge_sheet(AGENT_ORIGIN, self.sheets.agent, stores, element, out);
-        self.merge_sheet(USER_ORIGIN, self.sheets.user, stores, element, out);
+        self.merge_sheet(AGENT_ORIGIN, self.kept.sheets.agent, stores, element, out);
+        self.merge_sheet(USER_ORIGIN, self.kept.sheets.user, stores, element, out);
     }
 
-    // What the attributes say before the author's rules, read behind what the call keeps in its stores, if document styles are on.
+    // What the attributes say before the author's rules, read behind what the call keeps in its stores, if document styles are on. Element, row, stores and fill stay
+    // apart, here and below: the first two have nothing to do with how far the stores are filled, and the fill is a number that some functions answer anew.
     fn merge_early(
         &self,
         element: Element<'_>,
@@ -136,16 +131,15 @@ impl Styling {
         stores: &mut Stores<'_>,
         fill: usize,
     )
-        requires { EarlyRoom self.now.sheets (element_in element.page element.row) fill stores.old.tokens.now stores.old.brackets.now stores.old.texts.now }
+        requires { EarlyRoom self.now.kept (element_in element.page element.row) fill stores.old.tokens.now stores.old.brackets.now stores.old.texts.now }
         ensures by_index { (f : ℕ) → out.new ≡ merged_row self.now.cascade out.old (early_declared self.now.cascade (placed_attributes f (counted_attributes self.now.settings (element_in element.entry.page element.entry.row)))) }
-        ensures texts_unchanged { take (self.now.sheets.end + fill) stores.new.texts.now ≡ take (self.now.sheets.end + fill) stores.old.texts.now }
-        ensures same_kept { SameKept self.now.sheets stores.old.rules.now stores.old.tokens.now stores.old.texts.now stores.new.rules.now stores.new.tokens.now stores.new.texts.now }
-        ensures lengths { SameLengths stores.old stores.new }
-        ensures same { SameStores stores.old stores.new }
+        ensures texts_unchanged { take (self.now.kept.sheets.end + fill) stores.new.texts.now ≡ take (self.now.kept.sheets.end + fill) stores.old.texts.now }
+        ensures same_kept { SameKeptOf self.now.kept stores.old stores.new }
+        ensures kept { KeptStores stores.old stores.new }
     {
         if self.settings.document_styles {
-            let behind = self.sheets.behind;
-            let end = self.sheets.end;
+            let behind = self.kept.behind;
+            let end = self.kept.sheets.end;
             early_attributes(
                 self.cascade,
                 element,
@@ -159,8 +153,9 @@ impl Styling {
         }
     }
 
-    // What they say behind the author's rules, read behind what is kept, if document styles are on; the fill behind the contents. `ElementRoom`, here and below: the values of the element's
-    // attributes have room behind what is kept and behind the fill. It joins the element, the fill and the stores, which no one type holds.
+    // What they say behind the author's rules, read behind what is kept, if document styles are on; the fill behind the contents. `ElementRoomOf`, here and below: the values of the
+    // element's attributes have room behind what is kept and behind the fill. It joins the element and the fill with the stores, which are written in between: a field of all of them would
+    // be shown anew at each write.
     fn merge_late(
         &self,
         element: Element<'_>,
@@ -168,18 +163,17 @@ impl Styling {
         stores: &mut Stores<'_>,
         fill: usize,
     ) -> usize
-        requires { ElementRoom self.now.sheets (element_in element.page element.row) fill stores.old.rules.now stores.old.tokens.now stores.old.brackets.now stores.old.texts.now }
+        requires { ElementRoomOf self.now.kept (element_in element.page element.row) fill stores.old }
         ensures out_after { out.new ≡ merged_row self.now.cascade out.old (late_declared self.now.cascade (placed_attributes fill (counted_attributes self.now.settings (element_in element.entry.page element.entry.row)))) }
         ensures value { result ≡ fill + length (inline_contents self.now.settings (element_in element.entry.page element.entry.row)) }
-        ensures texts_after { take (self.now.sheets.end + result) stores.new.texts.now ≡ take (self.now.sheets.end + fill) stores.old.texts.now ++ inline_contents self.now.settings (element_in element.entry.page element.entry.row) }
-        ensures same_kept { SameKept self.now.sheets stores.old.rules.now stores.old.tokens.now stores.old.texts.now stores.new.rules.now stores.new.tokens.now stores.new.texts.now }
-        ensures lengths { SameLengths stores.old stores.new }
-        ensures same { SameStores stores.old stores.new }
+        ensures texts_after { take (self.now.kept.sheets.end + result) stores.new.texts.now ≡ take (self.now.kept.sheets.end + fill) stores.old.texts.now ++ inline_contents self.now.settings (element_in element.entry.page element.entry.row) }
+        ensures same_kept { SameKeptOf self.now.kept stores.old stores.new }
+        ensures kept { KeptStores stores.old stores.new }
     {
         if self.settings.document_styles {
-            let rows = self.sheets.rows;
-            let behind = self.sheets.behind;
-            let end = self.sheets.end;
+            let rows = self.kept.rows;
+            let behind = self.kept.behind;
+            let end = self.kept.sheets.end;
             late_attributes(
                 self.cascade,
                 element,
@@ -195,7 +189,7 @@ impl Styling {
         }
     }
 
-    // What an element begins with, and all that is declared for it; the fill behind its contents. `Steady`, here and below: what is kept, and that the selectors'
+    // What an element begins with, and all that is declared for it; the fill behind its contents. `SteadyOf`, here and below: what is kept, and that the selectors'
     // numbers decide on the row, stays whatever is written behind it. It speaks of what lent stores hold, which no field of the sheets can.
     fn declare_element(
         &self,
@@ -204,19 +198,18 @@ impl Styling {
         stores: &mut Stores<'_>,
         fill: usize,
     ) -> usize
-        requires steady { Steady self.now.sheets element.page.nodes.now element.page.attributes.now element.page.text.now element.row stores.old.rules.now stores.old.tokens.now stores.old.texts.now }
-        requires element_room { ElementRoom self.now.sheets (element_in element.page element.row) fill stores.old.rules.now stores.old.tokens.now stores.old.brackets.now stores.old.texts.now }
+        requires steady { SteadyOf self.now.kept element.page element.row stores.old }
+        requires element_room { ElementRoomOf self.now.kept (element_in element.page element.row) fill stores.old }
         ensures out_after { out.new ≡ merged_row self.now.cascade (inherited_row self.now.cascade out.old)
-            (declared_by self.now.cascade (sources_from (kept_sheets stores.old.rules.now stores.old.tokens.now stores.old.texts.now self.now.sheets) (placed_attributes fill (counted_attributes self.now.settings (element_in element.entry.page element.entry.row))) (path_in element.entry.page element.entry.row))) }
+            (declared_by self.now.cascade (sources_from (kept_sheets_of self.now.kept stores.old) (placed_attributes fill (counted_attributes self.now.settings (element_in element.entry.page element.entry.row))) (path_in element.entry.page element.entry.row))) }
         ensures value { result ≡ fill + length (inline_contents self.now.settings (element_in element.entry.page element.entry.row)) }
-        ensures texts_after { take (self.now.sheets.end + result) stores.new.texts.now ≡ take (self.now.sheets.end + fill) stores.old.texts.now ++ inline_contents self.now.settings (element_in element.entry.page element.entry.row) }
-        ensures same_kept { SameKept self.now.sheets stores.old.rules.now stores.old.tokens.now stores.old.texts.now stores.new.rules.now stores.new.tokens.now stores.new.texts.now }
-        ensures lengths { SameLengths stores.old stores.new }
-        ensures same { SameStores stores.old stores.new }
+        ensures texts_after { take (self.now.kept.sheets.end + result) stores.new.texts.now ≡ take (self.now.kept.sheets.end + fill) stores.old.texts.now ++ inline_contents self.now.settings (element_in element.entry.page element.entry.row) }
+        ensures same_kept { SameKeptOf self.now.kept stores.old stores.new }
+        ensures kept { KeptStores stores.old stores.new }
     {
         self.begin_element(stores, element, out);
         self.merge_early(element, out, stores, fill);
-        self.merge_sheet(AUTHOR_ORIGIN, self.sheets.author, stores, element, out);
+        self.merge_sheet(AUTHOR_ORIGIN, self.kept.sheets.author, stores, element, out);
         self.merge_late(element, out, stores, fill)
     }
 
@@ -228,15 +221,14 @@ impl Styling {
         stores: &mut Stores<'_>,
         fill: usize,
     ) -> usize
-        requires steady { Steady self.now.sheets element.page.nodes.now element.page.attributes.now element.page.text.now element.row stores.old.rules.now stores.old.tokens.now stores.old.texts.now }
-        requires element_room { ElementRoom self.now.sheets (element_in element.page element.row) fill stores.old.rules.now stores.old.tokens.now stores.old.brackets.now stores.old.texts.now }
+        requires steady { SteadyOf self.now.kept element.page element.row stores.old }
+        requires element_room { ElementRoomOf self.now.kept (element_in element.page element.row) fill stores.old }
         ensures out_after { out.new ≡ finished_row self.now.cascade (handed_at out.old) (merged_row self.now.cascade (inherited_row self.now.cascade out.old)
-            (declared_by self.now.cascade (sources_from (kept_sheets stores.old.rules.now stores.old.tokens.now stores.old.texts.now self.now.sheets) (placed_attributes fill (counted_attributes self.now.settings (element_in element.entry.page element.entry.row))) (path_in element.entry.page element.entry.row)))) }
+            (declared_by self.now.cascade (sources_from (kept_sheets_of self.now.kept stores.old) (placed_attributes fill (counted_attributes self.now.settings (element_in element.entry.page element.entry.row))) (path_in element.entry.page element.entry.row)))) }
         ensures value { result ≡ fill + length (inline_contents self.now.settings (element_in element.entry.page element.entry.row)) }
-        ensures texts_after { take (self.now.sheets.end + result) stores.new.texts.now ≡ take (self.now.sheets.end + fill) stores.old.texts.now ++ inline_contents self.now.settings (element_in element.entry.page element.entry.row) }
-        ensures same_kept { SameKept self.now.sheets stores.old.rules.now stores.old.tokens.now stores.old.texts.now stores.new.rules.now stores.new.tokens.now stores.new.texts.now }
-        ensures lengths { SameLengths stores.old stores.new }
-        ensures same { SameStores stores.old stores.new }
+        ensures texts_after { take (self.now.kept.sheets.end + result) stores.new.texts.now ≡ take (self.now.kept.sheets.end + fill) stores.old.texts.now ++ inline_contents self.now.settings (element_in element.entry.page element.entry.row) }
+        ensures same_kept { SameKeptOf self.now.kept stores.old stores.new }
+        ensures kept { KeptStores stores.old stores.new }
     {
         let parent = handed_on(out);
         let end = self.declare_element(element, out, stores, fill);
@@ -252,21 +244,19 @@ impl Styling {
         out: &mut StyleRow,
         stores: &mut Stores<'_>,
     ) -> usize
-        requires steady { Steady self.now.sheets element.page.nodes.now element.page.attributes.now element.page.text.now element.row stores.old.rules.now stores.old.tokens.now stores.old.texts.now }
-        requires path_room { PathRoom self.now.sheets (path_in element.page element.row) stores.old.rules.now stores.old.tokens.now stores.old.brackets.now stores.old.texts.now }
-        ensures out_after { out.new ≡ row_of (cascaded self.now.cascade (placed_from (kept_sheets stores.old.rules.now stores.old.tokens.now stores.old.texts.now self.now.sheets) self.now.sheets.fill self.now.settings (path_in element.entry.page element.entry.row))) }
-        ensures value { result ≡ self.now.sheets.fill + length (path_contents self.now.settings (path_in element.entry.page element.entry.row)) }
-        ensures texts_after { take (self.now.sheets.end + result) stores.new.texts.now ≡ take (self.now.sheets.end + self.now.sheets.fill) stores.old.texts.now ++ path_contents self.now.settings (path_in element.entry.page element.entry.row) }
-        ensures same_kept { SameKept self.now.sheets stores.old.rules.now stores.old.tokens.now stores.old.texts.now stores.new.rules.now stores.new.tokens.now stores.new.texts.now }
-        ensures lengths { SameLengths stores.old stores.new }
-        ensures same { SameStores stores.old stores.new }
+        requires steady { SteadyOf self.now.kept element.page element.row stores.old }
+        requires path_room { PathRoomOf self.now.kept (path_in element.page element.row) stores.old }
+        ensures out_after { out.new ≡ row_of (cascaded self.now.cascade (placed_from (kept_sheets_of self.now.kept stores.old) self.now.kept.fill self.now.settings (path_in element.entry.page element.entry.row))) }
+        ensures value { result ≡ self.now.kept.fill + length (path_contents self.now.settings (path_in element.entry.page element.entry.row)) }
+        ensures texts_after { take (self.now.kept.sheets.end + result) stores.new.texts.now ≡ take (self.now.kept.sheets.end + self.now.kept.fill) stores.old.texts.now ++ path_contents self.now.settings (path_in element.entry.page element.entry.row) }
+        ensures same_kept { SameKeptOf self.now.kept stores.old stores.new }
+        ensures kept { KeptStores stores.old stores.new }
     {
-        if element.row == 0 {
+        let Some(row) = element.parent() else {
             clear_row(out);
-            return self.sheets.fill;
-        }
+            return self.kept.fill;
+        };
         let page = element.page;
-        let row = parent_of(page.nodes, element.row);
         let fill = self.style_path(Element { page, row }, out, stores);
         self.style_element(element, out, stores, fill)
     }

@@ -8,26 +8,27 @@ ghost use Rattle.page.specs.Lent.{path_in};
 ghost use Rattle.styles.specs.Merged.{merged_row};
 ghost use Rattle.styles.specs.Said.{rule_style, selector_says, selectors_say, rules_say};
 ghost use Rattle.rule_styles.specs.Placing.{read_styled, read_kept, rules_selectors, rules_kept};
-ghost use Rattle.path_styles.specs.Tops.{RightTops};
+ghost use Rattle.path_styles.specs.Tops.{RightTopsOf};
 
-use crate::tops::{TOP_WIDTH, top_at};
+use crate::tops::{ReadySheet, TOP_WIDTH, selector_at, top_at};
 use cascade::rows::{AFTER, BEFORE, MAIN, StyleRow, merge_computed_style};
 use cascade::slots::Cascade;
 use cascade::specificity::Specificity;
 use combinators::stores::number_at;
-use matching::components::{Selector, specificity};
+use matching::components::specificity;
 use matching::elements::Element;
 use matching::topmost::matches_by_number;
 use origins::walk::{skip_rule, skip_selector};
 use rule_styles::rows::{KEPT_COUNT, KEPT_HEAD};
 use syntax::rows::{
     DECLARATION_WIDTH, PSEUDO_BEFORE, PSEUDO_NONE, RULE_DECLARATIONS, RULE_HEAD, RULE_SELECTORS,
-    SELECTOR_COMPONENTS, SELECTOR_HEAD, SELECTOR_PSEUDO, STYLE_WIDTH,
+    SELECTOR_PSEUDO, STYLE_WIDTH,
 };
 use syntax::styles::style_at;
 use syntax::walk::forward;
 
-// The record of a style row that a selector's pseudo element names.
+// The record of a style row that a selector's pseudo element names. Both are numbers with names: the one stands in lent rows, of any content, the other counts records
+// of a style row.
 fn pseudo_of(number: u32) -> usize
     ensures { result ≡ pseudo_number (pseudo_from number) }
 {
@@ -47,8 +48,17 @@ fn skip_kept(styles: &[u32], at: usize) -> usize
     forward(styles, at, KEPT_HEAD + STYLE_WIDTH * count)
 }
 
+// Where a rule stands, and where its styles and the numbers of its selectors do in what the call keeps. The three step together.
+#[derive(Clone, Copy)]
+struct Places {
+    row: usize,
+    styles: usize,
+    tops: usize,
+}
+
 // A sheet while it is merged: its origin, its rows, the texts of its rules, the styles that are kept for them; the cascade, and the element that the rules are asked of.
-// Where a rule, its styles and its selectors' numbers start moves on and is no part of it.
+// Where a rule, its styles and its selectors' numbers start moves on and is no part of it. `RightTopsOf`, that the numbers from a place on decide, is about such places too:
+// a ghost field of them would be shown anew for each step.
 #[derive(Clone, Copy)]
 pub struct SheetMerge<'a> {
     pub cascade: Cascade,
@@ -61,7 +71,7 @@ pub struct SheetMerge<'a> {
 
 impl SheetMerge<'_> {
     // Merges `count` styles, whose rows start at `at`, as those of a selector of a specificity.
-    // Here and below `count` is a number that stands in lent rows, which may end before so many styles: no part of them is cut by it.
+    // Here and below nothing is asked of the kept rows, and the definition reads what is not there as 0: so `count` stays beside them, and no part of them is cut by it.
     fn merge_styles(
         &self,
         out: &mut StyleRow,
@@ -92,100 +102,93 @@ impl SheetMerge<'_> {
             (read_many read_styled count (drop first self.now.styles.now)).value
             (read_selector self.now.texts.now (drop at self.now.rows.now)).value)) }
     {
-        let length = number_at(self.rows, at, SELECTOR_COMPONENTS);
-        let behind_head = forward(self.rows, at, SELECTOR_HEAD);
-        let components = &self.rows[behind_head..];
-        let selector = Selector {
-            components,
-            store: self.texts,
-            left: length as usize,
-        };
+        let selector = selector_at(self.rows, at, self.texts);
         if matches_by_number(selector, top, self.element) {
             let pseudo = pseudo_of(number_at(self.rows, at, SELECTOR_PSEUDO));
-            let spec = specificity(components, length);
+            let spec = specificity(selector.components, selector.left as u32);
             self.merge_styles(out, pseudo, spec, first, count);
         }
     }
 
-    // Merges what `selectors` selectors from `at` on, whose numbers start at `tops`, say of the element, each with `count` styles, whose rows start at `first`; the place behind them.
+    // Merges what `selectors` selectors of a rule say of the element, each with `count` styles; the place behind them. `places` are those of the first selector, the first
+    // of the styles, and the number of the first selector. A selector and its number are stepped over together, by `forward`, which stops at the end as the definition's `drop` does.
     fn merge_selectors(
         &self,
         out: &mut StyleRow,
-        at: usize,
+        places: Places,
         selectors: u32,
-        first: usize,
         count: u32,
-        tops: usize,
     ) -> usize
-        requires right_tops { RightTops self.now.element.page.nodes.now self.now.element.page.attributes.now self.now.element.page.text.now self.now.element.row (read_many (read_selector self.now.texts.now) selectors (drop at self.now.rows.now)).value (drop tops self.now.styles.now) }
+        requires right_tops { RightTopsOf self.now.element.page self.now.element.row (read_many (read_selector self.now.texts.now) selectors (drop places.row self.now.rows.now)).value (drop places.tops self.now.styles.now) }
         ensures out_after { out.new
             ≡ merged_row self.now.cascade out.old
             (map (from_rule self.now.origin)
             (selectors_say (path_in self.now.element.page self.now.element.row)
-            (read_many read_styled count (drop first self.now.styles.now)).value
-            (read_many (read_selector self.now.texts.now) selectors (drop at self.now.rows.now)).value)) }
-        ensures rows_value { drop result self.now.rows.now ≡ (read_many (read_selector self.now.texts.now) selectors (drop at self.now.rows.now)).rest }
+            (read_many read_styled count (drop places.styles self.now.styles.now)).value
+            (read_many (read_selector self.now.texts.now) selectors (drop places.row self.now.rows.now)).value)) }
+        ensures rows_value { drop result self.now.rows.now ≡ (read_many (read_selector self.now.texts.now) selectors (drop places.row self.now.rows.now)).rest }
     {
-        let mut place = at;
-        let mut top_place = tops;
+        let mut place = places.row;
+        let mut top_place = places.tops;
         for _ in 0..selectors {
             let top = top_at(self.styles, top_place);
-            self.merge_selector(out, place, top, first, count);
+            self.merge_selector(out, place, top, places.styles, count);
             place = skip_selector(self.rows, place);
             top_place = forward(self.styles, top_place, TOP_WIDTH);
         }
         place
     }
 
-    // Merges what the rule at `at` says of the element, with the styles that are kept for it at `first` and the numbers of its selectors at `tops`; the place behind it. Where no style is
-    // kept its selectors are only passed over.
-    fn merge_rule(&self, out: &mut StyleRow, at: usize, first: usize, tops: usize) -> usize
-        requires right_tops { RightTops self.now.element.page.nodes.now self.now.element.page.attributes.now self.now.element.page.text.now self.now.element.row (read_rule self.now.texts.now (drop at self.now.rows.now)).value.selectors (drop tops self.now.styles.now) }
+    // Merges what a rule says of the element, with the styles that are kept for it and the numbers of its selectors; the place behind it. Where no style is kept its
+    // selectors are only passed over.
+    fn merge_rule(&self, out: &mut StyleRow, places: Places) -> usize
+        requires right_tops { RightTopsOf self.now.element.page self.now.element.row (read_rule self.now.texts.now (drop places.row self.now.rows.now)).value.selectors (drop places.tops self.now.styles.now) }
         ensures out_after { out.new
             ≡ merged_row self.now.cascade out.old
             (map (from_rule self.now.origin)
             (selectors_say (path_in self.now.element.page self.now.element.row)
-            (read_kept (drop first self.now.styles.now)).value
-            (read_rule self.now.texts.now (drop at self.now.rows.now)).value.selectors)) }
-        ensures rows_value { drop result self.now.rows.now ≡ (read_rule self.now.texts.now (drop at self.now.rows.now)).rest }
+            (read_kept (drop places.styles self.now.styles.now)).value
+            (read_rule self.now.texts.now (drop places.row self.now.rows.now)).value.selectors)) }
+        ensures rows_value { drop result self.now.rows.now ≡ (read_rule self.now.texts.now (drop places.row self.now.rows.now)).rest }
     {
-        let count = number_at(self.styles, first, KEPT_COUNT);
+        let count = number_at(self.styles, places.styles, KEPT_COUNT);
         if count == 0 {
-            return skip_rule(self.rows, at);
+            return skip_rule(self.rows, places.row);
         }
-        let start = forward(self.rows, at, RULE_HEAD);
-        let selectors = number_at(self.rows, at, RULE_SELECTORS);
-        let kept = forward(self.styles, first, KEPT_HEAD);
-        let behind = self.merge_selectors(out, start, selectors, kept, count, tops);
-        let declarations = number_at(self.rows, at, RULE_DECLARATIONS) as usize;
+        let selectors = number_at(self.rows, places.row, RULE_SELECTORS);
+        let first = Places {
+            row: forward(self.rows, places.row, RULE_HEAD),
+            styles: forward(self.styles, places.styles, KEPT_HEAD),
+            ..places
+        };
+        let behind = self.merge_selectors(out, first, selectors, count);
+        let declarations = number_at(self.rows, places.row, RULE_DECLARATIONS) as usize;
         forward(self.rows, behind, DECLARATION_WIDTH * declarations)
     }
 
-    // Merges what `count` rules from `at` on say of the element, with the styles that are kept for them from `first` on and the numbers of their selectors from `tops` on.
+    // Merges what the rules of a sheet say of the element, with the styles that are kept for them and the numbers of their selectors.
     // Rules are of different widths, so that the length of their rows does not say how many they are.
-    pub fn merge_rules(
-        &self,
-        out: &mut StyleRow,
-        at: usize,
-        count: usize,
-        first: usize,
-        tops: usize,
-    )
-        requires right_tops { RightTops self.now.element.page.nodes.now self.now.element.page.attributes.now self.now.element.page.text.now self.now.element.row (rules_selectors (read_many (read_rule self.now.texts.now) count (drop at self.now.rows.now)).value) (drop tops self.now.styles.now) }
+    pub fn merge_rules(&self, out: &mut StyleRow, sheet: ReadySheet)
+        requires right_tops { RightTopsOf self.now.element.page self.now.element.row (rules_selectors (read_many (read_rule self.now.texts.now) sheet.styled.rules.count (drop sheet.styled.rules.place self.now.rows.now)).value) (drop sheet.tops self.now.styles.now) }
         ensures { out.new
             ≡ merged_row self.now.cascade out.old
             (map (from_rule self.now.origin)
             (rules_say (path_in self.now.element.page self.now.element.row)
-            (rules_kept self.now.texts.now count (drop at self.now.rows.now) (drop first self.now.styles.now)))) }
+            (rules_kept self.now.texts.now sheet.styled.rules.count (drop sheet.styled.rules.place self.now.rows.now) (drop sheet.styled.styles self.now.styles.now)))) }
     {
-        let mut place = at;
-        let mut kept = first;
-        let mut top_place = tops;
-        for _ in 0..count {
-            let selectors = number_at(self.rows, place, RULE_SELECTORS) as usize;
-            place = self.merge_rule(out, place, kept, top_place);
-            kept = skip_kept(self.styles, kept);
-            top_place = forward(self.styles, top_place, TOP_WIDTH * selectors);
+        let rules = sheet.styled.rules;
+        let mut next = Places {
+            row: rules.place,
+            styles: sheet.styled.styles,
+            tops: sheet.tops,
+        };
+        for _ in 0..rules.count {
+            let selectors = number_at(self.rows, next.row, RULE_SELECTORS) as usize;
+            next = Places {
+                row: self.merge_rule(out, next),
+                styles: skip_kept(self.styles, next.styles),
+                tops: forward(self.styles, next.tops, TOP_WIDTH * selectors),
+            };
         }
     }
 }

@@ -13,31 +13,39 @@ use crate::reading::{ask_colour, ask_compile, ask_length, ask_sheet, ask_style_a
 use crate::stream::Stream;
 use crate::style_calls::{ask_run, ask_style};
 use cascade::rows::STYLE_ROW_WIDTH;
+use combinators::least::{NUMBER_MORE, NUMBER_WIDTH, TEXT_MORE, TEXT_WIDTH};
+use page::check::NODE_LIMIT;
+use page::rules::DEPTH_LIMIT;
 
 // All texts of a vector together, at most, and stores of the least lengths for it.
 const LONGEST: usize = 65600;
 
-const NUMBERS: usize = 8 * LONGEST + 64;
+const NUMBERS: usize = NUMBER_WIDTH * LONGEST + NUMBER_MORE;
 
-const TEXTS: usize = 2 * LONGEST + 12;
+const TEXTS: usize = TEXT_WIDTH * LONGEST + TEXT_MORE;
 
-// More than any compiled sheet has.
-const COMPILED: usize = 80000;
+// What vectors lend to compile into: more than any compiled sheet has.
+const COMPILED: usize = 80_000;
 
 // The style rows of a page of so many nodes.
 const OUT: usize = 128 * STYLE_ROW_WIDTH;
 
-// For a run, the style rows of one node more than a page may have, and some numbers beyond them; or the state of a sheet of 8,192 bytes, and some beyond it. With either, all
-// texts of a vector have less together.
-const MANY_ROWS: usize = 4097 * STYLE_ROW_WIDTH + 100;
+// What vectors lend beyond the least where they lend plenty.
+const MORE: usize = 100;
 
-const LONG_STATE: usize = 65 * 8193 + 100;
+// The longest compiled sheet of a run whose state is lent.
+const RUN_SHEET: usize = 8192;
+
+// For a run, the style rows of one node more than a page may have, or the state of such a sheet, and some beyond. With either, all texts of a vector have less together.
+const MANY_ROWS: usize = (NODE_LIMIT + 1) * STYLE_ROW_WIDTH + MORE;
+
+const LONG_STATE: usize = (DEPTH_LIMIT + 1) * (RUN_SHEET + 1) + MORE;
 
 const SHORTER: usize = 16384;
 
-const FEWER_NUMBERS: usize = 8 * SHORTER + 64;
+const FEWER_NUMBERS: usize = NUMBER_WIDTH * SHORTER + NUMBER_MORE;
 
-const SHORTER_TEXTS: usize = 2 * SHORTER + 12;
+const SHORTER_TEXTS: usize = TEXT_WIDTH * SHORTER + TEXT_MORE;
 
 /// Asks a question with buffers that have room for what the vector lends; whether all comes that is expected next.
 pub fn answers_as_expected(stream: &mut Stream<'_>, question: &Question<'_>) -> bool {

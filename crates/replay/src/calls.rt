@@ -24,7 +24,7 @@ pub enum Call {
     Selector,
     // An entry point again: the length that a height's value is. Its amount is told as millions and what is left.
     HeightLength,
-    // What no number above names. It gives nothing.
+    // What no number above names. It gives nothing. A call like the others and no `None`, for its vector is read to the end and told like theirs.
     Unknown,
 }
 
@@ -78,7 +78,9 @@ pub type Results = [usize; RESULTS];
 /// So many arguments are kept, which no call exceeds.
 pub const ARGUMENTS: usize = 15;
 
-// Arguments of every call: with what the lent buffers are filled, and how long they are.
+// Arguments are numbers and no enum: they are places in a vector's list, and one place has another meaning in another call.
+
+// Those of every call: with what the lent buffers are filled, and how long they are.
 pub const FILLING: usize = 0;
 
 pub const RULES_LENT: usize = 1;
@@ -109,12 +111,8 @@ pub const NAMES: usize = 11;
 
 pub const COUNT: usize = 12;
 
-// The same for a style: the bytes of its three sheets.
+// The same for a style: the bytes of its three sheets, the agent's here and the user's and the author's behind it.
 pub const AGENT: usize = 10;
-
-pub const USER: usize = 11;
-
-pub const AUTHOR: usize = 12;
 
 // Behind either the row, and for a style whether document styles are on.
 pub const ROW: usize = 13;

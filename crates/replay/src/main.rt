@@ -75,7 +75,7 @@ fn replay_all(input: &mut impl Read, out: &impl Print, window: &mut Window) -> i
     for _ in 0..MOST_VECTORS {
         window.move_on(input);
         let mut stream = Stream::new(window.rest());
-        if stream.len() == 0 {
+        if stream.is_empty() {
             break;
         }
         replay(out, &mut stream, &mut tally)?;

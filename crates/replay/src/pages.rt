@@ -1,12 +1,13 @@
 // Calls with a page or with compiled bytes. Each answers the numbers of its result, in the order of its struct.
 use crate::buffers::Buffers;
-use crate::calls::{COMPONENTS, COUNT, FIRST, ROW, Results};
-use crate::question::{Question, part};
+use crate::calls::{COMPONENTS, COUNT, ROW, Results};
+use crate::question::Question;
+use combinators::texts::part_of;
 use comparison::bytes::comparison_check_bytes;
 use comparison::matches::{MatchResult, comparison_matches};
 use engine::pages::hicsolmab_check_page;
 use engine::sheet::hicsolmab_read_sheet;
-use page::rows::NODE_WIDTH;
+use page::rows::node_count;
 
 pub fn ask_bytes(question: &Question<'_>) -> Results {
     let came = comparison_check_bytes(question.text());
@@ -72,7 +73,7 @@ fn put_row(came: MatchResult, rules: &mut [u32], row: usize) {
 pub fn ask_rows(question: &Question<'_>, rules: &mut [u32]) -> Results {
     let components = question.components();
     let names = question.names();
-    let rows = question.length(FIRST) / NODE_WIDTH;
+    let rows = node_count(question.nodes());
     for row in 0..rows {
         let came = match_row(question, components, names, row);
         put_row(came, rules, row);
@@ -83,7 +84,7 @@ pub fn ask_rows(question: &Question<'_>, rules: &mut [u32]) -> Results {
 // Whether components from a place of the rules on match the row, where the sheet's texts are read.
 fn match_rule(question: &Question<'_>, buffers: &Buffers<'_>) -> MatchResult {
     let count = buffers.rules.len();
-    let components = part(buffers.rules, question.length(COMPONENTS), count);
+    let components = part_of(buffers.rules, question.length(COMPONENTS), count);
     match_row(question, components, buffers.texts, question.length(ROW))
 }
 

@@ -2,6 +2,7 @@
 // arguments: of a page its nodes and attributes, and its text.
 use crate::calls::{ARGUMENTS, COMPONENTS, Call, FIRST, NAMES, SECOND, SHEET, THIRD};
 use crate::stream::Stream;
+use combinators::texts::part_of;
 
 #[derive(Clone, Copy)]
 pub struct Question<'a> {
@@ -53,7 +54,7 @@ impl<'a> Question<'a> {
 
     /// The first text, of a call with sheets, an attribute, a height or compiled bytes.
     pub fn text(&self) -> &'a [u8] {
-        part(self.input, 0, self.length(FIRST))
+        part_of(self.input, 0, self.length(FIRST))
     }
 
     /// Three sheets from `start` on, whose lengths are the arguments from `k` on.
@@ -64,44 +65,38 @@ impl<'a> Question<'a> {
         let user_start = start.saturating_add(agent);
         let author_start = user_start.saturating_add(user);
         [
-            part(self.input, start, agent),
-            part(self.input, user_start, user),
-            part(self.input, author_start, author),
+            part_of(self.input, start, agent),
+            part_of(self.input, user_start, user),
+            part_of(self.input, author_start, author),
         ]
     }
 
     pub fn nodes(&self) -> &'a [u32] {
-        part(self.numbers, 0, self.length(FIRST))
+        part_of(self.numbers, 0, self.length(FIRST))
     }
 
     pub fn attributes(&self) -> &'a [u32] {
-        part(self.numbers, self.length(FIRST), self.length(SECOND))
+        part_of(self.numbers, self.length(FIRST), self.length(SECOND))
     }
 
     /// The text of the page.
     pub fn page(&self) -> &'a [u8] {
-        part(self.input, 0, self.length(THIRD))
+        part_of(self.input, 0, self.length(THIRD))
     }
 
     /// Components of a selector, behind the attributes.
     pub fn components(&self) -> &'a [u32] {
         let start = self.length(FIRST).saturating_add(self.length(SECOND));
-        part(self.numbers, start, self.length(COMPONENTS))
+        part_of(self.numbers, start, self.length(COMPONENTS))
     }
 
     /// Their texts, behind the page's; or a sheet, which lies there too.
     pub fn names(&self) -> &'a [u8] {
-        part(self.input, self.length(THIRD), self.length(NAMES))
+        part_of(self.input, self.length(THIRD), self.length(NAMES))
     }
 
     /// The compiled sheet of a run, behind the page.
     pub fn compiled(&self) -> &'a [u8] {
-        part(self.input, self.length(THIRD), self.length(SHEET))
+        part_of(self.input, self.length(THIRD), self.length(SHEET))
     }
-}
-
-/// The `n` elements from `start` on, or as many as there are.
-pub fn part<T>(items: &[T], start: usize, n: usize) -> &[T] {
-    let rest = items.get(start..).unwrap_or_default();
-    &rest[..n.min(rest.len())]
 }

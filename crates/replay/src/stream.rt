@@ -20,6 +20,10 @@ impl<'a> Stream<'a> {
         Stream { rest: bytes }
     }
 
+    pub fn is_empty(&self) -> bool {
+        self.rest.is_empty()
+    }
+
     pub fn len(&self) -> usize {
         self.rest.len()
     }

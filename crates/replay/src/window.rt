@@ -8,9 +8,9 @@ use streams::read_full;
 // A window's bytes. A vector that starts in its first half ends in it: none has as many bytes as a half.
 const WINDOW: usize = 65536;
 
-const HALF: usize = 32768;
+const HALF: usize = WINDOW / 2;
 
-/// The bytes of the window, how far they are read, and how many there are.
+/// The bytes of the window, how far they are read, and how many there are: an array, of which the front is held, for the programs too have fixed memory.
 #[derive(Drop)]
 pub struct Window {
     bytes: [u8; WINDOW],

@@ -2,7 +2,7 @@
 use mathlib.Core.Path.{◌≡◌, refl, sym, ap, ◌∙◌}
 use mathlib.Core.Bool.{Bool, true, false}
 use mathlib.Core.List.{List, [], ◌∷◌, foldl}
-use mathlib.Core.Logic.{◌⊎◌, inl, inr, ⊎_elim}
+use mathlib.Core.Logic.{⊎_elim}
 use Prim.Native.Nat.{ℕ, ◌≤◌, ◌<◌}
 use native.Mathlib.Omega.{arith}
 use lib.Dec.{ltb}
@@ -10,17 +10,12 @@ use lib.ListN.{length, get_or, set, length-set}
 use lib.Seq.{get_or-set_same, get_or-set_other, ext_get_or}
 use borrow.Author.Tests.{lt-ltb, le-ltb, ltb-true, ltb-false}
 use Rattle.combinators.specs.Choice.{pick, is}
-use Rattle.combinators.proofs.Rules.{pick_true, pick-false, pick-holds, same_test, is_true, is_false, lt-or-ge}
+use Rattle.combinators.proofs.Rules.{pick_true, pick-false, pick-holds, same_test, is_true, is_false, lt-or-ge, either_way}
 use Rattle.cascade.specs.Slot.{Slot, empty}
 use Rattle.cascade.specs.Record.{slot_count, Styled, Record, slot_of, update_record}
 use Rattle.cascade.proofs.RowLaws.{record_same}
 use Rattle.rule_styles.specs.Deciding.{deciding}
 use Rattle.rule_styles.proofs.DecidingSlot.{Settled, offered, offered-own, offered-other, deciding-slot}
-
--- a test has one of two answers
-either_way : (t : Bool) → (t ≡ true) ⊎ (t ≡ false)
-either_way true = inl refl
-either_way false = inr refl
 
 -- ---- whether a record is present: it is where a style has a slot that there is
 unfoldable pub presents : {A : Type 0} → Bool → Styled A → Bool

@@ -3,15 +3,16 @@ use mathlib.Core.Path.{◌≡◌, refl, sym, ap, subst, ◌∙◌}
 use mathlib.Core.Bool.{Bool, true, false}
 use Rattle.std.proofs.Common.{Option, Some, None, is_some}
 use mathlib.Core.List.{List, [], ◌∷◌, ◌++◌, foldl}
-use Prim.Native.Nat.{ℕ, zero, suc, ◌+◌, ◌-◌, ◌*◌, ◌≤◌, ◌<◌}
+use Prim.Native.Nat.{ℕ, suc, ◌+◌, ◌-◌, ◌*◌, ◌≤◌, ◌<◌}
 use native.Mathlib.Omega.{arith}
-use lib.ListN.{length, set, drop, length-append}
-use lib.Seq.{sets, length-sets, drop-set-lt, drop-drop}
+use lib.ListN.{length, drop, length-append, get_or, drop_of_length-le}
+use lib.Seq.{sets, length-sets, drop-cons}
+use native.Mathlib.Numerals.{add-one}
 use Rattle.combinators.specs.Choice.{or}
 use Rattle.combinators.proofs.Rules.{pick_true, pick-false, is-yes, is-no}
 use Rattle.combinators.proofs.Wiped.{sets-append}
 use Rattle.syntax.specs.Layout.{style_width, numbers_at, value_numbers, row_of_numbers}
-use Rattle.syntax.specs.Stream.{read_many, texts_many}
+use Rattle.syntax.specs.Stream.{texts_many}
 use Rattle.syntax.specs.declared.styles.StyleNumbers.{StyleNumbers}
 use Rattle.syntax.specs.declared.styles.Value.{Value}
 use Rattle.syntax.proofs.RowSizes.{length-style}
@@ -20,18 +21,14 @@ use Rattle.values.specs.Words.{Found, found, on_found}
 use Rattle.cascade.specs.Record.{slot_count, Styled}
 use Rattle.styles.specs.StyleCall.{in_numbers}
 use Rattle.rule_styles.specs.Deciding.{Sifted, nothing_sifted, sift, listed, sifted_styles, deciding_for, deciding_from, deciding}
-use Rattle.rule_styles.specs.Placing.{styled_row, read_styled}
-use Rattle.rule_styles.specs.Sifting.{found_in, sifted_in, DecidingRoom}
+use Rattle.rule_styles.specs.Placing.{styled_row, styled_in}
+use Rattle.rule_styles.specs.Sifting.{found_in, sifted_in}
 use Rattle.rule_styles.specs.declared.deciding.Sifted as code
 
--- the code's `||`, which asks the second where the first is false, is `or`
+-- the code's `||` is `or`, where the first is true
 pub or-first : (a b : Bool) → a ≡ true → a ≡ or a b
 unfolding or
 or-first a b e = rw e
-
-pub or-second : (a b c : Bool) → a ≡ false → c ≡ b → c ≡ or a b
-unfolding or
-or-second a b c e f = rw e f
 
 -- whether a style was found is whether there is one
 found-test : (x : Option StyleNumbers) → on_found (found_in x) (λ _. true) false ≡ is_some x
@@ -80,37 +77,28 @@ sifted-nothing : sifted_in (record { normal = None; important = None; behind = f
 unfolding sifted_in nothing_sifted found_in
 sifted-nothing = refl
 
-module _ (rows : List ℕ) (k : ℕ) where
+module _ (rows : List (List ℕ)) (k : ℕ) where
   -- what is known with the styles that are left
-  abbrev pub sifted_from : Sifted Value → ℕ → ℕ → Sifted Value
-  sifted_from s left place = foldl (sift k) s (read_many read_styled left (drop place rows)).value
+  abbrev pub sifted_from : Sifted Value → ℕ → Sifted Value
+  sifted_from s i = foldl (sift k) s (styled_in (drop i rows))
 
   -- where no style is left, what is known is the result
-  pub sift-none : (s : Sifted Value) (left place : ℕ) → left ≤ 0 → sifted_from s left place ≡ s
-  unfolding read_many
-  sift-none s zero place h = refl
-  sift-none s (suc left) place h = absurd (omega arith)
+  pub sift-none : (s : Sifted Value) (i : ℕ) → length rows ≤ i → sifted_from s i ≡ s
+  unfolding styled_in
+  sift-none s i h = ap (λ (l : List (List ℕ)). foldl (sift k) s (styled_in l)) (drop_of_length-le rows {i = i} h)
 
   -- before the first style all are left
-  pub sift-begin : (n count place : ℕ) → n ≡ count → sifted_from (sifted_in (record { normal = None; important = None; behind = false })) n place ≡ sifted_from nothing_sifted count place
-  sift-begin n count place e = rw (e, sifted-nothing)
+  pub sift-begin : sifted_from (sifted_in (record { normal = None; important = None; behind = false })) 0 ≡ foldl (sift k) nothing_sifted (styled_in rows)
+  sift-begin = rw sifted-nothing
 
-  -- the first of those that are left
-  sift-first : (s : Sifted Value) (left place : ℕ) → sifted_from s (suc left) place ≡ sifted_from (sift k s (in_numbers (numbers_at (drop place rows)))) left (place + style_width)
-  unfolding read_many read_styled
-  sift-first s left place =
-      ap (λ (t : List ℕ). foldl (sift k) (sift k s (in_numbers (numbers_at (drop place rows)))) (read_many read_styled left t).value) (drop-drop style_width place rows)
-
-  -- the style at the place, sifted into what is known, with one style less left, leaves the same result
-  pub sift-more : (s n : code.Sifted) (left fewer place behind : ℕ) (x : StyleNumbers) (all : Sifted Value) → left ≡ suc fewer
-      → x ≡ numbers_at (drop place rows) → sifted_in n ≡ sift k (sifted_in s) (in_numbers x) → drop behind rows ≡ drop (place + style_width) rows
-      → sifted_from (sifted_in s) left place ≡ all → sifted_from (sifted_in n) fewer behind ≡ all
-  sift-more s n left fewer place behind x all z e f g a =
-      ap (λ (t : List ℕ). foldl (sift k) (sifted_in n) (read_many read_styled fewer t).value) g
-      ∙ ap (λ (q : Sifted Value). sifted_from q fewer (place + style_width)) (f ∙ ap (λ (y : StyleNumbers). sift k (sifted_in s) (in_numbers y)) e)
-      ∙ sym (sift-first (sifted_in s) fewer place)
-      ∙ ap (λ (m : ℕ). sifted_from (sifted_in s) m place) (sym z)
-      ∙ a
+  -- the style of the next row, sifted into what is known, leaves the same result with the rows behind it
+  pub sift-more : (s n : code.Sifted) (i : ℕ) (x : StyleNumbers) (all : Sifted Value) → i < length rows
+      → x ≡ numbers_at (get_or rows i []) → sifted_in n ≡ sift k (sifted_in s) (in_numbers x) → sifted_from (sifted_in s) i ≡ all → sifted_from (sifted_in n) (i + 1) ≡ all
+  unfolding styled_in
+  sift-more s n i x all h e f a =
+      let q : drop i rows ≡ get_or rows i [] ∷ drop (i + 1) rows = drop-cons rows i [] h ∙ rw (add-one i) refl in
+      ap (λ (y : Sifted Value). sifted_from y (i + 1)) (f ∙ ap (λ (y : StyleNumbers). sift k (sifted_in s) (in_numbers y)) e)
+      ∙ ap (λ (l : List (List ℕ)). foldl (sift k) (sifted_in s) (styled_in l)) (sym q) ∙ a
 
 -- ---- rows written
 -- the row of one style is four numbers
@@ -169,15 +157,6 @@ module _ (rows left : List ℕ) (at n : ℕ) (s : code.Sifted) where
       subst (Written rows left at n 2) z w
 
 -- ---- the rows of all that decide
--- stores before a place leave alone what lies from there on
-pub drop-sets : (vs l : List ℕ) (q at : ℕ) → q + length vs ≤ at → drop at (sets l q vs) ≡ drop at l
-drop-sets [] l q at h = refl
-drop-sets (v ∷ vs) l q at h = drop-sets vs (set l q v) (suc q) at (omega arith) ∙ drop-set-lt at l q v (omega arith)
-
--- the styles that are read
-abbrev pub styles_from : List ℕ → ℕ → ℕ → List (Styled Value)
-styles_from rows at count = (read_many read_styled count (drop at rows)).value
-
 -- the slots from one on
 from-slot : (k : ℕ) (xs : List (Styled Value)) → k < slot_count → deciding_from (slot_count - k) k xs ≡ deciding_for k xs ++ deciding_from (slot_count - (k + 1)) (k + 1) xs
 unfolding deciding_from
@@ -191,35 +170,29 @@ no-slot-left : (k : ℕ) (xs : List (Styled Value)) → slot_count ≤ k → dec
 unfolding deciding_from
 no-slot-left k xs h = let e : slot_count - k ≡ 0 = omega arith in ap (λ (n : ℕ). deciding_from n k xs) e
 
--- in the loop over the slots: what is still to be written leaves what all leaves, and the styles that are read lie as they lay
-pub record Keeping (rows₀ : List ℕ) (at count place : ℕ) (rows : List ℕ) (kept slot : ℕ) : Type 0 where
-  pub written : sets rows (place + kept * style_width) (texts_many styled_row (deciding_from (slot_count - slot) slot (styles_from rows₀ at count)))
-      ≡ sets rows₀ place (texts_many styled_row (deciding (styles_from rows₀ at count)))
-  pub counted : kept + length (deciding_from (slot_count - slot) slot (styles_from rows₀ at count)) ≡ length (deciding (styles_from rows₀ at count))
-  pub unread : drop at rows ≡ drop at rows₀
+-- in the loop over the slots: what is still to be written leaves what all leaves
+pub record Keeping (xs : List (Styled Value)) (rows₀ : List ℕ) (place : ℕ) (rows : List ℕ) (kept slot : ℕ) : Type 0 where
+  pub written : sets rows (place + kept * style_width) (texts_many styled_row (deciding_from (slot_count - slot) slot xs))
+      ≡ sets rows₀ place (texts_many styled_row (deciding xs))
+  pub counted : kept + length (deciding_from (slot_count - slot) slot xs) ≡ length (deciding xs)
   pub long : length rows ≡ length rows₀
   pub few : kept ≤ 2 * slot
   pub slots : slot ≤ slot_count
 
-module _ (rows₀ : List ℕ) (at count place : ℕ) where
-  -- the styles of the rule
-  abbrev xs : List (Styled Value)
-  xs = styles_from rows₀ at count
-
+module _ (xs : List (Styled Value)) (rows₀ : List ℕ) (place : ℕ) where
   -- before the first slot nothing is kept, and all is still to be written
-  pub keeping-begin : Keeping rows₀ at count place rows₀ 0 0
+  pub keeping-begin : Keeping xs rows₀ place rows₀ 0 0
   unfolding deciding
   keeping-begin =
       record {
         written = let e : place + 0 * style_width ≡ place = omega arith in ap (λ (q : ℕ). sets rows₀ q (texts_many styled_row (deciding_from slot_count 0 xs))) e;
         counted = omega arith;
-        unread = refl;
         long = refl;
         few = omega arith;
         slots = omega arith;
       }
 
-  module _ (rows : List ℕ) (kept slot : ℕ) (k : Keeping rows₀ at count place rows kept slot) where
+  module _ (rows : List ℕ) (kept slot : ℕ) (k : Keeping xs rows₀ place rows kept slot) where
     -- when all slots are done, the rows of the styles that decide are written, and as many are counted
     pub keeping-done : slot_count ≤ slot → (rows ≡ sets rows₀ place (texts_many styled_row (deciding xs))) × (kept ≡ length (deciding xs))
     unfolding texts_many
@@ -230,16 +203,16 @@ module _ (rows₀ : List ℕ) (at count place : ℕ) where
         )
 
     -- the styles of one slot
-    module _ (s : code.Sifted) (e : sifted_in s ≡ foldl (sift slot) nothing_sifted (styles_from rows at count)) where
-      -- the styles sifted for the slot are those that decide in it, of the styles as they lay
+    module _ (s : code.Sifted) (e : sifted_in s ≡ foldl (sift slot) nothing_sifted xs) where
+      -- the styles sifted for the slot are those that decide in it
       styles-now : sifted_styles (sifted_in s) ≡ deciding_for slot xs
       unfolding deciding_for
-      styles-now = ap sifted_styles (e ∙ ap (λ (t : List ℕ). foldl (sift slot) nothing_sifted (read_many read_styled count t).value) k.unread)
+      styles-now = ap sifted_styles e
 
       -- with the styles of one slot written behind those that are kept, the slots from the next one on are left
-      pub keeping-more : (left : List ℕ) (n : ℕ) → DecidingRoom rows₀ at count place → slot < slot_count → Written rows left (place + kept * style_width) n 2 (sifted_styles (sifted_in s))
-          → Keeping rows₀ at count place left (kept + n) (slot + 1)
-      keeping-more left n room h w =
+      pub keeping-more : (left : List ℕ) (n : ℕ) → slot < slot_count → Written rows left (place + kept * style_width) n 2 (sifted_styles (sifted_in s))
+          → Keeping xs rows₀ place left (kept + n) (slot + 1)
+      keeping-more left n h w =
           let ys = deciding_for slot xs in
           let zs = deciding_from (slot_count - (slot + 1)) (slot + 1) xs in
           let q = place + kept * style_width in
@@ -256,7 +229,6 @@ module _ (rows₀ : List ℕ) (at count place : ℕ) where
                 ∙ ap (λ (l : List (Styled Value)). sets rows q (texts_many styled_row l)) (sym z)
                 ∙ k.written;
             counted = omega (arith, c, length-append ys zs, ap length z, k.counted);
-            unread = ap (drop at) p ∙ drop-sets (texts_many styled_row ys) rows q at (omega (arith, styles-long ys, c, w.1.1, k.few, room.before)) ∙ k.unread;
             long = ap length p ∙ length-sets rows q (texts_many styled_row ys) ∙ k.long;
             few = omega (arith, w.1.1, k.few);
             slots = omega arith;

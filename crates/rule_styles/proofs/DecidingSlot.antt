@@ -1,7 +1,7 @@
 -- What the sifted styles of one slot come to, for every update by which styles of one rule settle: the same as all the styles, one after the other.
 use mathlib.Core.Path.{◌≡◌, refl, sym, ap, ◌∙◌}
 use mathlib.Core.Bool.{Bool, true, false}
-use mathlib.Core.List.{List, [], ◌∷◌, ◌++◌, foldl}
+use mathlib.Core.List.{List, [], ◌∷◌, foldl, foldl-append}
 use mathlib.Core.Logic.{⊎_elim}
 use Prim.Native.Nat.{ℕ, zero, suc, ◌+◌, ◌≤◌, ◌<◌}
 use native.Mathlib.Omega.{arith}
@@ -10,11 +10,6 @@ use Rattle.combinators.proofs.Rules.{pick_true, pick-false, is-yes, is-no, is_tr
 use Rattle.values.specs.Words.{found, missing, on_found}
 use Rattle.cascade.specs.Record.{slot_count, Styled}
 use Rattle.rule_styles.specs.Deciding.{Sifted, nothing_sifted, sift, listed, sifted_styles, deciding_for, deciding_from, deciding}
-
--- a list behind another is folded behind it
-pub fold-append : {A B : Type 0} (f : B → A → B) (b : B) (xs ys : List A) → foldl f b (xs ++ ys) ≡ foldl f (foldl f b xs) ys
-fold-append f b [] ys = refl
-fold-append f b (x ∷ xs) ys = fold-append f (f b x) xs ys
 
 -- an update of which only the last normal and the last important style matter, in the order in which the later kind comes last
 pub record Settled {A S : Type 0} (u : S → Styled A → S) : Type 0 where
@@ -221,7 +216,7 @@ module _ {A S : Type 0} (u : S → Styled A → S) (l : Settled u) (k : ℕ) (xs
   unfolding deciding_from
   from-above zero j x h = refl
   from-above (suc n) j x h =
-      fold-append (offered u k) x (deciding_for j xs) (deciding_from n (suc j) xs)
+      foldl-append (offered u k) x (deciding_for j xs) (deciding_from n (suc j) xs)
       ∙ ap (λ z. foldl (offered u k) z (deciding_from n (suc j) xs)) (other-slot j u k (λ e. omega arith) x xs)
       ∙ from-above n (suc j) x (omega arith)
 
@@ -230,7 +225,7 @@ module _ {A S : Type 0} (u : S → Styled A → S) (l : Settled u) (k : ℕ) (xs
   unfolding deciding_from
   from-below zero j x h i = absurd (omega arith)
   from-below (suc n) j x h i =
-      fold-append (offered u k) x (deciding_for j xs) (deciding_from n (suc j) xs)
+      foldl-append (offered u k) x (deciding_for j xs) (deciding_from n (suc j) xs)
       ∙ ⊎_elim
       (λ (m : j < k). ap (λ z. foldl (offered u k) z (deciding_from n (suc j) xs)) (other-slot j u k (λ e. omega arith) x xs) ∙ from-below n (suc j) x (omega arith) (omega arith))
       (λ (m : k ≤ j).

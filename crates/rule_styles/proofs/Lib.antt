@@ -5,7 +5,7 @@ pub mod DecidingRecord
 pub mod DecidingSame
 pub mod DecidingRows
 pub mod DecidingBounds
-pub mod PlacingCopies
+pub mod PlacingParts
 pub mod PlacingStyles
 pub mod PlacingKept
 pub mod PlacingRule

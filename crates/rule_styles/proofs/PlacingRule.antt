@@ -24,7 +24,7 @@ use Rattle.origins.proofs.Parts.{lent_part, part_length, part-stored}
 use Rattle.origins.proofs.WalkLaws.{many-length}
 use Rattle.styles.specs.StyleCall.{in_numbers}
 use Rattle.rule_styles.specs.Deciding.{deciding}
-use Rattle.rule_styles.specs.Placing.{kept_head, sheet_text, read_numbers, numbers_of, content_of, contents_of, placed_all, lying_styles, contents_at, styles_placed, kept, read_styled}
+use Rattle.rule_styles.specs.Placing.{kept_head, read_numbers, numbers_of, content_of, contents_of, placed_all, lying_styles, contents_at, styles_placed, kept, read_styled}
 use Rattle.rule_styles.specs.PlacingRoom.{ContentsRoom, StyleRowsRoom, kept_width, KeptRoom, RuleKeptRoom}
 use Rattle.rule_styles.specs.declared.placing.Placed.{Placed}
 use Rattle.rule_styles.proofs.DecidingBounds.{deciding-two}
@@ -62,7 +62,7 @@ placed-long text [] f = refl
 placed-long text (x ∷ xs) f = ap suc (placed-long text xs (f + length (content_of text x)))
 
 -- rows are of one width
-rows_long : (xs : List StyleNumbers) → length (texts_many row_of_numbers xs) ≡ style_width * length xs
+pub rows_long : (xs : List StyleNumbers) → length (texts_many row_of_numbers xs) ≡ style_width * length xs
 unfolding texts_many
 rows_long [] = refl
 rows_long (x ∷ xs) = omega (arith, length-append (row_of_numbers x) (texts_many row_of_numbers xs), length-style x, rows_long xs)
@@ -121,21 +121,17 @@ module _ (t tokens : List ℕ) (place : ℕ) (o : RuleKeptRoom t tokens place) w
     lying-long : length (lying_styles t) ≡ count
     lying-long = ap length (sym numbers-are) ∙ numbers-long count (drop made store)
 
-    module _ (texts : List ℕ) (from end fill : ℕ) where
-      -- the text of the sheet
-      abbrev text : List ℕ
-      text = sheet_text texts from end
-
+    module _ (text contents : List ℕ) (fill : ℕ) where
       -- that there is room to place them
-      pub styles-room : ContentsRoom texts from end fill (contents_at text t)
-          → StyleRowsRoom store made count × ContentsRoom texts from end fill (contents_of text (numbers_of count (drop made store)))
+      pub styles-room : ContentsRoom contents fill (contents_at text t)
+          → StyleRowsRoom store made count × ContentsRoom contents fill (contents_of text (numbers_of count (drop made store)))
       unfolding contents_at
       styles-room r =
           (record { room = omega (arith, rows_in, ap length store_is, length-sets tokens made (rule_styles t)) }, rw numbers-are r)
 
       -- when they are placed
       module _ (y₂ z : List ℕ) (g : ℕ) (ey₂ : y₂ ≡ sets store made (texts_many row_of_numbers (placed_all text fill (numbers_of count (drop made store)))))
-          (ez : z ≡ sets texts (end + fill) (contents_of text (numbers_of count (drop made store))))
+          (ez : z ≡ sets contents fill (contents_of text (numbers_of count (drop made store))))
           (eg : g ≡ fill + length (contents_of text (numbers_of count (drop made store)))) where
         -- the rows of the rule's styles, each content at its new place
         abbrev rows : List ℕ
@@ -174,7 +170,7 @@ module _ (t tokens : List ℕ) (place : ℕ) (o : RuleKeptRoom t tokens place) w
         pub rule-left : (w : List ℕ) (next : ℕ) → w ≡ wiped made (style_width * count) (sets y₂ place (kept_of (read_many read_styled count (drop made y₂)).value))
             → next ≡ place + length (kept_of (read_many read_styled count (drop made y₂)).value)
             → (w ≡ sets tokens place (kept_of (styles_placed text fill t)))
-            × ((z ≡ sets texts (end + fill) (contents_at text t))
+            × ((z ≡ sets contents fill (contents_at text t))
             × (◌≡◌ {A = Placed} (record { place = next; fill = g }) (record { place = place + length (kept_of (styles_placed text fill t)); fill = fill + length (contents_at text t) })))
         unfolding contents_at
         rule-left w next ew en =
@@ -185,7 +181,7 @@ module _ (t tokens : List ℕ) (place : ℕ) (o : RuleKeptRoom t tokens place) w
                   ∙ wiped-apart (sets tokens made rows) place made (style_width * count) k b
                   ∙ ap (λ (l : List ℕ). sets l place k) (zeros-back tokens made made-zeros rows (style_width * count) (omega (arith, rows_are))),
               (
-                ez ∙ ap (λ (xs : List StyleNumbers). sets texts (end + fill) (contents_of text xs)) numbers-are,
+                ez ∙ ap (λ (xs : List StyleNumbers). sets contents fill (contents_of text xs)) numbers-are,
                 rw (en, eg, styles-are, numbers-are),
               ),
             )

@@ -14,10 +14,9 @@ use Rattle.origins.specs.Rules.{selectors_read, rule_styles}
 use Rattle.origins.proofs.WalkLaws.{component-rest, declaration-rest}
 use Rattle.styles.specs.StyleCall.{in_numbers}
 use Rattle.rule_styles.specs.Deciding.{deciding}
-use Rattle.rule_styles.specs.Placing.{kept_head, sheet_text, placed_all, lying_styles, contents_at, styles_placed, styled_rule, rules_contents_at, styled_rules, kept, kept_rules}
+use Rattle.rule_styles.specs.Placing.{kept_head, placed_all, lying_styles, contents_at, styles_placed, styled_rule, rules_contents_at, styled_rules, kept, kept_rules}
 use Rattle.rule_styles.specs.PlacingRoom.{ContentsRoom, RuleKeptRoom, RuleLies, EachLies, RulesKeptRoom}
 use Rattle.rule_styles.specs.declared.placing.Placed.{Placed}
-use Rattle.rule_styles.proofs.PlacingCopies.{sheet-text-kept}
 use Rattle.rule_styles.proofs.DecidingBounds.{deciding-fewer}
 use Rattle.rule_styles.proofs.PlacingKept.{length-kept}
 use Rattle.rule_styles.proofs.PlacingRule.{numbers-long, placed-long, rule-styles-few}
@@ -141,11 +140,7 @@ module _ (text : List ℕ) where
   none_rest t = refl
 
 -- ---- the loop of `style_rules`
-module _ (rules : List ℕ) (at count : ℕ) (tokens₀ : List ℕ) (place : ℕ) (texts₀ : List ℕ) (from end fill : ℕ) where
-  -- the text of the sheet
-  abbrev sheet : List ℕ
-  sheet = sheet_text texts₀ from end
-
+module _ (rules : List ℕ) (at count : ℕ) (sheet tokens₀ : List ℕ) (place : ℕ) (contents₀ : List ℕ) (fill : ℕ) where
   -- what is kept of n rules from a place on
   abbrev kept_from : ℕ → ℕ → ℕ → List ℕ
   kept_from f rows n = kept_rules (styled_rules sheet f n (drop rows rules))
@@ -159,89 +154,85 @@ module _ (rules : List ℕ) (at count : ℕ) (tokens₀ : List ℕ) (place : ℕ
   rest_from rows n = (read_many (read_rule sheet) n (drop rows rules)).rest
 
   -- what is left to keep leaves what the whole leaves
-  pub record Styling (tokens texts : List ℕ) (rows p f n : ℕ) : Type 0 where
+  pub record Styling (tokens contents : List ℕ) (rows p f n : ℕ) : Type 0 where
     pub kept-left : sets tokens p (kept_from f rows n) ≡ sets tokens₀ place (kept_from fill at count)
     pub place-left : p + length (kept_from f rows n) ≡ place + length (kept_from fill at count)
-    pub texts-left : sets texts (end + f) (contents_from rows n) ≡ sets texts₀ (end + fill) (contents_from at count)
+    pub contents-left : sets contents f (contents_from rows n) ≡ sets contents₀ fill (contents_from at count)
     pub fill-left : f + length (contents_from rows n) ≡ fill + length (contents_from at count)
     pub rest-left : rest_from rows n ≡ rest_from at count
-    pub same : sheet_text texts from end ≡ sheet
     pub room : RulesKeptRoom sheet n (drop rows rules) tokens p
     pub row-length : length tokens ≡ length tokens₀
-    pub text-length : length texts ≡ length texts₀
+    pub contents-length : length contents ≡ length contents₀
 
-  module _ (o : RulesKeptRoom sheet count (drop at rules) tokens₀ place) (r : ContentsRoom texts₀ from end fill (contents_from at count)) where
+  module _ (o : RulesKeptRoom sheet count (drop at rules) tokens₀ place) (r : ContentsRoom contents₀ fill (contents_from at count)) where
     -- before the first rule nothing is kept, and all rules are left
-    pub styling-begin : (n : ℕ) → n ≡ count → Styling tokens₀ texts₀ at place fill n
+    pub styling-begin : (n : ℕ) → n ≡ count → Styling tokens₀ contents₀ at place fill n
     styling-begin n e =
         rw e (record {
           kept-left = refl;
           place-left = refl;
-          texts-left = refl;
+          contents-left = refl;
           fill-left = refl;
           rest-left = refl;
-          same = refl;
           room = o;
           row-length = refl;
-          text-length = refl;
+          contents-length = refl;
         })
 
-    module _ (tokens texts : List ℕ) (rows p f : ℕ) where
+    module _ (tokens contents : List ℕ) (rows p f : ℕ) where
       -- the rules that are left
       abbrev t : List ℕ
       t = drop rows rules
 
       -- room for the next rule
-      next-room : (k : ℕ) → Styling tokens texts rows p f (suc k) → RuleKeptRoom t tokens p × ContentsRoom texts from end f (contents_at (sheet_text texts from end) t)
+      next-room : (k : ℕ) → Styling tokens contents rows p f (suc k) → RuleKeptRoom t tokens p × ContentsRoom contents f (contents_at sheet t)
       next-room k c =
           let e = ap length (one-content sheet k t) ∙ length-append (contents_at sheet t) (rules_contents_at sheet k (read_rule sheet t).rest) in
-          let b : end + f + length (contents_at sheet t) ≤ length texts = omega (arith, e, r.room, c.fill-left, c.text-length) in
+          let b : f + length (contents_at sheet t) ≤ length contents = omega (arith, e, r.room, c.fill-left, c.contents-length) in
           let d : f + length (contents_at sheet t) < 2 ^ 32 = omega (arith, e, r.bits, c.fill-left) in
-          (first-room sheet k t tokens p c.room, rw c.same (record { ordered = r.ordered; room = b; bits = d }))
+          (first-room sheet k t tokens p c.room, record { room = b; bits = d })
 
       -- with one rule kept, the rules behind it are left
-      next-kept : (k : ℕ) → Styling tokens texts rows p f (suc k) → (w z : List ℕ) → w ≡ sets tokens p (kept (deciding (styles_placed sheet f t)))
-          → z ≡ sets texts (end + f) (contents_at sheet t) → (next : ℕ) → drop next rules ≡ (read_rule sheet t).rest
+      next-kept : (k : ℕ) → Styling tokens contents rows p f (suc k) → (w z : List ℕ) → w ≡ sets tokens p (kept (deciding (styles_placed sheet f t)))
+          → z ≡ sets contents f (contents_at sheet t) → (next : ℕ) → drop next rules ≡ (read_rule sheet t).rest
           → Styling w z next (p + length (kept (deciding (styles_placed sheet f t)))) (f + length (contents_at sheet t)) k
       next-kept k c w z ew ez next d =
           let a = kept (deciding (styles_placed sheet f t)) in
           let b = contents_at sheet t in
           let others = kept_rules (styled_rules sheet (f + length b) k (read_rule sheet t).rest) in
-          let contents = rules_contents_at sheet k (read_rule sheet t).rest in
-          let q : end + (f + length b) ≡ end + f + length b = omega arith in
+          let behind = rules_contents_at sheet k (read_rule sheet t).rest in
           record {
             kept-left = rw (d, ew) (sym (sets-append tokens p a others) ∙ ap (sets tokens p) (sym (one_kept sheet k t f)) ∙ c.kept-left);
             place-left = rw d (omega (arith, length-append a others, ap length (one_kept sheet k t f), c.place-left));
-            texts-left = rw (d, ez, q) (sym (sets-append texts (end + f) b contents) ∙ ap (sets texts (end + f)) (sym (one-content sheet k t)) ∙ c.texts-left);
-            fill-left = rw d (omega (arith, length-append b contents, ap length (one-content sheet k t), c.fill-left));
+            contents-left = rw (d, ez) (sym (sets-append contents f b behind) ∙ ap (sets contents f) (sym (one-content sheet k t)) ∙ c.contents-left);
+            fill-left = rw d (omega (arith, length-append b behind, ap length (one-content sheet k t), c.fill-left));
             rest-left = ap (λ (l : List ℕ). (read_many (read_rule sheet) k l).rest) d ∙ sym (rest-behind sheet k t) ∙ c.rest-left;
-            same = ap (λ (l : List ℕ). sheet_text l from end) ez ∙ sheet-text-kept b texts from end (end + f) r.ordered (omega arith) ∙ c.same;
             room = rw d (others-room sheet k t tokens p c.room f w ew);
             row-length = ap length ew ∙ length-sets tokens p a ∙ c.row-length;
-            text-length = ap length ez ∙ length-sets texts (end + f) b ∙ c.text-length;
+            contents-length = ap length ez ∙ length-sets contents f b ∙ c.contents-length;
           }
 
       -- room for the next, while any is left
-      pub styling-room : (n : ℕ) → Styling tokens texts rows p f n → 0 < n → RuleKeptRoom t tokens p × ContentsRoom texts from end f (contents_at (sheet_text texts from end) t)
+      pub styling-room : (n : ℕ) → Styling tokens contents rows p f n → 0 < n → RuleKeptRoom t tokens p × ContentsRoom contents f (contents_at sheet t)
       styling-room zero c h = absurd (omega arith)
       styling-room (suc k) c h = next-room k c
 
       -- a turn: the next rule is kept, with its contents, and the rules behind it are left
-      pub styling-more : (n m : ℕ) → Styling tokens texts rows p f n → n ≡ suc m → (w z : List ℕ) (x : Placed)
-          → w ≡ sets tokens p (kept (deciding (styles_placed (sheet_text texts from end) f t))) → z ≡ sets texts (end + f) (contents_at (sheet_text texts from end) t)
-          → x ≡ record { place = p + length (kept (deciding (styles_placed (sheet_text texts from end) f t))); fill = f + length (contents_at (sheet_text texts from end) t) }
+      pub styling-more : (n m : ℕ) → Styling tokens contents rows p f n → n ≡ suc m → (w z : List ℕ) (x : Placed)
+          → w ≡ sets tokens p (kept (deciding (styles_placed sheet f t))) → z ≡ sets contents f (contents_at sheet t)
+          → x ≡ record { place = p + length (kept (deciding (styles_placed sheet f t))); fill = f + length (contents_at sheet t) }
           → (next : ℕ) → ((store : List ℕ) → drop next rules ≡ (read_rule store t).rest) → Styling w z next x.place x.fill m
-      styling-more n m c h w z x ew ez ex next d = rw (ex, c.same) (next-kept m (rw h at c) w z (rw c.same at ew) (rw c.same at ez) next (d sheet))
+      styling-more n m c h w z x ew ez ex next d = rw ex (next-kept m (rw h at c) w z ew ez next (d sheet))
 
       -- when no rule is left, the styles of all are kept, their contents are stored, and all three places are behind them
-      pub styling-done : (n : ℕ) → Styling tokens texts rows p f n → n ≤ 0
+      pub styling-done : (n : ℕ) → Styling tokens contents rows p f n → n ≤ 0
           → (tokens ≡ sets tokens₀ place (kept_from fill at count))
-          × ((texts ≡ sets texts₀ (end + fill) (contents_from at count))
+          × ((contents ≡ sets contents₀ fill (contents_from at count))
           × ((drop rows rules ≡ rest_from at count) × ((p ≡ place + length (kept_from fill at count)) × (f ≡ fill + length (contents_from at count)))))
       styling-done zero c h = (
         ap (sets tokens p) (sym (none_kept sheet f t)) ∙ c.kept-left,
         (
-          ap (sets texts (end + f)) (sym (none-content sheet t)) ∙ c.texts-left,
+          ap (sets contents f) (sym (none-content sheet t)) ∙ c.contents-left,
           (
             sym (none_rest sheet t) ∙ c.rest-left,
             (omega (arith, c.place-left, ap length (none_kept sheet f t)), omega (arith, c.fill-left, ap length (none-content sheet t))),

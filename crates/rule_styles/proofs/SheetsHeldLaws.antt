@@ -3,25 +3,26 @@ use mathlib.Core.Path.{◌≡◌, refl, ap, sym, subst, ◌∙◌}
 use mathlib.Core.List.{List, [], ◌++◌, append_assoc, append-nil}
 use Prim.Native.Nat.{ℕ, ◌+◌, ◌-◌, ◌*◌, ◌≤◌, ◌<◌}
 use native.Mathlib.Omega.{arith}
-use lib.ListN.{length, take, drop, length-append}
-use lib.Seq.{sets, length-sets, take_at}
+use lib.ListN.{length, take, drop, length-append, length-drop}
+use lib.Seq.{sets, length-sets, length-take-le, take_at}
 use Rattle.combinators.specs.Store.{cleared, Zeros}
 use Rattle.combinators.proofs.Cleared.{length-cleared}
 use Rattle.combinators.proofs.Wiped.{sets-append}
 use Rattle.syntax.specs.RuleLayout.{rule_rows, rule_texts}
 use Rattle.syntax.specs.Selector.{RuleSet}
-use Rattle.combinators.proofs.ZeroLaws.{zeros-behind}
-use Rattle.origins.specs.Reading.{Sheets, sheets_of, sheets_rows, sheets_texts, sheets_rules}
+use Rattle.combinators.proofs.ZeroLaws.{zeros-behind, clear-zeros}
+use Rattle.origins.specs.Reading.{Sheets, SheetsRules, sheets_of, sheets_rows, sheets_texts, sheets_rules}
 use Rattle.origins.specs.declared.reading.SheetRules.{SheetRules}
-use Rattle.origins.specs.declared.reading.SheetsRules.{SheetsRules}
-use Rattle.origins.proofs.SheetsKnown.{clear-zeros, Came, came, from_first, from_second, from-third, rows_held, texts_held, texts-length, agent-keeps, user-keeps, author-keeps, zr, zt, rows_are, texts-are, place₁, place₂, place₃, agent-back, user-back, author-back}
+use Rattle.origins.proofs.Parts.{sets-take}
+use Rattle.origins.proofs.SheetsKnown.{Came, came, from_first, from_second, from-third, rows_held, texts_held, texts-length, agent-keeps, user-keeps, author-keeps, zr, zt, rows_are, texts-are, place₁, place₂, place₃, agent-back, user-back, author-back}
 use Rattle.styles.specs.Said.{Rules}
 use Rattle.styles.specs.StyleCall.{rules_contents, sheets_contents, placed_rules, placed_sheets}
 use Rattle.rule_styles.specs.Placing.{sheet_text, rules_contents_at, rules_selectors, kept_rules}
 use Rattle.rule_styles.specs.PlacingRoom.{ContentsRoom, RulesKeptRoom}
 use Rattle.rule_styles.specs.Held.{sheets_from, SheetsHeld, sheets_kept, styled_places}
-use Rattle.rule_styles.specs.declared.styled.StyledSheets.{StyledSheets}
-use Rattle.rule_styles.proofs.SheetsStyled.{contents-short, SheetLies, sheet-room, sheet-contents-room, sheet-kept-short, sheet-still}
+use Rattle.rule_styles.specs.Held.{StyledSheets}
+use Rattle.rule_styles.proofs.PlacingParts.{text-lent}
+use Rattle.rule_styles.proofs.SheetsStyled.{contents-short, SheetLies, sheet-room, sheet-contents-room, sheet-kept-short}
 
 -- a sheet that lies where y says lies where an x equal to it says
 lies-by : {rows texts : List ℕ} {end : ℕ} {rs : List RuleSet} (x y : SheetRules) → x ≡ y → SheetLies rows texts end y rs → SheetLies rows texts end x rs
@@ -231,131 +232,157 @@ module _ {s : SheetsRules} {rows tokens texts : List ℕ} (h : SheetsHeld s rows
   pub author-before : s.author.place + length (rule_rows 0 w) < length rows
   author-before = omega (arith, author-place, sizes.rows_short, fits.rows-room)
 
-  -- the store of tokens has room for what is kept of the agent's rules
-  pub agent-room : RulesKeptRoom (sheet_text texts s.agent.from s.end) s.agent.count (drop s.agent.place rows) tokens 0
-  agent-room = sheet-room agent-lies tokens 0 tokens-zero (omega (arith, sizes.rows_short, fits.tokens-room))
+  -- ---- the stores while the styles are made: the text store is split where the texts end, which lies in it
+  pub end_in : s.end ≤ length texts
+  end_in = omega (arith, end_is, sizes.texts-short, fits.texts-room)
 
-  -- the text store has room for the contents of the agent's rules, behind all texts
-  pub agent-contents-room : ContentsRoom texts s.agent.from s.end 0 (rules_contents_at (sheet_text texts s.agent.from s.end) s.agent.count (drop s.agent.place rows))
-  agent-contents-room = sheet-contents-room agent-lies 0 (omega (arith, end_is, sizes.texts-short, fits.contents-a, fits.texts-room)) (omega (arith, sizes.texts-short, sizes.few, fits.contents-a))
+  module _ {front contents : List ℕ} (ef : front ≡ take s.end texts) (ec : contents ≡ drop s.end texts) where
+    -- what is lent of the texts from a place on
+    abbrev lent_from : ℕ → List ℕ
+    lent_from from = take (length front - from) (drop from front)
 
-  module _ {t₁ x₁ : List ℕ} {p₁ f₁ : ℕ} (et₁ : t₁ ≡ sets tokens 0 (Kept 0 a)) (ex₁ : x₁ ≡ sets texts (s.end + 0) (rules_contents a)) (ep₁' : p₁ ≡ 0 + pa) (ef₁' : f₁ ≡ 0 + fa) where
-    -- what is kept of the agent's rules ends at pa
-    ep₁ : p₁ ≡ pa
-    ep₁ = omega (arith, ep₁')
+    -- the text of a sheet
+    pub its-text : (from : ℕ) → lent_from from ≡ sheet_text texts from s.end
+    its-text = text-lent texts front s.end ef
 
-    -- the contents of the agent's rules end at fa
-    ef₁ : f₁ ≡ fa
-    ef₁ = omega (arith, ef₁')
+    -- the front is as long as that place says
+    front-long : length front ≡ s.end
+    front-long = ap length ef ∙ length-take-le s.end texts end_in
 
-    -- the user's sheet lies as it did once the agent's contents are written
-    pub user-still : SheetLies rows x₁ s.end s.user u
-    user-still = rw ex₁ (sheet-still user-lies (s.end + 0) (rules_contents a) (omega arith))
+    -- the texts of each sheet start in it
+    pub agent-in : s.agent.from ≤ length front
+    agent-in = omega (arith, front-long, agent-lies.ordered)
 
-    -- behind what is kept of the agent's rules the store of tokens is zero
-    zeros₁ : Zeros t₁ pa
-    zeros₁ = let z : 0 + pa ≡ pa = omega arith in rw et₁ (subst (Zeros (sets tokens 0 (Kept 0 a))) z (zeros-behind tokens 0 tokens-zero (Kept 0 a)))
+    pub user-in : s.user.from ≤ length front
+    user-in = omega (arith, front-long, user-lies.ordered)
 
-    -- with that stored, the store of tokens is as long as it was
-    long-t₁ : length t₁ ≡ length tokens
-    long-t₁ = ap length et₁ ∙ length-sets tokens 0 (Kept 0 a)
+    pub author-in : s.author.from ≤ length front
+    author-in = omega (arith, front-long, author-lies.ordered)
 
-    -- with the agent's contents stored, the text store is as long as it was
-    long-x₁ : length x₁ ≡ length texts
-    long-x₁ = ap length ex₁ ∙ length-sets texts (s.end + 0) (rules_contents a)
+    -- what lies behind the texts
+    contents-long : length contents ≡ length texts - s.end
+    contents-long = ap length ec ∙ length-drop s.end texts
 
-    -- behind what is kept of the agent's rules there is room for the user's
-    pub user-room : RulesKeptRoom (sheet_text x₁ s.user.from s.end) s.user.count (drop s.user.place rows) t₁ p₁
-    user-room = rw ep₁ (sheet-room user-still t₁ pa zeros₁ (omega (arith, long-t₁, sizes.rows_short, fits.kept-a, fits.tokens-room)))
+    -- the store of tokens has room for what is kept of the agent's rules
+    pub agent-room : RulesKeptRoom (lent_from s.agent.from) s.agent.count (drop s.agent.place rows) tokens 0
+    agent-room = sheet-room agent-lies (its-text s.agent.from) tokens 0 tokens-zero (omega (arith, sizes.rows_short, fits.tokens-room))
 
-    -- behind the agent's contents the text store has room for those of the user's rules
-    pub user-contents-room : ContentsRoom x₁ s.user.from s.end f₁ (rules_contents_at (sheet_text x₁ s.user.from s.end) s.user.count (drop s.user.place rows))
-    user-contents-room =
-        rw ef₁ (sheet-contents-room user-still fa (omega (arith, long-x₁, end_is, sizes.texts-short, fits.contents-a, fits.contents-u, fits.texts-room)) (omega (arith, sizes.texts-short, sizes.few, fits.contents-a, fits.contents-u)))
+    -- there is room for the contents of the agent's rules
+    pub agent-contents-room : ContentsRoom contents 0 (rules_contents_at (lent_from s.agent.from) s.agent.count (drop s.agent.place rows))
+    agent-contents-room = sheet-contents-room agent-lies (its-text s.agent.from) contents 0 (omega (arith, contents-long, end_is, sizes.texts-short, fits.contents-a, fits.texts-room)) (omega (arith, sizes.texts-short, sizes.few, fits.contents-a))
 
-    module _ {t₂ x₂ : List ℕ} {p₂ f₂ : ℕ} (et₂ : t₂ ≡ sets t₁ p₁ (Kept f₁ u)) (ex₂ : x₂ ≡ sets x₁ (s.end + f₁) (rules_contents u)) (ep₂ : p₂ ≡ p₁ + length (Kept f₁ u)) (ef₂ : f₂ ≡ f₁ + length (rules_contents u)) where
-      -- the author's sheet lies as it did once the contents of the other two are written
-      pub author-still : SheetLies rows x₂ s.end s.author w
-      author-still = rw ex₂ (sheet-still (rw ex₁ (sheet-still author-lies (s.end + 0) (rules_contents a) (omega arith))) (s.end + f₁) (rules_contents u) (omega arith))
+    module _ {t₁ c₁ : List ℕ} {p₁ f₁ : ℕ} (et₁ : t₁ ≡ sets tokens 0 (Kept 0 a)) (ec₁ : c₁ ≡ sets contents 0 (rules_contents a)) (ep₁' : p₁ ≡ 0 + pa) (ef₁' : f₁ ≡ 0 + fa) where
+      -- what is kept of the agent's rules ends at pa
+      ep₁ : p₁ ≡ pa
+      ep₁ = omega (arith, ep₁')
 
-      -- what is kept of both sheets ends at pu
-      place₂-is : p₂ ≡ pu
-      place₂-is = ep₂ ∙ ap (λ (n : ℕ). p₁ + length (Kept n u)) ef₁ ∙ ap (λ (n : ℕ). n + length (Kept fa u)) ep₁
+      -- the contents of the agent's rules end at fa
+      ef₁ : f₁ ≡ fa
+      ef₁ = omega (arith, ef₁')
 
-      -- the contents of both sheets end at fu
-      fill₂-is : f₂ ≡ fu
-      fill₂-is = ef₂ ∙ ap (λ (n : ℕ). n + length (rules_contents u)) ef₁
+      -- behind what is kept of the agent's rules the store of tokens is zero
+      zeros₁ : Zeros t₁ pa
+      zeros₁ = let z : 0 + pa ≡ pa = omega arith in rw et₁ (subst (Zeros (sets tokens 0 (Kept 0 a))) z (zeros-behind tokens 0 tokens-zero (Kept 0 a)))
 
-      -- behind what is kept of both sheets the store of tokens is zero
-      zeros₂ : Zeros t₂ p₂
-      zeros₂ = rw (et₂, ep₂) (zeros-behind t₁ p₁ (rw ep₁ zeros₁) (Kept f₁ u))
+      -- with that stored, the store of tokens is as long as it was
+      long-t₁ : length t₁ ≡ length tokens
+      long-t₁ = ap length et₁ ∙ length-sets tokens 0 (Kept 0 a)
 
-      -- with both stored, the store of tokens is as long as it was
-      long-t₂ : length t₂ ≡ length tokens
-      long-t₂ = ap length et₂ ∙ length-sets t₁ p₁ (Kept f₁ u) ∙ long-t₁
+      -- with the agent's contents stored, the store of contents is as long as it was
+      long-c₁ : length c₁ ≡ length texts - s.end
+      long-c₁ = ap length ec₁ ∙ length-sets contents 0 (rules_contents a) ∙ contents-long
 
-      -- with the contents of both stored, the text store is as long as it was
-      long-x₂ : length x₂ ≡ length texts
-      long-x₂ = ap length ex₂ ∙ length-sets x₁ (s.end + f₁) (rules_contents u) ∙ long-x₁
+      -- behind what is kept of the agent's rules there is room for the user's
+      pub user-room : RulesKeptRoom (lent_from s.user.from) s.user.count (drop s.user.place rows) t₁ p₁
+      user-room = rw ep₁ (sheet-room user-lies (its-text s.user.from) t₁ pa zeros₁ (omega (arith, long-t₁, sizes.rows_short, fits.kept-a, fits.tokens-room)))
 
-      -- behind what is kept of the agent's and the user's rules there is room for the author's
-      pub author-room : RulesKeptRoom (sheet_text x₂ s.author.from s.end) s.author.count (drop s.author.place rows) t₂ p₂
-      author-room = sheet-room author-still t₂ p₂ zeros₂ (omega (arith, place₂-is, long-t₂, sizes.rows_short, fits.kept-a, fits.kept-u, fits.tokens-room))
+      -- behind the agent's contents there is room for those of the user's rules
+      pub user-contents-room : ContentsRoom c₁ f₁ (rules_contents_at (lent_from s.user.from) s.user.count (drop s.user.place rows))
+      user-contents-room =
+          rw ef₁ (sheet-contents-room user-lies (its-text s.user.from) c₁ fa (omega (arith, long-c₁, end_is, sizes.texts-short, fits.contents-a, fits.contents-u, fits.texts-room)) (omega (arith, sizes.texts-short, sizes.few, fits.contents-a, fits.contents-u)))
 
-      -- behind the contents of both the text store has room for those of the author's rules
-      pub author-contents-room : ContentsRoom x₂ s.author.from s.end f₂ (rules_contents_at (sheet_text x₂ s.author.from s.end) s.author.count (drop s.author.place rows))
-      author-contents-room =
-          sheet-contents-room author-still f₂ (omega (arith, fill₂-is, long-x₂, end_is, sizes.texts-short, fits.contents-a, fits.contents-u, fits.contents-w, fits.texts-room))
-          (omega (arith, fill₂-is, sizes.texts-short, sizes.few, fits.contents-a, fits.contents-u, fits.contents-w))
+      module _ {t₂ c₂ : List ℕ} {p₂ f₂ : ℕ} (et₂ : t₂ ≡ sets t₁ p₁ (Kept f₁ u)) (ec₂ : c₂ ≡ sets c₁ f₁ (rules_contents u)) (ep₂ : p₂ ≡ p₁ + length (Kept f₁ u)) (ef₂ : f₂ ≡ f₁ + length (rules_contents u)) where
+        -- what is kept of both sheets ends at pu
+        place₂-is : p₂ ≡ pu
+        place₂-is = ep₂ ∙ ap (λ (n : ℕ). p₁ + length (Kept n u)) ef₁ ∙ ap (λ (n : ℕ). n + length (Kept fa u)) ep₁
 
-      -- with the author's styles made, those of all three sheets are kept, with their contents
-      module _ {t₃ x₃ : List ℕ} {p₃ f₃ : ℕ} (n : ℕ) (et₃ : t₃ ≡ sets t₂ p₂ (Kept f₂ w)) (ex₃ : x₃ ≡ sets x₂ (s.end + f₂) (rules_contents w)) (ep₃ : p₃ ≡ p₂ + length (Kept f₂ w)) (ef₃ : f₃ ≡ f₂ + length (rules_contents w))
-          (en : n ≡ s.author.place + length (rule_rows 0 w)) where
-        -- the store of tokens is as it was, with what is kept of all three sheets at its start
-        tokens-left : t₃ ≡ sets tokens 0 (sheets_kept read)
-        unfolding sheets_kept placed_sheets
-        tokens-left =
-            let z : 0 + pa ≡ pa = omega arith in
-            et₃
-            ∙ ap (λ (k : ℕ). sets t₂ p₂ (Kept k w)) fill₂-is
-            ∙ ap (λ (l : List ℕ). sets l p₂ (Kept fu w)) (et₂ ∙ ap (λ (k : ℕ). sets t₁ p₁ (Kept k u)) ef₁ ∙ ap (λ (k : ℕ). sets t₁ k (Kept fa u)) ep₁)
-            ∙ ap (λ (k : ℕ). sets (sets t₁ pa (Kept fa u)) k (Kept fu w)) place₂-is
-            ∙ sym (sets-append t₁ pa (Kept fa u) (Kept fu w))
-            ∙ ap (λ (l : List ℕ). sets l pa (Kept fa u ++ Kept fu w)) et₁
-            ∙ ap (λ (k : ℕ). sets (sets tokens 0 (Kept 0 a)) k (Kept fa u ++ Kept fu w)) (sym z)
-            ∙ sym (sets-append tokens 0 (Kept 0 a) (Kept fa u ++ Kept fu w))
+        -- the contents of both sheets end at fu
+        fill₂-is : f₂ ≡ fu
+        fill₂-is = ef₂ ∙ ap (λ (n : ℕ). n + length (rules_contents u)) ef₁
 
-        -- the text store is as it was, with the contents of all three sheets behind their texts
-        texts-left : x₃ ≡ sets texts s.end (sheets_contents read)
-        unfolding sheets_contents
-        texts-left =
-            let z : s.end + 0 ≡ s.end = omega arith in
-            let y : s.end + f₁ ≡ s.end + 0 + fa = omega (arith, ef₁) in
-            let v : s.end + f₂ ≡ s.end + f₁ + length (rules_contents u) = omega (arith, ef₂) in
-            ex₃
-            ∙ ap (λ (k : ℕ). sets x₂ k (rules_contents w)) v
-            ∙ ap (λ (l : List ℕ). sets l (s.end + f₁ + length (rules_contents u)) (rules_contents w)) ex₂
-            ∙ sym (sets-append x₁ (s.end + f₁) (rules_contents u) (rules_contents w))
-            ∙ ap (λ (k : ℕ). sets x₁ k (rules_contents u ++ rules_contents w)) y
-            ∙ ap (λ (l : List ℕ). sets l (s.end + 0 + fa) (rules_contents u ++ rules_contents w)) ex₁
-            ∙ sym (sets-append texts (s.end + 0) (rules_contents a) (rules_contents u ++ rules_contents w))
-            ∙ ap (λ (k : ℕ). sets texts k (rules_contents a ++ (rules_contents u ++ rules_contents w))) z
+        -- behind what is kept of both sheets the store of tokens is zero
+        zeros₂ : Zeros t₂ p₂
+        zeros₂ = rw (et₂, ep₂) (zeros-behind t₁ p₁ (rw ep₁ zeros₁) (Kept f₁ u))
 
-        -- the place behind the rows
-        rows_end : n ≡ length (rule_rows 0 a) + length (rule_rows 0 u) + length (rule_rows 0 w)
-        rows_end = omega (arith, en, author-place)
+        -- with both stored, the store of tokens is as long as it was
+        long-t₂ : length t₂ ≡ length tokens
+        long-t₂ = ap length et₂ ∙ length-sets t₁ p₁ (Kept f₁ u) ∙ long-t₁
 
-        -- an answer with these places of rules, styles and contents is the one that the sheets ask for
-        places-left : (v : StyledSheets) → v.agent ≡ record { rules = s.agent; styles = 0 } → v.user ≡ record { rules = s.user; styles = p₁ } → v.author ≡ record { rules = s.author; styles = p₂ }
-            → v.end ≡ s.end → v.rows ≡ n → v.behind ≡ p₃ → v.fill ≡ f₃ → v ≡ styled_places s read
-        unfolding styled_places sheets_contents placed_sheets
-        places-left v ea eu ew ee er₁ eb ef =
-            let k : f₃ ≡ length (rules_contents a ++ (rules_contents u ++ rules_contents w)) = omega (arith, ef₃, fill₂-is, length-append (rules_contents a) (rules_contents u ++ rules_contents w), length-append (rules_contents u) (rules_contents w)) in
-            let b : p₃ ≡ pu + length (Kept fu w) = ep₃ ∙ ap (λ (i : ℕ). p₂ + length (Kept i w)) fill₂-is ∙ ap (λ (i : ℕ). i + length (Kept fu w)) place₂-is in
-            rw (ea, eu ∙ ap (λ (i : ℕ). record { rules = s.user; styles = i }) ep₁, ew ∙ ap (λ (i : ℕ). record { rules = s.author; styles = i }) place₂-is, ee, er₁ ∙ rows_end, eb ∙ b, ef ∙ k) refl
+        -- with the contents of both stored, the store of contents is as long as it was
+        long-c₂ : length c₂ ≡ length texts - s.end
+        long-c₂ = ap length ec₂ ∙ length-sets c₁ f₁ (rules_contents u) ∙ long-c₁
 
-        -- what `style_sheets` answers and leaves
-        pub styled-left : (v : StyledSheets) → v.agent ≡ record { rules = s.agent; styles = 0 } → v.user ≡ record { rules = s.user; styles = p₁ } → v.author ≡ record { rules = s.author; styles = p₂ }
-            → v.end ≡ s.end → v.rows ≡ n → v.behind ≡ p₃ → v.fill ≡ f₃
-            → (v ≡ styled_places s (sheets_from rows texts s)) × ((t₃ ≡ sets tokens 0 (sheets_kept (sheets_from rows texts s))) × (x₃ ≡ sets texts s.end (sheets_contents (sheets_from rows texts s))))
-        styled-left v ea eu ew ee er₁ eb ef = rw sheets-are (places-left v ea eu ew ee er₁ eb ef, (tokens-left, texts-left))
+        -- behind what is kept of the agent's and the user's rules there is room for the author's
+        pub author-room : RulesKeptRoom (lent_from s.author.from) s.author.count (drop s.author.place rows) t₂ p₂
+        author-room = sheet-room author-lies (its-text s.author.from) t₂ p₂ zeros₂ (omega (arith, place₂-is, long-t₂, sizes.rows_short, fits.kept-a, fits.kept-u, fits.tokens-room))
+
+        -- behind the contents of both there is room for those of the author's rules
+        pub author-contents-room : ContentsRoom c₂ f₂ (rules_contents_at (lent_from s.author.from) s.author.count (drop s.author.place rows))
+        author-contents-room =
+            sheet-contents-room author-lies (its-text s.author.from) c₂ f₂ (omega (arith, fill₂-is, long-c₂, end_is, sizes.texts-short, fits.contents-a, fits.contents-u, fits.contents-w, fits.texts-room))
+            (omega (arith, fill₂-is, sizes.texts-short, sizes.few, fits.contents-a, fits.contents-u, fits.contents-w))
+
+        -- with the author's styles made, those of all three sheets are kept, with their contents
+        module _ {t₃ c₃ : List ℕ} {p₃ f₃ : ℕ} (n : ℕ) (et₃ : t₃ ≡ sets t₂ p₂ (Kept f₂ w)) (ec₃ : c₃ ≡ sets c₂ f₂ (rules_contents w)) (ep₃ : p₃ ≡ p₂ + length (Kept f₂ w)) (ef₃ : f₃ ≡ f₂ + length (rules_contents w))
+            (en : n ≡ s.author.place + length (rule_rows 0 w)) where
+          -- the store of tokens is as it was, with what is kept of all three sheets at its start
+          tokens-left : t₃ ≡ sets tokens 0 (sheets_kept read)
+          unfolding sheets_kept placed_sheets
+          tokens-left =
+              let z : 0 + pa ≡ pa = omega arith in
+              et₃
+              ∙ ap (λ (k : ℕ). sets t₂ p₂ (Kept k w)) fill₂-is
+              ∙ ap (λ (l : List ℕ). sets l p₂ (Kept fu w)) (et₂ ∙ ap (λ (k : ℕ). sets t₁ p₁ (Kept k u)) ef₁ ∙ ap (λ (k : ℕ). sets t₁ k (Kept fa u)) ep₁)
+              ∙ ap (λ (k : ℕ). sets (sets t₁ pa (Kept fa u)) k (Kept fu w)) place₂-is
+              ∙ sym (sets-append t₁ pa (Kept fa u) (Kept fu w))
+              ∙ ap (λ (l : List ℕ). sets l pa (Kept fa u ++ Kept fu w)) et₁
+              ∙ ap (λ (k : ℕ). sets (sets tokens 0 (Kept 0 a)) k (Kept fa u ++ Kept fu w)) (sym z)
+              ∙ sym (sets-append tokens 0 (Kept 0 a) (Kept fa u ++ Kept fu w))
+
+          -- the store of contents has those of all three sheets at its start
+          contents-left : c₃ ≡ sets contents 0 (sheets_contents read)
+          unfolding sheets_contents
+          contents-left =
+              let z : 0 + fa ≡ fa = omega arith in
+              ec₃
+              ∙ ap (λ (k : ℕ). sets c₂ k (rules_contents w)) fill₂-is
+              ∙ ap (λ (l : List ℕ). sets l fu (rules_contents w)) (ec₂ ∙ ap (λ (k : ℕ). sets c₁ k (rules_contents u)) ef₁)
+              ∙ sym (sets-append c₁ fa (rules_contents u) (rules_contents w))
+              ∙ ap (λ (l : List ℕ). sets l fa (rules_contents u ++ rules_contents w)) ec₁
+              ∙ ap (λ (k : ℕ). sets (sets contents 0 (rules_contents a)) k (rules_contents u ++ rules_contents w)) (sym z)
+              ∙ sym (sets-append contents 0 (rules_contents a) (rules_contents u ++ rules_contents w))
+
+          -- the text store is as it was, with the contents of all three sheets behind their texts
+          texts-left : front ++ c₃ ≡ sets texts s.end (sheets_contents read)
+          texts-left =
+              ap (λ (l : List ℕ). front ++ l) (contents-left ∙ ap (λ (l : List ℕ). sets l 0 (sheets_contents read)) ec) ∙ ap (λ (l : List ℕ). l ++ sets (drop s.end texts) 0 (sheets_contents read)) ef
+              ∙ sets-take s.end texts (sheets_contents read) end_in
+
+          -- the place behind the rows
+          rows_end : n ≡ length (rule_rows 0 a) + length (rule_rows 0 u) + length (rule_rows 0 w)
+          rows_end = omega (arith, en, author-place)
+
+          -- an answer with these places of rules, styles and contents is the one that the sheets ask for
+          places-left : (v : StyledSheets) → v.sheets.agent ≡ record { rules = s.agent; styles = 0 } → v.sheets.user ≡ record { rules = s.user; styles = p₁ } → v.sheets.author ≡ record { rules = s.author; styles = p₂ }
+              → v.sheets.end ≡ s.end → v.rows ≡ n → v.behind ≡ p₃ → v.fill ≡ f₃ → v ≡ styled_places s read
+          unfolding styled_places sheets_contents placed_sheets
+          places-left v ea eu ew ee er₁ eb ef =
+              let k : f₃ ≡ length (rules_contents a ++ (rules_contents u ++ rules_contents w)) = omega (arith, ef₃, fill₂-is, length-append (rules_contents a) (rules_contents u ++ rules_contents w), length-append (rules_contents u) (rules_contents w)) in
+              let b : p₃ ≡ pu + length (Kept fu w) = ep₃ ∙ ap (λ (i : ℕ). p₂ + length (Kept i w)) fill₂-is ∙ ap (λ (i : ℕ). i + length (Kept fu w)) place₂-is in
+              rw (ea, eu ∙ ap (λ (i : ℕ). record { rules = s.user; styles = i }) ep₁, ew ∙ ap (λ (i : ℕ). record { rules = s.author; styles = i }) place₂-is, ee, er₁ ∙ rows_end, eb ∙ b, ef ∙ k) refl
+
+          -- what `style_sheets` answers and leaves
+          pub styled-left : (v : StyledSheets) → v.sheets.agent ≡ record { rules = s.agent; styles = 0 } → v.sheets.user ≡ record { rules = s.user; styles = p₁ } → v.sheets.author ≡ record { rules = s.author; styles = p₂ }
+              → v.sheets.end ≡ s.end → v.rows ≡ n → v.behind ≡ p₃ → v.fill ≡ f₃
+              → (v ≡ styled_places s (sheets_from rows texts s)) × ((t₃ ≡ sets tokens 0 (sheets_kept (sheets_from rows texts s))) × (front ++ c₃ ≡ sets texts s.end (sheets_contents (sheets_from rows texts s))))
+          styled-left v ea eu ew ee er₁ eb ef = rw sheets-are (places-left v ea eu ew ee er₁ eb ef, (tokens-left, texts-left))

@@ -24,7 +24,6 @@ use Rattle.styles.specs.Said.{Rules, StyledRule}
 use Rattle.styles.specs.StyleCall.{rule_contents, rules_contents, placed_rules}
 use Rattle.rule_styles.specs.Placing.{sheet_text, rules_contents_at, styled_rules, rules_selectors, kept_rules}
 use Rattle.rule_styles.specs.PlacingRoom.{ContentsRoom, RulesKeptRoom}
-use Rattle.rule_styles.proofs.PlacingCopies.{sheet-text-kept}
 use Rattle.rule_styles.proofs.PlacingLies.{written-room, written-rest, written-within}
 use Rattle.rule_styles.proofs.Written.{rules-contents, rules-styled}
 
@@ -85,68 +84,59 @@ pub record SheetLies (rows texts : List ℕ) (end : ℕ) (x : SheetRules) (rs : 
   pub ordered : x.from ≤ end
   pub fit : RulesFit rs
 
-module _ {rows texts : List ℕ} {end : ℕ} {x : SheetRules} {rs : List RuleSet} (l : SheetLies rows texts end x rs) where
-  abbrev its : List ℕ
-  its = sheet_text texts x.from end
+-- the text that is lent is that of the sheet
+module _ {rows texts : List ℕ} {end : ℕ} {x : SheetRules} {rs : List RuleSet} (l : SheetLies rows texts end x rs) {its : List ℕ} (e : its ≡ sheet_text texts x.from end) where
+  -- so the texts of its rules lie there
+  held : Held its 0 (rule_texts rs)
+  held = rw e l.held
 
   -- where the store is zero from a place on and long enough, it has room for what is kept of the sheet
   pub sheet-room : (tokens : List ℕ) (place : ℕ) → Zeros tokens place → place + length (rule_rows 0 rs) + 64 ≤ length tokens → RulesKeptRoom its x.count (drop x.place rows) tokens place
-  sheet-room tokens place z h = rw (l.counted, l.rows_at) (written-room its rs 0 l.behind l.fit l.held tokens place z (omega arith))
+  sheet-room tokens place z h = rw (l.counted, l.rows_at) (written-room its rs 0 l.behind l.fit held tokens place z (omega arith))
 
   -- the contents that are read of the sheet are those of its rules
   contents-are : rules_contents_at its x.count (drop x.place rows) ≡ rules_contents rs
-  contents-are = rw (l.counted, l.rows_at) (rules-contents its rs 0 l.behind l.fit l.held)
+  contents-are = rw (l.counted, l.rows_at) (rules-contents its rs 0 l.behind l.fit held)
 
   -- the styles that are read of the sheet are those of its rules, with contents placed from the fill on
   styled-are : (fill : ℕ) → styled_rules its fill x.count (drop x.place rows) ≡ placed_rules fill rs
-  styled-are fill = rw (l.counted, l.rows_at) (rules-styled its rs 0 fill l.behind l.fit l.held)
+  styled-are fill = rw (l.counted, l.rows_at) (rules-styled its rs 0 fill l.behind l.fit held)
 
-  -- where its contents fit behind the texts, the text store has the room that making its styles asks for
-  pub sheet-contents-room : (fill : ℕ) → end + fill + length (rules_contents rs) ≤ length texts → fill + length (rules_contents rs) < 2 ^ 32
-      → ContentsRoom texts x.from end fill (rules_contents_at its x.count (drop x.place rows))
-  sheet-contents-room fill h b = rw contents-are (record { ordered = l.ordered; room = h; bits = b })
+  -- where its contents fit, the store of contents has the room that making its styles asks for
+  pub sheet-contents-room : (store : List ℕ) (fill : ℕ) → fill + length (rules_contents rs) ≤ length store → fill + length (rules_contents rs) < 2 ^ 32
+      → ContentsRoom store fill (rules_contents_at its x.count (drop x.place rows))
+  sheet-contents-room store fill h b = rw contents-are (record { room = h; bits = b })
 
   -- what is kept of it, its contents, and where its rules end
   pub sheet-kept : (tokens t : List ℕ) (place fill : ℕ) → t ≡ sets tokens place (kept_rules (styled_rules its fill x.count (drop x.place rows))) → t ≡ sets tokens place (kept_rules (placed_rules fill rs))
-  sheet-kept tokens t place fill e = e ∙ ap (λ k. sets tokens place (kept_rules k)) (styled-are fill)
+  sheet-kept tokens t place fill g = g ∙ ap (λ k. sets tokens place (kept_rules k)) (styled-are fill)
 
   -- the place behind what is kept of the sheet is the one by its rules
   pub sheet-place : (place r fill : ℕ) → r ≡ place + length (kept_rules (styled_rules its fill x.count (drop x.place rows))) → r ≡ place + length (kept_rules (placed_rules fill rs))
-  sheet-place place r fill e = e ∙ ap (λ k. place + length (kept_rules k)) (styled-are fill)
+  sheet-place place r fill g = g ∙ ap (λ k. place + length (kept_rules k)) (styled-are fill)
 
-  -- what is written behind the texts is the contents of its rules
-  pub sheet-contents : (t : List ℕ) (fill : ℕ) → t ≡ sets texts (end + fill) (rules_contents_at its x.count (drop x.place rows)) → t ≡ sets texts (end + fill) (rules_contents rs)
-  sheet-contents t fill e = e ∙ ap (sets texts (end + fill)) contents-are
+  -- what is written is the contents of its rules
+  pub sheet-contents : (store t : List ℕ) (fill : ℕ) → t ≡ sets store fill (rules_contents_at its x.count (drop x.place rows)) → t ≡ sets store fill (rules_contents rs)
+  sheet-contents store t fill g = g ∙ ap (sets store fill) contents-are
 
   -- the fill behind its contents is the one by its rules
   pub sheet-fill : (r fill : ℕ) → r ≡ fill + length (rules_contents_at its x.count (drop x.place rows)) → r ≡ fill + length (rules_contents rs)
-  sheet-fill r fill e = e ∙ ap (λ (k : List ℕ). fill + length k) contents-are
+  sheet-fill r fill g = g ∙ ap (λ (k : List ℕ). fill + length k) contents-are
 
   -- the place where reading its rules ends is the place behind their rows
   pub sheet-end : (r : ℕ) → drop r rows ≡ (read_many (read_rule its) x.count (drop x.place rows)).rest → x.place + length (rule_rows 0 rs) < length rows → r ≡ x.place + length (rule_rows 0 rs)
-  sheet-end r e h =
-      let left : (read_many (read_rule its) x.count (drop x.place rows)).rest ≡ l.behind = rw (l.counted, l.rows_at) (written-rest its rs 0 l.behind l.fit l.held) in
-      let b : length rows - r ≡ length l.behind = sym (length-drop r rows) ∙ ap length (e ∙ left) in
+  sheet-end r g h =
+      let left : (read_many (read_rule its) x.count (drop x.place rows)).rest ≡ l.behind = rw (l.counted, l.rows_at) (written-rest its rs 0 l.behind l.fit held) in
+      let b : length rows - r ≡ length l.behind = sym (length-drop r rows) ∙ ap length (g ∙ left) in
       let d : length rows - x.place ≡ length (rule_rows 0 rs) + length l.behind = sym (length-drop x.place rows) ∙ ap length l.rows_at ∙ length-append (rule_rows 0 rs) l.behind in
       omega (arith, b, d, h)
 
+module _ {rows texts : List ℕ} {end : ℕ} {x : SheetRules} {rs : List RuleSet} (l : SheetLies rows texts end x rs) where
   -- no longer than its rows, with a number for each of its selectors
   pub sheet-kept-short : (fill : ℕ) → length (kept_rules (placed_rules fill rs)) + length (rules_selectors rs) ≤ length (rule_rows 0 rs)
   sheet-kept-short fill =
-      rw (← rules-styled its rs 0 fill l.behind l.fit l.held) (written-within its rs 0 l.behind l.fit l.held fill)
+      rw (← rules-styled (sheet_text texts x.from end) rs 0 fill l.behind l.fit l.held) (written-within (sheet_text texts x.from end) rs 0 l.behind l.fit l.held fill)
 
   -- the rules that lie there
-  pub sheet-rules : (read_many (read_rule its) x.count (drop x.place rows)).value ≡ rs
-  sheet-rules = rw (l.counted, l.rows_at) (ap (λ (y : Read (List RuleSet)). y.value) (rules-read its rs 0 l.behind l.fit l.held))
-
-  -- it lies there still once contents are written behind the texts
-  pub sheet-still : (to : ℕ) (vs : List ℕ) → end ≤ to → SheetLies rows (sets texts to vs) end x rs
-  sheet-still to vs h =
-      record {
-        behind = l.behind;
-        counted = l.counted;
-        rows_at = l.rows_at;
-        held = rw (sheet-text-kept vs texts x.from end to l.ordered h) l.held;
-        ordered = l.ordered;
-        fit = l.fit;
-      }
+  pub sheet-rules : (read_many (read_rule (sheet_text texts x.from end)) x.count (drop x.place rows)).value ≡ rs
+  sheet-rules = rw (l.counted, l.rows_at) (ap (λ (y : Read (List RuleSet)). y.value) (rules-read (sheet_text texts x.from end) rs 0 l.behind l.fit l.held))

@@ -2,7 +2,7 @@
 use mathlib.Core.Path.{◌≡◌, refl, ap, sym, ◌∙◌}
 use mathlib.Core.Bool.{Bool, true, false}
 use mathlib.Core.List.{List, [], ◌∷◌, ◌++◌, map, append_assoc, append-nil}
-use Prim.Native.Nat.{ℕ, zero, suc, ◌+◌, ◌*◌, ◌/◌}
+use Prim.Native.Nat.{ℕ, zero, suc, ◌+◌, ◌/◌}
 use native.Mathlib.Nat.{add-zero}
 use native.Mathlib.Omega.{arith}
 use lib.ListN.{length, get_or, length-append}
@@ -17,7 +17,6 @@ use Rattle.syntax.specs.Style.{StyleDecl}
 use Rattle.syntax.specs.declared.styles.StyleNumbers.{StyleNumbers}
 use Rattle.syntax.specs.declared.styles.Value.{Value}
 use Rattle.syntax.proofs.Back.{row-numbers-back, row-numbers-rest}
-use Rattle.syntax.proofs.RowSizes.{length-style}
 use Rattle.syntax.proofs.RuleRows.{selectors-back, rule-back, RulesFit}
 use Rattle.syntax.proofs.Streams.{Held, held-left, held-right, held-part, texts-append}
 use Rattle.declarations.specs.Styles.{one, style_of, zero_height, hides_overflow, any_decl, own_styles, first_zero, styles_of}
@@ -30,6 +29,7 @@ use Rattle.styles.specs.Said as said
 use Rattle.styles.specs.Said.{StyledRule}
 use Rattle.styles.specs.StyleCall.{rule_contents, rules_contents, in_numbers, placed_styles, placed_rules}
 use Rattle.rule_styles.specs.Placing.{read_numbers, numbers_of, content_of, placed_value, placed_numbers, contents_of, placed_all, lying_styles, contents_at, styles_placed, styled_rule, rules_contents_at, styled_rules}
+use Rattle.rule_styles.proofs.PlacingRule.{rows_long}
 
 -- ---- lists of styles in numbers
 -- styles in numbers, of two lists in a row, are those of the first and then those of the second
@@ -43,12 +43,6 @@ unfolding numbers_of read_numbers read_many texts_many
 numbers-back [] t = refl
 numbers-back (x ∷ xs) t =
     rw (append_assoc (row_of_numbers x) (texts_many row_of_numbers xs) t, row-numbers-back x (texts_many row_of_numbers xs ++ t), row-numbers-rest x (texts_many row_of_numbers xs ++ t), numbers-back xs t)
-
--- they are five numbers each
-pub numbers-long : (xs : List StyleNumbers) → length (texts_many row_of_numbers xs) ≡ style_width * length xs
-unfolding texts_many
-numbers-long [] = refl
-numbers-long (x ∷ xs) = omega (arith, length-append (row_of_numbers x) (texts_many row_of_numbers xs), length-style x, numbers-long xs)
 
 module _ (t : List ℕ) where
   -- contents, and places, of some and of those behind them
@@ -280,7 +274,7 @@ module _ (text : List ℕ) (g : ℕ) (r : RuleSet) (more : List ℕ) (h : Held t
   unfolding lying_styles
   rule-lying =
       let xs = lying declared r.declarations in
-      let n : length (texts_many row_of_numbers xs) / style_width ≡ length xs = omega (arith, numbers-long xs) in
+      let n : length (texts_many row_of_numbers xs) / style_width ≡ length xs = omega (arith, rows_long xs) in
       rw (rule-rows, n) (ap (numbers_of (length xs)) (sym (append-nil (texts_many row_of_numbers xs))) ∙ numbers-back xs [])
 
   -- the contents that are read of a written rule are those of its styles

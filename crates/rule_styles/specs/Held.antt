@@ -7,13 +7,14 @@ use Rattle.syntax.specs.RuleLayout.{rule_rows}
 use Rattle.syntax.specs.Selector.{RuleSet}
 use Rattle.origins.specs.Checks.{Lent}
 use Rattle.origins.specs.Reading.{sheets_of, sheets_rows, sheets_texts, sheets_answer, rules_from}
-use Rattle.origins.specs.declared.reading.SheetsRules.{SheetsRules}
+use Rattle.origins.specs.Reading.{SheetsRules}
 use Rattle.page.specs.Path.{Path}
 use Rattle.styles.specs.Room.{values_along, attributes_along}
 use Rattle.styles.specs.Said.{Rules}
 use Rattle.styles.specs.StyleCall.{sheets_contents, placed_sheets}
 use Rattle.rule_styles.specs.Placing.{kept_rules}
-use Rattle.rule_styles.specs.declared.styled.StyledSheets.{StyledSheets}
+use Rattle.rule_styles.specs.declared.styled.KeptSheets.{KeptSheets}
+use Rattle.rule_styles.specs.declared.styled.StyledSheet.{StyledSheet}
 
 -- ---- the rules that lie there
 unfoldable pub sheets_from : List ℕ → List ℕ → SheetsRules → Rules RuleSet
@@ -49,16 +50,22 @@ sheets_kept rules =
     kept_rules p.agent ++ (kept_rules p.user ++ kept_rules p.author)
 
 -- where all of it lies
+abbrev pub StyledSheets : Type 0
+StyledSheets = KeptSheets StyledSheet
+
 unfoldable pub styled_places : SheetsRules → Rules RuleSet → StyledSheets
 styled_places s rules =
     let p = placed_sheets rules in
     let user = length (kept_rules p.agent) in
     let author = user + length (kept_rules p.user) in
     record {
-      agent = record { rules = s.agent; styles = 0 };
-      user = record { rules = s.user; styles = user };
-      author = record { rules = s.author; styles = author };
-      end = s.end;
+      sheets =
+          record {
+            agent = record { rules = s.agent; styles = 0 };
+            user = record { rules = s.user; styles = user };
+            author = record { rules = s.author; styles = author };
+            end = s.end;
+          };
       rows = length (rule_rows 0 rules.agent) + length (rule_rows 0 rules.user) + length (rule_rows 0 rules.author);
       behind = author + length (kept_rules p.author);
       fill = length (sheets_contents rules);

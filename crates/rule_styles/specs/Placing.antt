@@ -95,6 +95,10 @@ kept_rules rs = texts_many (λ (r : StyledRule Value). kept (deciding r.styles))
 unfoldable pub read_styled : List ℕ → Read (Styled Value)
 read_styled t = record { value = in_numbers (numbers_at t); rest = drop style_width t }
 
+-- the styles in style rows
+unfoldable pub styled_in : List (List ℕ) → List (Styled Value)
+styled_in rows = map (λ (row : List ℕ). in_numbers (numbers_at row)) rows
+
 unfoldable pub read_kept : List ℕ → Read (List (Styled Value))
 read_kept t = read_many read_styled (get_or t kept_count 0) (drop kept_head t)
 

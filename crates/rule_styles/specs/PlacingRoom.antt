@@ -8,15 +8,9 @@ use Rattle.combinators.specs.Store.{Zeros}
 use Rattle.origins.specs.Rules.{selectors_read}
 use Rattle.rule_styles.specs.Placing.{kept_head}
 
--- n bytes from a place on, that go to another behind them
-pub record Upward (store : List ℕ) (from n to : ℕ) : Type 0 where
-  pub apart : from + n ≤ to
-  pub inside : to + n ≤ length store
-
--- the text from a place to another, and room behind it for contents, fill bytes further on, whose places are numbers of 32 bits
-pub record ContentsRoom (texts : List ℕ) (from end fill : ℕ) (contents : List ℕ) : Type 0 where
-  pub ordered : from ≤ end
-  pub room : end + fill + length contents ≤ length texts
+-- room for contents from a fill on, whose places are numbers of 32 bits
+pub record ContentsRoom (store : List ℕ) (fill : ℕ) (contents : List ℕ) : Type 0 where
+  pub room : fill + length contents ≤ length store
   pub bits : fill + length contents < 2 ^ 32
 
 -- so many style rows from a place on

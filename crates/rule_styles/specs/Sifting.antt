@@ -21,7 +21,6 @@ sifted_in s = record { normal = found_in s.normal; important = found_in s.import
 pub record TwoStylesRoom (rows : List ℕ) (at : ℕ) : Type 0 where
   pub room : at + 2 * style_width ≤ length rows
 
--- room for all that decide, before the styles that they are taken from
-pub record DecidingRoom (rows : List ℕ) (at count place : ℕ) : Type 0 where
-  pub before : place + 2 * slot_count * style_width ≤ at
-  pub whole : at + style_width * count ≤ length rows
+-- room for all that decide
+pub record DecidingRoom (rows : List ℕ) (place : ℕ) : Type 0 where
+  pub room : place + 2 * slot_count * style_width ≤ length rows

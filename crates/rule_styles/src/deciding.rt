@@ -1,37 +1,36 @@
 // The styles of a rule that decide: at most two for each slot, read from style rows and written to others.
-ghost use Rattle.std.specs.Prelude.{◌≡◌, ◌≤◌, length, drop};
+ghost use Rattle.std.specs.Prelude.{◌≡◌, ◌≤◌, length};
 ghost use mathlib.Core.List.{◌++◌, foldl};
 ghost use Rattle.std.proofs.lemmas.List.Edits.{sets};
-ghost use Rattle.syntax.specs.Stream.{read_many, texts_many};
+ghost use Rattle.syntax.specs.Stream.{texts_many};
 ghost use Rattle.styles.specs.StyleCall.{in_numbers};
 ghost use Rattle.rule_styles.specs.Deciding.{nothing_sifted, sift, listed, sifted_styles, deciding};
-ghost use Rattle.rule_styles.specs.Placing.{StyleRowRoom, styled_row, read_styled};
+ghost use Rattle.rule_styles.specs.Placing.{StyleRowRoom, styled_row, styled_in};
 ghost use Rattle.rule_styles.specs.Sifting.{found_in, sifted_in, TwoStylesRoom, DecidingRoom};
 
 use crate::rows::write_style;
 use cascade::rows::SLOT_COUNT;
 use syntax::rows::STYLE_WIDTH;
 use syntax::styles::{StyleNumbers, style_at};
-use syntax::walk::forward;
 
 // What is known of the styles for one slot so far: the last normal one, the last important one, and whether an important one stands behind a normal one.
 #[derive(Clone, Copy)]
-pub struct Sifted {
-    pub normal: Option<StyleNumbers>,
-    pub important: Option<StyleNumbers>,
-    pub behind: bool,
+struct Sifted {
+    normal: Option<StyleNumbers>,
+    important: Option<StyleNumbers>,
+    behind: bool,
 }
 
 impl Sifted {
-    // Nothing is known yet.
-    pub const NOTHING: Sifted = Sifted {
+    // Nothing is known yet. A constant and no `Default`: a proof computes it, where a call is known by its clause.
+    const NOTHING: Sifted = Sifted {
         normal: None,
         important: None,
         behind: false,
     };
 
     // One style more; those for other slots do not count.
-    pub fn sift(self, slot: u32, style: StyleNumbers) -> Self
+    fn sift(self, slot: u32, style: StyleNumbers) -> Self
         ensures { sifted_in result ≡ sift slot (sifted_in self) (in_numbers style) }
     {
         if style.slot != slot {
@@ -51,15 +50,13 @@ impl Sifted {
     }
 }
 
-// What is known of the styles for a slot among `count` styles whose rows start at `at`. Nothing is asked of the rows, which may end before: no part is cut.
-pub fn sift_styles(rows: &[u32], at: usize, count: u32, slot: u32) -> Sifted
-    ensures { sifted_in result ≡ foldl (sift slot) nothing_sifted (read_many read_styled count (drop at rows.now)).value }
+// What is known of the styles for a slot among those in style rows.
+fn sift_styles(styles: &[[u32; STYLE_WIDTH]], slot: u32) -> Sifted
+    ensures { sifted_in result ≡ foldl (sift slot) nothing_sifted (styled_in styles.now) }
 {
     let mut sifted = Sifted::NOTHING;
-    let mut place = at;
-    for _ in 0..count {
-        sifted = sifted.sift(slot, style_at(rows, place));
-        place = forward(rows, place, STYLE_WIDTH);
+    for style in styles {
+        sifted = sifted.sift(slot, style_at(style, 0));
     }
     sifted
 }
@@ -110,17 +107,16 @@ fn write_sifted(rows: &mut [u32], at: usize, sifted: Sifted) -> usize
     }
 }
 
-// Of `count` styles whose rows start at `at`, writes the rows of those that decide, from `place` on; how many they are.
-// It is one slice, with places in it, since what is written stands before what is read.
-pub fn keep_deciding(rows: &mut [u32], at: usize, count: u32, place: usize) -> usize
-    requires { DecidingRoom rows.old at count place }
-    ensures rows_after { rows.new ≡ sets rows.old place (texts_many styled_row (deciding (read_many read_styled count (drop at rows.old)).value)) }
-    ensures value { result ≡ length (deciding (read_many read_styled count (drop at rows.old)).value) }
+// Of the styles in style rows, writes the rows of those that decide to `kept`, from `place` on; how many they are.
+pub fn keep_deciding(styles: &[[u32; STYLE_WIDTH]], kept: &mut [u32], place: usize) -> usize
+    requires { DecidingRoom kept.old place }
+    ensures kept_after { kept.new ≡ sets kept.old place (texts_many styled_row (deciding (styled_in styles.now))) }
+    ensures value { result ≡ length (deciding (styled_in styles.now)) }
 {
-    let mut kept = 0;
+    let mut deciding = 0;
     for slot in 0..SLOT_COUNT as u32 {
-        let sifted = sift_styles(rows, at, count, slot);
-        kept += write_sifted(rows, place + kept * STYLE_WIDTH, sifted);
+        let sifted = sift_styles(styles, slot);
+        deciding += write_sifted(kept, place + deciding * STYLE_WIDTH, sifted);
     }
-    kept
+    deciding
 }

@@ -5,7 +5,7 @@ ghost use Rattle.styles.specs.StyleCall.{sheets_contents};
 ghost use Rattle.rule_styles.specs.Held.{sheets_from, SheetsHeld, sheets_kept, styled_places};
 
 use crate::placing::{Placed, style_rules};
-use origins::reading::{SheetRules, SheetsRules};
+use origins::reading::{SheetRules, Sheets, SheetsRules};
 
 // A sheet: its rules, and where its styles start in the store of tokens.
 #[derive(Clone, Copy)]
@@ -14,20 +14,20 @@ pub struct StyledSheet {
     pub styles: usize,
 }
 
-// Three of them; where the texts of their rules end, where their rows and their styles do, and how far the store of contents behind the texts is filled.
+// Three sheets of which something is kept: where their rows and all that is kept of them end, and how far the store of contents behind the texts is filled.
 #[derive(Clone, Copy)]
-pub struct StyledSheets {
-    pub agent: StyledSheet,
-    pub user: StyledSheet,
-    pub author: StyledSheet,
-    pub end: usize,
+pub struct KeptSheets<T> {
+    pub sheets: Sheets<T>,
     pub rows: usize,
     pub behind: usize,
     pub fill: usize,
 }
 
+pub type StyledSheets = KeptSheets<StyledSheet>;
+
 // Makes the styles of three sheets that were read: those that decide are kept in `tokens`, their contents behind the texts of the sheets. Each sheet's places follow
-// from those of the one before, so the three are written out. The stores come one by one: of a struct the borrow checker reads no field while others are lent.
+// from those of the one before, so the three are written out. The stores come one by one: the rules are only read, as their type says. Each sheet's texts are cut here,
+// as the clauses of its rules are about its own.
 pub fn style_sheets(
     rules: &[u32],
     sheets: SheetsRules,
@@ -39,11 +39,14 @@ pub fn style_sheets(
     ensures tokens_after { tokens.new ≡ sets tokens.old 0 (sheets_kept (sheets_from rules.now texts.old sheets)) }
     ensures texts_after { texts.new ≡ sets texts.old sheets.end (sheets_contents (sheets_from rules.now texts.old sheets)) }
 {
-    let end = sheets.end;
-    let agent = style_rules(rules, sheets.agent, tokens, texts, end, Placed::BEGIN);
-    let user = style_rules(rules, sheets.user, tokens, texts, end, agent.placed);
-    let author = style_rules(rules, sheets.author, tokens, texts, end, user.placed);
-    StyledSheets {
+    let (text, contents) = texts.split_at_mut(sheets.end);
+    let own = &text[sheets.agent.from..];
+    let agent = style_rules(rules, sheets.agent, own, tokens, contents, Placed::BEGIN);
+    let own = &text[sheets.user.from..];
+    let user = style_rules(rules, sheets.user, own, tokens, contents, agent.placed);
+    let own = &text[sheets.author.from..];
+    let author = style_rules(rules, sheets.author, own, tokens, contents, user.placed);
+    let styled = Sheets {
         agent: StyledSheet {
             rules: sheets.agent,
             styles: 0,
@@ -56,7 +59,10 @@ pub fn style_sheets(
             rules: sheets.author,
             styles: user.placed.place,
         },
-        end,
+        end: sheets.end,
+    };
+    KeptSheets {
+        sheets: styled,
         rows: author.rows,
         behind: author.placed.place,
         fill: author.placed.fill,

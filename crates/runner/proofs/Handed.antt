@@ -14,6 +14,7 @@ use Rattle.page.specs.Path.{Attribute}
 use Rattle.page.specs.PathOf.{attributes_from}
 use Rattle.page.specs.Rows.{node_width, node_count, node_number, node_at, NodeRow, name_of, element_kind, other_kind, attribute_width, attribute_rows, attribute_number, attribute_name, attribute_value}
 use Rattle.page.proofs.AcceptedPages.{Accepted}
+use Rattle.page.proofs.OwnAttributes as owned
 use Rattle.page.proofs.RowFacts.{document-zeros, kind-of-row, attributes-lent}
 use Rattle.page.specs.Lent.{Page}
 use Rattle.runner.specs.Run.{handed_from, handed_at}
@@ -37,51 +38,20 @@ module _ (nodes : List ℕ) (i : ℕ) where
   node-name text = ap₂ (part text) (node-number 2 (omega arith)) (node-number 3 (omega arith))
 
 -- ---- the attributes of a node, as they are handed
-module _ (attributes text : List ℕ) (first count : ℕ) where
-  abbrev owned : List ℕ
-  owned = part attributes (first * attribute_width) (count * attribute_width)
+module _ (attributes text : List ℕ) (first count : ℕ) (lent : first * attribute_width + count * attribute_width ≤ length attributes) where
+  -- as many as the row says
+  pub attributes-count : attribute_rows (owned.own attributes text first count) ≡ count
+  unfolding part
+  attributes-count =
+      let l : length (part attributes (first * attribute_width) (count * attribute_width)) ≡ count * attribute_width =
+      length-take-le (count * attribute_width) (drop (first * attribute_width) attributes) (omega (arith, length-drop (first * attribute_width) attributes)) in
+      omega (arith, l)
 
-  -- a number of one of them
-  attribute-number : (j column : ℕ) → j < count → column < attribute_width → attribute_number owned j column ≡ attribute_number attributes (first + j) column
-  unfolding attribute_number
-  attribute-number j column h k =
-      let z : first * attribute_width + (j * attribute_width + column) ≡ (first + j) * attribute_width + column = omega arith in
-      part-number attributes (first * attribute_width) (count * attribute_width) (j * attribute_width + column) (omega arith) ∙ ap (λ (n : ℕ). get_or attributes n 0) z
-
-  -- attribute j of those that are handed has the name of the page's attribute first + j
-  name-there : (j : ℕ) → j < count → attribute_name owned text j ≡ attribute_name attributes text (first + j)
-  unfolding attribute_name
-  name-there j h = ap₂ (part text) (attribute-number j 0 h (omega arith)) (attribute-number j 1 h (omega arith))
-
-  -- and it has that attribute's value
-  value_there : (j : ℕ) → j < count → attribute_value owned text j ≡ attribute_value attributes text (first + j)
-  unfolding attribute_value
-  value_there j h = ap₂ (part text) (attribute-number j 2 h (omega arith)) (attribute-number j 3 h (omega arith))
-
-  -- k of them from one on
-  attributes-there : (k j : ℕ) → j + k ≤ count → attributes_from owned text k j ≡ attributes_from attributes text k (first + j)
-  unfolding attributes_from
-  attributes-there zero j h = refl
-  attributes-there (suc k) j h =
-      let z : first + (j + 1) ≡ first + j + 1 = omega arith in
-      ap₂ (λ (a : Attribute) (l : List Attribute). a ∷ l)
-      (ap₂ (λ (n v : List ℕ). record { name = n; value = v }) (name-there j (omega arith)) (value_there j (omega arith)))
-      (attributes-there k (j + 1) (omega arith) ∙ ap (attributes_from attributes text k) z)
-
-  module _ (lent : first * attribute_width + count * attribute_width ≤ length attributes) where
-    -- as many as the row says
-    pub attributes-count : attribute_rows owned ≡ count
-    unfolding part
-    attributes-count =
-        let l : length (part attributes (first * attribute_width) (count * attribute_width)) ≡ count * attribute_width =
-        length-take-le (count * attribute_width) (drop (first * attribute_width) attributes) (omega (arith, length-drop (first * attribute_width) attributes)) in
-        omega (arith, l)
-
-    -- all attributes that are handed are those that the page has for the row
-    pub attributes-all : attributes_from owned text (attribute_rows owned) 0 ≡ attributes_from attributes text count first
-    attributes-all =
-        let z : first + 0 ≡ first = omega arith in
-        ap (λ (k : ℕ). attributes_from owned text k 0) attributes-count ∙ attributes-there count 0 (omega arith) ∙ ap (attributes_from attributes text count) z
+  -- all attributes that are handed are those that the page has for the row
+  pub attributes-all : attributes_from (owned.own attributes text first count) text (attribute_rows (owned.own attributes text first count)) 0 ≡ attributes_from attributes text count first
+  attributes-all =
+      let rows : List ℕ = owned.own attributes text first count in
+      ap (λ (k : ℕ). attributes_from rows text k 0) attributes-count ∙ owned.own-all attributes text first count first count refl refl rows refl
 
 -- ---- on an accepted page
 module _ (g : Page) where

@@ -7,6 +7,7 @@ use native.Mathlib.Omega.{arith}
 use native.Mathlib.Nat.{suc-mul, mul-le-mul_right}
 use lib.ListN.{length}
 use lib.Seq.{sets, length-sets}
+use Rattle.combinators.proofs.Parts.{length_part}
 use Rattle.cascade.proofs.Windows.{sets-high}
 use Rattle.page.specs.Path.{Element, Path}
 use Rattle.page.specs.Rows.{node_count, node_at, element_kind, other_kind}
@@ -26,7 +27,6 @@ use Rattle.segments.specs.Down.{placed_in, pass_at, fresh_in}
 use Rattle.segments.proofs.SegmentLaws.{child-of}
 use Rattle.segments.proofs.SweepLaws.{pair_values, pair-back}
 use Rattle.segments.proofs.PartLaws.{sets-held}
-use Rattle.segments.proofs.StoreLaws.{length_part}
 use Rattle.segments.proofs.DownLaws.{blocks_begin, ToldIn, PassedAt, told-kept, pass-at, fresh_in_lem}
 use Rattle.runner.specs.State.{depths, part_width, part_place, part_of, raised, opened}
 use Rattle.runner.specs.Run.{document_step, element_step}

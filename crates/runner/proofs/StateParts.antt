@@ -6,8 +6,9 @@ use native.Mathlib.Omega.{arith}
 use lib.ListN.{length, get_or, take, drop, set, length-drop, take-append-drop}
 use lib.Seq.{sets, sets-eq, length-sets, drop-append-le, take-append-le, take_at, drop_at, length-take-le, get_or-drop, get_or-take}
 use Rattle.combinators.specs.Part.{part}
+use Rattle.combinators.proofs.Wiped.{drop-sets}
 use Rattle.segments.specs.Sweep.{pair_at, pair_bytes}
-use Rattle.segments.proofs.PartSetLaws.{part-sets, behind-sets}
+use Rattle.segments.proofs.PartSetLaws.{part-sets}
 use Rattle.segments.proofs.DownLaws.{blocks_begin}
 use Rattle.runner.specs.State.{raised, opened}
 
@@ -71,7 +72,7 @@ unfolding raised
 raised-behind state at n h =
     let bytes : List ℕ = pair_bytes (pair_at state at + 1) in
     let two : length bytes ≡ 2 = unfold pair_bytes in refl in
-    behind-sets bytes state at (at + n) (omega (arith, two, h))
+    drop-sets bytes state at (at + n) (omega (arith, two, h))
 
 -- a part that is opened: its blocks, and the count 0
 pub opened-part : (state : List ℕ) (at n : ℕ) (blocks : List ℕ) → length blocks ≡ n → at + n ≤ length state

@@ -20,7 +20,7 @@ use Rattle.page.proofs.Ancestry.{depth-most}
 use Rattle.page.proofs.RowFacts.{parent-before, shallow}
 use Rattle.combinators.specs.declared.lent.Stores.{Stores}
 use Rattle.styles.specs.declared.settings.Settings.{Settings}
-use Rattle.combinators.specs.Lent.{SameStores, SameLengths}
+use Rattle.syntax.proofs.Streams.{sets-drop}
 use Rattle.page.specs.Lent.{Page}
 use Rattle.styles.proofs.KeptStores.{stores-stay, lengths-stay, stores-kept, lengths-kept}
 use Rattle.styles.specs.Room.{values_of}
@@ -28,7 +28,8 @@ use Rattle.styles.specs.StyleCall.{inline_contents}
 use Rattle.styles.proofs.Room.{inline-short}
 use Rattle.runner.specs.PageRows.{style_row_at}
 use Rattle.runner.specs.Run.{Handed, Stepped, Running, handed_from, document_step, element_step, open_step, step_on, handed_at, run_step, run_from, run_of}
-use Rattle.stepping.specs.Lent.{StepLent}
+use Rattle.stepping.specs.Lent.{StepLent, Kept}
+use Rattle.runner.proofs.Handed.{attributes-all}
 use Rattle.running.specs.Ready.{RunReady, RowReady, PlaceRoom, texts_most, with_parent}
 use Rattle.running.proofs.Handed as handed
 
@@ -57,10 +58,6 @@ module _ (l : List ℕ) (a : ℕ) (xs : List ℕ) (h : a + length xs ≤ length 
   -- what lies before the place stays
   front : take a (sets l a xs) ≡ take a l
   front = ap (take a) stored ∙ take_at (take a l) (xs ++ drop (a + length xs) l) a (length-take-le a l (omega (arith, h)))
-
-  -- from the place on stand the numbers that were stored, and what lies behind them
-  at_place : drop a (sets l a xs) ≡ xs ++ drop (a + length xs) l
-  at_place = ap (drop a) stored ∙ drop_at (take a l) (xs ++ drop (a + length xs) l) a (length-take-le a l (omega (arith, h)))
 
   -- what lies behind them stays
   behind : drop (a + length xs) (sets l a xs) ≡ drop (a + length xs) l
@@ -95,7 +92,11 @@ module _ (code : List ℕ) (settings : Settings) (x : Handed) (parent state text
   no-parent other = refl
 
 -- ---- a row: the parent's row copied to its place, and its step
-module _ {code : List ℕ} {g : Page} {rows₀ state₀ rules₀ tokens₀ brackets₀ texts₀ : List ℕ} {i fill : ℕ} (r : RowReady code g rows₀ state₀ rules₀ tokens₀ brackets₀ texts₀ i fill) where
+module _ {code : List ℕ} {g : Page} {rows₀ state₀ : List ℕ} (s₀ : Stores) {i fill : ℕ} (r : RowReady code g rows₀ state₀ s₀.rules.now s₀.tokens.now s₀.brackets.now s₀.texts.now i fill) where
+  -- the texts as they are lent
+  abbrev texts₀ : List ℕ
+  texts₀ = s₀.texts.now
+
   abbrev place : ℕ
   place = i * style_row_width
 
@@ -138,7 +139,7 @@ module _ {code : List ℕ} {g : Page} {rows₀ state₀ rules₀ tokens₀ brack
     own-given : attributes_from own g.text (attribute_rows own) 0 ≡ handed.given r
     own-given =
         ap (λ (l : List ℕ). attributes_from l g.text (attribute_rows l) 0) own-part
-        ∙ handed.own-are g.attributes g.text (node_at g.nodes i).first_attribute (node_at g.nodes i).attribute_count (handed.attributes-inside r)
+        ∙ attributes-all g.attributes g.text (node_at g.nodes i).first_attribute (node_at g.nodes i).attribute_count (omega (arith, handed.attributes-inside r))
 
     -- what the step is handed
     handed-is : handed_from node own g.text ≡ handed_at g i
@@ -148,7 +149,7 @@ module _ {code : List ℕ} {g : Page} {rows₀ state₀ rules₀ tokens₀ brack
         ∙ ap (λ (l : List ℕ). handed_from (part g.nodes (i * node_width) node_width) l g.text) own-part
 
     -- what is lent to the step is what it asks for
-    pub step-lent : StepLent code own g.text depth state₀ rules₀ tokens₀ brackets₀ texts₀ fill
+    pub step-lent : StepLent code own g.text depth state₀ s₀ fill
     step-lent =
         record {
           sheet = r.ready.sheet;
@@ -186,7 +187,7 @@ module _ {code : List ℕ} {g : Page} {rows₀ state₀ rules₀ tokens₀ brack
           let e : rows₁ ≡ sets rows₀ place xs = e₁ ∙ sym (pick_true _ _ _ _ (lt-ltb p i h) refl) in
           el ∙ ap (take style_row_width) eb
           ∙ ap (λ (l : List ℕ). take style_row_width (drop place l)) e
-          ∙ ap (take style_row_width) (at_place rows₀ place xs (omega (arith, n, place_inside)))
+          ∙ ap (take style_row_width) (sets-drop rows₀ place xs (omega (arith, n, place_inside)))
           ∙ take_at xs (drop (place + length xs) rows₀) style_row_width n
 
       -- the rows as long as before, the row that comes back is one style row long
@@ -318,24 +319,20 @@ still-ready r er es eu et eb ex =
 -- ---- what holds between two rows: the work left from here is the whole work
 pub record Looping (code : List ℕ) (settings : Settings) (g : Page) (rows₀ state₀ : List ℕ) (s₀ : Stores) (rows state : List ℕ) (s : Stores) (fill i : ℕ) : Type 0 where
   pub left : run_from code settings g (node_count g.nodes - i) i (record { rows = rows; state = state; texts = take fill s.texts.now }) ≡ run_of code settings g rows₀ state₀
-  pub within : fill ≤ length s.texts.now
   pub filled : fill ≤ texts_most g i
   pub rows_long : length rows ≡ length rows₀
   pub state-long : length state ≡ length state₀
-  pub lengths : SameLengths s₀ s
-  pub same : SameStores s₀ s
+  pub kept : Kept s₀ s fill
 
 -- before the first row nothing is filled, and the whole run is left
 pub begins : (code : List ℕ) (settings : Settings) (g : Page) (rows state : List ℕ) (s : Stores) → Looping code settings g rows state s rows state s 0 0
 begins code settings g rows state s =
     record {
       left = run-begins code settings g rows state s.texts.now;
-      within = omega arith;
       filled = omega arith;
       rows_long = refl;
       state-long = refl;
-      lengths = lengths-stay s;
-      same = stores-stay s;
+      kept = record { within = omega arith; lengths = lengths-stay s; same = stores-stay s };
     }
 
 module _ {code : List ℕ} {settings : Settings} {g : Page} {rows₀ state₀ : List ℕ} {s₀ : Stores} {rows₁ state₁ : List ℕ} {s₁ : Stores} {fill i : ℕ} (v : Looping code settings g rows₀ state₀ s₀ rows₁ state₁ s₁ fill i) where
@@ -343,7 +340,7 @@ module _ {code : List ℕ} {settings : Settings} {g : Page} {rows₀ state₀ : 
   pub row-ready : RunReady code g rows₀ state₀ s₀.rules.now s₀.tokens.now s₀.brackets.now s₀.texts.now → (count : ℕ) → count ≡ node_count g.nodes → i < count → RowReady code g rows₁ state₁ s₁.rules.now s₁.tokens.now s₁.brackets.now s₁.texts.now i fill
   row-ready r count e h =
       record {
-        ready = still-ready r v.rows_long v.state-long v.lengths.rules v.lengths.tokens v.lengths.brackets v.lengths.texts;
+        ready = still-ready r v.rows_long v.state-long v.kept.lengths.rules v.kept.lengths.tokens v.kept.lengths.brackets v.kept.lengths.texts;
         there = omega (arith, e, h);
         filled = v.filled;
       }
@@ -351,18 +348,15 @@ module _ {code : List ℕ} {settings : Settings} {g : Page} {rows₀ state₀ : 
   -- behind a step the loop's invariant holds for the next row
   pub again : (count : ℕ) → count ≡ node_count g.nodes → i < count → (n : ℕ) (rows state : List ℕ) (s : Stores)
       → record { rows = rows; state = state; texts = take n s.texts.now } ≡ run_step code settings g i (record { rows = rows₁; state = state₁; texts = take fill s₁.texts.now })
-      → n ≤ length s.texts.now → n ≤ texts_most g (i + 1)
-      → length rows ≡ length rows₁ → length state ≡ length state₁ → SameLengths s₁ s → SameStores s₁ s
+      → n ≤ texts_most g (i + 1) → length rows ≡ length rows₁ → length state ≡ length state₁ → Kept s₁ s n
       → Looping code settings g rows₀ state₀ s₀ rows state s n (i + 1)
-  again count ec h n rows state s e w f er es l z =
+  again count ec h n rows state s e f er es k =
       record {
         left = run_more code settings g i (record { rows = rows₁; state = state₁; texts = take fill s₁.texts.now }) (record { rows = rows; state = state; texts = take n s.texts.now }) (run_of code settings g rows₀ state₀) (omega (arith, ec, h)) e v.left;
-        within = w;
         filled = f;
         rows_long = er ∙ v.rows_long;
         state-long = es ∙ v.state-long;
-        lengths = lengths-kept _ _ _ v.lengths l;
-        same = stores-kept _ _ _ v.same z;
+        kept = record { within = k.within; lengths = lengths-kept _ _ _ v.kept.lengths k.lengths; same = stores-kept _ _ _ v.kept.same k.same };
       }
 
   -- behind the last row what the loop has is the whole run

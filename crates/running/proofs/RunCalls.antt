@@ -2,18 +2,17 @@
 use mathlib.Core.Path.{◌≡◌, refl, ap, ap₂, sym, ◌∙◌}
 use mathlib.Core.Bool.{Bool, true, false}
 use mathlib.Core.List.{List, ◌++◌}
-use Prim.Native.Nat.{ℕ, ◌+◌, ◌-◌, ◌*◌, ◌/◌, ◌^◌, ◌≤◌, ◌<◌}
+use Prim.Native.Nat.{ℕ, ◌-◌, ◌*◌, ◌^◌, ◌≤◌, ◌<◌}
 use native.Mathlib.Omega.{arith}
 use borrow.Author.Tests.{leb-true, lt-ltb, le-ltb}
-use lib.Dec.{leb}
-use lib.ListN.{length, take, replicate}
+use lib.ListN.{length, take, drop, replicate}
 use lib.Seq.{length-take-le}
-use Rattle.combinators.specs.Choice.{and, is}
-use Rattle.combinators.specs.LeastLengths.{stores_suffice}
+use Rattle.combinators.specs.Choice.{is}
 use Rattle.combinators.specs.Refusal.{no_refusal, refused_at, bad_bytes}
 use Rattle.combinators.specs.declared.refusals.Refusal.{Refusal}
 use Rattle.combinators.specs.Store.{cleared}
-use Rattle.combinators.proofs.Cleared.{cleared-is}
+use Rattle.combinators.proofs.Cleared.{cleared-is, cleared-throughout}
+use Rattle.combinators.proofs.Filled.{from-returns}
 use Rattle.combinators.proofs.LeastLaws.{least}
 use Rattle.combinators.proofs.Rules.{pick_true, pick-false, and-true, is-yes, is-no}
 use Rattle.sheets.specs.SheetAnswer.{padded}
@@ -22,8 +21,9 @@ use Rattle.page.specs.Accepted as page
 use Rattle.page.specs.Accepted.{error_refusal, page_refusal}
 use Rattle.page.specs.declared.check.PageError.{PageError}
 use Rattle.page.specs.declared.check.PageError.TheVariants as error
-use Rattle.page.specs.Rows.{node_count, attribute_width}
+use Rattle.page.specs.Rows.{node_count}
 use Rattle.page.proofs.AcceptedPages.{accepted}
+use borrow.Rule.Slice.PartMut.{put_mid}
 use Rattle.std.proofs.Common.{Result, Ok, Err}
 use Rattle.std.specs.Result.{IsErrAnd}
 use Rattle.compiled.specs.Answer as compiled
@@ -35,7 +35,6 @@ use Rattle.page.specs.Lent.{Page}
 use Rattle.runner.specs.LeastLengths.{rows_least}
 use Rattle.runner.specs.PageRows.{page_contents, rows_before, page_rows}
 use Rattle.runner.specs.Run.{Running, run_of}
-use Rattle.runner.specs.State.{depths}
 use Rattle.runner.proofs.PageRowLaws.{rows_long}
 use Rattle.runner.proofs.RunRows.{run-rows}
 use Rattle.running.specs.declared.run.RunError.{RunError}
@@ -67,9 +66,9 @@ left_by : {a a' : RunAnswer} {r r' t t' s s' u u' k k' b b' : List ℕ} → a �
     → ◌≡◌ {A = RunLeft} (record { answer = a; rows = r; texts = t; state = s; rules = u; tokens = k; brackets = b }) (record { answer = a'; rows = r'; texts = t'; state = s'; rules = u'; tokens = k'; brackets = b' })
 left_by ea er et es eu ek eb = rw (ea, er, et, es, eu, ek, eb) refl
 
--- a store cleared throughout, which kept its length
-cleared-throughout : (l m z : List ℕ) → length l ≡ length m → z ≡ cleared 0 l → z ≡ replicate (length m) 0
-cleared-throughout l m z e h = let n : length l - 0 ≡ length m = omega (arith, e) in h ∙ cleared-is 0 l ∙ ap (λ (i : ℕ). replicate i 0) n
+-- zeros over all that follows a place in a store
+pub filled-behind : (n : ℕ) (l z : List ℕ) → n ≤ length l → z ≡ replicate (length (take (length l - n) (drop n l))) 0 → put_mid n (length l - n) l z ≡ cleared n l
+filled-behind n l z h e = from-returns 0 n l n (omega arith) z e
 
 -- ---- a page that was styled
 module _ (settings : Settings) {code : List ℕ} {g : Page} {rows₀ state₀ rules₀ tokens₀ brackets₀ texts₀ : List ℕ} (r : RunReady code g rows₀ state₀ rules₀ tokens₀ brackets₀ texts₀) where
@@ -99,7 +98,7 @@ module _ (settings : Settings) {code : List ℕ} {g : Page} {rows₀ state₀ ru
       → length state₁ ≡ length state₀ → length rules₁ ≡ length rules₀ → length tokens₁ ≡ length tokens₀ → length brackets₁ ≡ length brackets₀ → length texts₁ ≡ length texts₀
       → count ≡ node_count g.nodes
       → (rows₂ texts₂ state₂ rules₂ tokens₂ brackets₂ : List ℕ) → rows₂ ≡ cleared (count * style_row_width) rows₁ → texts₂ ≡ cleared n texts₁
-      → rules₂ ≡ cleared 0 rules₁ → tokens₂ ≡ cleared 0 tokens₁ → brackets₂ ≡ cleared 0 brackets₁ → state₂ ≡ cleared 0 state₁
+      → rules₂ ≡ cleared 0 rules₁ → tokens₂ ≡ cleared 0 tokens₁ → brackets₂ ≡ cleared 0 brackets₁ → state₂ ≡ replicate (length state₁) 0
       → (a : RunAnswer) → a ≡ record { refusal = no_refusal; texts = n }
       → record { answer = a; rows = rows₂; texts = texts₂; state = state₂; rules = rules₂; tokens = tokens₂; brackets = brackets₂ } ≡ ran rows₀ texts₀ state₀ rules₀ tokens₀ brackets₀ code settings g
   unfolding ran padded
@@ -111,7 +110,7 @@ module _ (settings : Settings) {code : List ℕ} {g : Page} {rows₀ state₀ ru
       (ea ∙ ap (λ (i : ℕ). record { refusal = no_refusal; texts = i }) long)
       (er ∙ ap (λ (i : ℕ). cleared (i * style_row_width) rows₁) ec ∙ ap (λ (x : Running). cleared (node_count g.nodes * style_row_width) x.rows) e ∙ rows-cleared)
       (et ∙ cleared-is n texts₁ ∙ ap₂ (λ (l : List ℕ) (i : ℕ). l ++ replicate i 0) texts zeros)
-      (cleared-throughout state₁ state₀ state₂ ls es)
+      (es ∙ ap (λ (n : ℕ). replicate n 0) ls)
       (cleared-throughout rules₁ rules₀ rules₂ lu eu)
       (cleared-throughout tokens₁ tokens₀ tokens₂ lk ek)
       (cleared-throughout brackets₁ brackets₀ brackets₂ lb eb)
@@ -187,15 +186,7 @@ module _ (rows₀ texts₀ state₀ rules₀ tokens₀ brackets₀ code : List �
   unfolding run_call run_refusal
   too_long_lem h = pick_true _ _ _ _ (lt-ltb compiled_limit (length code) h) (refused_as TooLong refl)
 
-  module _ (h : length code ≤ compiled_limit) (count : ℕ) (ec : count ≡ node_count g.nodes) {v : Bool}
-      (ev : v ≡ and (leb (count * style_row_width) (length rows₀)) (and (leb (depths * (length code + 1)) (length state₀)) (stores_suffice (length g.text + 2 * (length g.attributes / attribute_width)) (length rules₀) (length tokens₀) (length brackets₀) (length texts₀)))) where
-    -- the code's test of rows, state and stores is the definition's
-    told : v ≡ run_suffices rows₀ texts₀ state₀ rules₀ tokens₀ brackets₀ code g
-    unfolding run_suffices
-    told =
-        ev
-        ∙ ap (λ (n : ℕ). and (leb (n * style_row_width) (length rows₀)) (and (leb (depths * (length code + 1)) (length state₀)) (stores_suffice (length g.text + 2 * (length g.attributes / attribute_width)) (length rules₀) (length tokens₀) (length brackets₀) (length texts₀)))) ec
-
+  module _ (h : length code ≤ compiled_limit) {v : Bool} (told : v ≡ run_suffices rows₀ texts₀ state₀ rules₀ tokens₀ brackets₀ code g) where
     -- the return where what is lent is too short
     pub short-store : v ≡ false → Called (refuses (numbers_of (Err ShortStore)))
     unfolding run_call run_refusal

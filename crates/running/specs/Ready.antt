@@ -9,9 +9,11 @@ use Rattle.page.specs.Accepted.{node_limit, attributes_before, bytes_before, pag
 use Rattle.page.specs.Rows.{node_count, node_at}
 use Rattle.compiled.specs.Answer.{bytes_refusal}
 use Rattle.compiled.specs.Sheet.{compiled_limit}
-use Rattle.page.specs.Lent.{Page}
+use Rattle.combinators.specs.declared.lent.Stores.{Stores}
+use Rattle.page.specs.Lent.{Page, page_in}
 use Rattle.runner.specs.LeastLengths.{run_text_bytes, state_least, rows_least}
 use Rattle.runner.specs.PageRows.{style_row_at}
+use Rattle.running.specs.declared.input.RunInput.{RunInput}
 
 -- buffers for which nothing is refused for want of length
 pub record Lengths (code : List ℕ) (g : Page) (rows state rules tokens brackets texts : List ℕ) : Type 0 where
@@ -45,3 +47,13 @@ pub record PlaceRoom (i : ℕ) (rows : List ℕ) : Type 0 where
 unfoldable pub with_parent : List ℕ → ℕ → List ℕ → List ℕ
 with_parent nodes i rows =
     pick (ltb (node_at nodes i).parent i) (sets rows (i * style_row_width) (style_row_at rows (node_at nodes i).parent)) rows
+
+-- ---- the same of what is lent: what a run reads, rows, a state and the stores
+abbrev pub LengthsOf : RunInput → List ℕ → List ℕ → Stores → Type 0
+LengthsOf x rows state s = Lengths x.compiled.now (page_in x.page) rows state s.rules.now s.tokens.now s.brackets.now s.texts.now
+
+abbrev pub RunReadyOf : RunInput → List ℕ → List ℕ → Stores → Type 0
+RunReadyOf x rows state s = RunReady x.compiled.now (page_in x.page) rows state s.rules.now s.tokens.now s.brackets.now s.texts.now
+
+abbrev pub RowReadyOf : RunInput → List ℕ → List ℕ → Stores → ℕ → ℕ → Type 0
+RowReadyOf x rows state s i fill = RowReady x.compiled.now (page_in x.page) rows state s.rules.now s.tokens.now s.brackets.now s.texts.now i fill

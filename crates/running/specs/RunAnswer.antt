@@ -10,9 +10,10 @@ use Rattle.compiled.specs.Answer.{bytes_refusal}
 use Rattle.compiled.specs.Sheet.{compiled_limit}
 use Rattle.combinators.specs.declared.lent.Stores.{Stores}
 use Rattle.styles.specs.declared.settings.Settings.{Settings}
-use Rattle.page.specs.Lent.{Page}
+use Rattle.page.specs.Lent.{Page, page_in}
 use Rattle.runner.specs.LeastLengths.{run_text_bytes, state_least, rows_least}
 use Rattle.runner.specs.PageRows.{page_contents, page_rows}
+use Rattle.running.specs.declared.input.RunInput.{RunInput}
 use Rattle.running.specs.declared.run.RunError.{RunError}
 use Rattle.running.specs.declared.run.RunError.TheVariants.{TooLong, ShortStore, BadPage, BadBytes}
 
@@ -85,3 +86,20 @@ module _ (rows texts state rules tokens brackets : List ℕ) where
       pick (ltb compiled_limit (length code)) (unchanged (refused too_long))
       (pick (run_suffices code g) (run_by code settings g (page_refusal g.nodes g.attributes g.text) (bytes_refusal code))
       (unchanged (refused short_store)))
+
+-- ---- the same of what is lent: what a run reads, rows, a state and the stores
+-- where nothing is refused
+abbrev pub ran_of : RunInput → List ℕ → List ℕ → Stores → RunLeft
+ran_of x rows state s = ran rows s.texts.now state s.rules.now s.tokens.now s.brackets.now x.compiled.now x.settings (page_in x.page)
+
+-- by whether the page or the bytes are
+abbrev pub run_by_of : RunInput → List ℕ → List ℕ → Stores → RunLeft
+run_by_of x rows state s =
+    run_by rows s.texts.now state s.rules.now s.tokens.now s.brackets.now x.compiled.now x.settings (page_in x.page) (page_refusal x.page.nodes.now x.page.attributes.now x.page.text.now) (bytes_refusal x.compiled.now)
+
+abbrev pub run_call_of : RunInput → List ℕ → List ℕ → Stores → RunLeft
+run_call_of x rows state s = run_call rows s.texts.now state s.rules.now s.tokens.now s.brackets.now x.compiled.now x.settings (page_in x.page)
+
+-- whether it suffices
+abbrev pub run_suffices_of : RunInput → List ℕ → List ℕ → Stores → Bool
+run_suffices_of x rows state s = run_suffices rows s.texts.now state s.rules.now s.tokens.now s.brackets.now x.compiled.now (page_in x.page)

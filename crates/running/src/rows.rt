@@ -1,9 +1,11 @@
-// The rows of a run, one step for each, in order.
-ghost use Rattle.std.specs.Prelude.{◌≡◌, ◌+◌, ◌≤◌, length, take};
+// The rows of a run, one step for each, in order. Rows, state and stores are lent one by one, here and in run.rt: a struct of them would be lent by `&mut`, and
+// each function would owe that its slices are the same ones afterwards, as it does of the stores, of rows and state too, which a slice by itself says by its
+// type.
+ghost use Rattle.std.specs.Prelude.{◌≡◌, ◌+◌, ◌≤◌, take};
 ghost use Rattle.runner.specs.Run.{run_step, run_of};
-ghost use Rattle.combinators.specs.Lent.{SameStores, SameLengths};
+ghost use Rattle.stepping.specs.Lent.{Kept};
 ghost use Rattle.page.specs.Lent.{page_in};
-ghost use Rattle.running.specs.Ready.{RunReady, RowReady, PlaceRoom, texts_most, with_parent};
+ghost use Rattle.running.specs.Ready.{RunReadyOf, RowReadyOf, PlaceRoom, texts_most, with_parent};
 
 use crate::input::RunInput;
 use cascade::rows::{STYLE_ROW_WIDTH, copy_within};
@@ -25,8 +27,8 @@ fn place_parent(nodes: &[u32], row: usize, rows: &mut [u32])
     }
 }
 
-// The step of a row; the fill behind its texts. The rows are one slice of numbers, of which a row is split off: of chunks (`as_chunks_mut`) nothing is promised of what the
-// slice ends as. What the work stores hold afterwards, and the texts behind that fill, is left free.
+// The step of a row; the fill behind its texts. The rows are one slice of numbers, of which a row is split off: of chunks (`as_chunks_mut`) nothing is promised of
+// what the slice ends as. What the work stores hold afterwards, and the texts behind that fill, is left free.
 fn run_row(
     input: RunInput<'_>,
     row: usize,
@@ -35,13 +37,11 @@ fn run_row(
     stores: &mut Stores<'_>,
     fill: usize,
 ) -> usize
-    requires { RowReady input.compiled.now (page_in input.page) rows.old state.old stores.old.rules.now stores.old.tokens.now stores.old.brackets.now stores.old.texts.now row fill }
+    requires { RowReadyOf input rows.old state.old stores.old row fill }
     ensures texts_after { record { rows = rows.new; state = state.new; texts = take result stores.new.texts.now }
         ≡ run_step input.entry.compiled.now input.entry.settings (page_in input.entry.page) row (record { rows = rows.old; state = state.old; texts = take fill stores.old.texts.now }) }
-    ensures upper_bound { result ≤ length stores.new.texts.now }
-    ensures upper_bound_2 { result ≤ texts_most (page_in input.entry.page) (row + 1) }
-    ensures lengths { SameLengths stores.old stores.new }
-    ensures same { SameStores stores.old stores.new }
+    ensures upper_bound { result ≤ texts_most (page_in input.entry.page) (row + 1) }
+    ensures kept { Kept stores.old stores.new result }
 {
     let page = input.page;
     place_parent(page.nodes, row, rows);
@@ -74,12 +74,10 @@ pub fn run_rows(
     state: &mut [u8],
     stores: &mut Stores<'_>,
 ) -> usize
-    requires { RunReady input.compiled.now (page_in input.page) rows.old state.old stores.old.rules.now stores.old.tokens.now stores.old.brackets.now stores.old.texts.now }
+    requires { RunReadyOf input rows.old state.old stores.old }
     ensures texts_after { record { rows = rows.new; state = state.new; texts = take result stores.new.texts.now }
         ≡ run_of input.entry.compiled.now input.entry.settings (page_in input.entry.page) rows.old state.old }
-    ensures upper_bound { result ≤ length stores.new.texts.now }
-    ensures lengths { SameLengths stores.old stores.new }
-    ensures same { SameStores stores.old stores.new }
+    ensures kept { Kept stores.old stores.new result }
 {
     let count = node_count(input.page.nodes);
     let mut fill = 0;

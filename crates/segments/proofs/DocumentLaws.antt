@@ -6,6 +6,7 @@ use mathlib.Core.List.{List, [], ◌∷◌}
 use native.Mathlib.Omega.{arith}
 use lib.ListN.{length, get_or}
 use Rattle.combinators.proofs.Rules.{pick_true, pick-false}
+use Rattle.combinators.proofs.Wiped.{sets-low}
 use Rattle.syntax.specs.Style.{agent_origin}
 use Rattle.compiled.specs.Decoded.{Decoded, read, fault, on_decoded}
 use Rattle.compiled.specs.Sheet.{CompiledSelector, selector_at}
@@ -18,7 +19,6 @@ use Rattle.segments.specs.Document.{styled_from, leftmost_at, fresh_from}
 use Rattle.segments.proofs.SegmentLaws.{at_top}
 use Rattle.segments.proofs.SweepLaws.{pair_values}
 use Rattle.segments.proofs.BeforeLaws.{leftmost-segment}
-use Rattle.segments.proofs.PartLaws.{sets-before}
 use Rattle.segments.proofs.VisitLaws.{Lying, Tells, awaits-tells}
 use Rattle.segments.proofs.PassLaws.{Laid, ToldAll, first-low, length-block, block-next, block-told}
 use Rattle.segments.proofs.PlacedLaws.{selector-lies, laid_from}
@@ -162,7 +162,7 @@ module _ (code : List ℕ) (c : length code ≤ pair_values) (k i : ℕ) (part :
         rw (fresh-styled code k i n s e h part)
         (record {
           told = rw (placed-styled code k i n s e h, styled-styled code k i n s e h) (refl, g, rw b r.told);
-          before = λ m z. r.before m (omega arith) ∙ unfold block_set in sets-before (block_bytes next v.awaited v.flags) part (i + to_next) m z;
+          before = λ m z. r.before m (omega arith) ∙ unfold block_set in sets-low (block_bytes next v.awaited v.flags) part (i + to_next) m 0 z;
           long = r.long ∙ length-block v next i part;
         })
 

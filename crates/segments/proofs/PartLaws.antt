@@ -1,26 +1,22 @@
 -- Bytes stored in a part stand there, and elsewhere nothing changes.
 use Prim.Native.Nat.{ℕ, zero, suc, ◌+◌, ◌≤◌, ◌<◌}
-use mathlib.Core.Path.{◌≡◌, refl, ◌∙◌, subst}
+use mathlib.Core.Path.{◌≡◌, ◌∙◌, subst}
 use mathlib.Core.List.{List, [], ◌∷◌, ◌++◌}
 use native.Mathlib.Omega.{arith}
 use lib.ListN.{length, get_or, set, length-set}
-use lib.Seq.{sets, get_or-set_same, get_or-set_other}
+use lib.Seq.{sets, get_or-set_same}
+use Rattle.combinators.proofs.Wiped.{sets-low}
 use Rattle.page.specs.Path.{Path}
 use Rattle.segments.specs.Segments.{Piece, test, direct, anywhere}
 use Rattle.segments.specs.Sweep.{pair_bytes, mark_bytes}
 use Rattle.segments.proofs.SweepLaws.{Holds, told}
-
--- what stands before the bytes stored is as it was
-pub sets-before : (bs part : List ℕ) (j m : ℕ) → m < j → get_or (sets part j bs) m 0 ≡ get_or part m 0
-sets-before [] part j m h = refl
-sets-before (b ∷ bs) part j m h = sets-before bs (set part j b) (suc j) m (omega arith) ∙ get_or-set_other part j m b 0 (λ e. absurd (omega arith))
 
 -- they stand where they were stored
 pub sets-held : (bs part : List ℕ) (j : ℕ) → j + length bs ≤ length part → Holds (sets part j bs) j bs
 sets-held [] part j h = tt
 sets-held (b ∷ bs) part j h =
     let e : suc j ≡ j + 1 = omega arith in (
-      sets-before bs (set part j b) (suc j) j (omega arith) ∙ get_or-set_same part j b 0 (omega arith),
+      sets-low bs (set part j b) (suc j) j 0 (omega arith) ∙ get_or-set_same part j b 0 (omega arith),
       subst (λ (n : ℕ). Holds (sets (set part j b) (suc j) bs) n bs) e (sets-held bs (set part j b) (suc j) (let l = length-set part j b in omega arith)),
     )
 

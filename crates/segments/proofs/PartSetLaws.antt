@@ -1,20 +1,14 @@
 -- What bytes stored in a longer store leave of a part of it, and of what lies behind them.
-use Prim.Native.Nat.{ℕ, zero, suc, ◌+◌, ◌≤◌}
+use Prim.Native.Nat.{ℕ, zero, suc, ◌+◌}
 use mathlib.Core.Path.{◌≡◌, refl, ap, ◌∙◌}
 use mathlib.Core.List.{List, [], ◌∷◌}
 use native.Mathlib.Omega.{arith}
-use lib.ListN.{length, take, drop, set}
-use lib.Seq.{sets, drop-set-lt}
+use lib.ListN.{take, drop, set}
+use lib.Seq.{sets}
 use Rattle.combinators.specs.Part.{part}
+use Rattle.combinators.proofs.Wiped.{front-set}
 
 -- ---- one byte
--- the front of a list in which a byte is stored
-take-set : (w : ℕ) (l : List ℕ) (j b : ℕ) → take w (set l j b) ≡ set (take w l) j b
-take-set zero l j b = refl
-take-set (suc w) [] j b = refl
-take-set (suc w) (x ∷ xs) zero b = refl
-take-set (suc w) (x ∷ xs) (suc j) b = ap (λ (r : List ℕ). x ∷ r) (take-set w xs j b)
-
 -- what lies behind its front
 drop-set : (a : ℕ) (l : List ℕ) (j b : ℕ) → drop a (set l (a + j) b) ≡ set (drop a l) j b
 drop-set zero l j b = let e : 0 + j ≡ j = omega arith in rw e
@@ -24,7 +18,7 @@ drop-set (suc a) (x ∷ xs) j b = let e : suc a + j ≡ suc (a + j) = omega arit
 -- the part has it, if it lies there
 part-set : (store : List ℕ) (at width j b : ℕ) → part (set store (at + j) b) at width ≡ set (part store at width) j b
 unfolding part
-part-set store at width j b = ap (take width) (drop-set at store j b) ∙ take-set width (drop at store) j b
+part-set store at width j b = ap (take width) (drop-set at store j b) ∙ front-set width (drop at store) j b
 
 -- ---- bytes
 -- the part has the bytes, as far as it goes
@@ -35,8 +29,3 @@ part-sets (b ∷ bs) store at width j =
     ap (λ (i : ℕ). part (sets (set store (at + j) b) i bs) at width) e
     ∙ part-sets bs (set store (at + j) b) at width (suc j)
     ∙ ap (λ (x : List ℕ). sets x (suc j) bs) (part-set store at width j b)
-
--- what lies behind them stays as it was
-pub behind-sets : (bs store : List ℕ) (i n : ℕ) → i + length bs ≤ n → drop n (sets store i bs) ≡ drop n store
-behind-sets [] store i n h = refl
-behind-sets (b ∷ bs) store i n h = behind-sets bs (set store i b) (suc i) n (omega arith) ∙ drop-set-lt n store i b (omega arith)

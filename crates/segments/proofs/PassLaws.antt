@@ -8,6 +8,7 @@ use lib.ListN.{length, get_or}
 use lib.Seq.{length-sets}
 use Rattle.combinators.specs.Choice.{pick}
 use Rattle.combinators.proofs.Rules.{pick_true, pick-false, is-yes, is-no}
+use Rattle.combinators.proofs.Wiped.{sets-low}
 use Rattle.page.specs.Path.{Element, Path}
 use Rattle.segments.specs.Segments.{segment, alone}
 use Rattle.segments.specs.Sweep.{pair_at, pair_bytes}
@@ -19,7 +20,7 @@ use Rattle.segments.proofs.SegmentLaws.{asks-right}
 use Rattle.segments.proofs.SweepLaws.{Holds, pair_values, pair-back}
 use Rattle.segments.proofs.BeforeLaws.{segment_place, length-segment, place-to}
 use Rattle.segments.proofs.VisitLaws.{Lying, Tells, Right, ToldAt, visit-right}
-use Rattle.segments.proofs.PartLaws.{sets-before, sets-held, held_same, held-pair, length-flags}
+use Rattle.segments.proofs.PartLaws.{sets-held, held_same, held-pair, length-flags}
 
 -- ---- a block
 
@@ -138,7 +139,7 @@ module _ (code above : List ℕ) (path : Path) (e : Element) (c : length code �
       (record {
         matched = unfold matched_here matching_places in ap₂ ◌++◌ (ap (λ (x : Bool). pick x (s.place ∷ []) []) (r.matched ∙ asks-right s.components path)) ih.matched;
         told = (refl, g, rw b ih.told);
-        before = λ m n. let z = y.0.room in ih.before m (omega arith) ∙ unfold block_set in sets-before (block_bytes next v.awaited v.flags) own (s.place + to_next) m (omega arith);
+        before = λ m n. let z = y.0.room in ih.before m (omega arith) ∙ unfold block_set in sets-low (block_bytes next v.awaited v.flags) own (s.place + to_next) m 0 (omega arith);
         long = ih.long ∙ length-block v next s.place own;
       })
 

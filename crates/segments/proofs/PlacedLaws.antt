@@ -5,19 +5,17 @@ use mathlib.Core.Bool.{true}
 use mathlib.Core.List.{List, [], ◌∷◌, map}
 use native.Mathlib.Omega.{arith}
 use lib.ListN.{length}
-use Rattle.combinators.specs.Choice.{is}
-use Rattle.combinators.proofs.Rules.{never, pick-holds}
-use Rattle.syntax.specs.Layout.{colour_slot, display_slot, white_space_slot, content_slot, last_slot, style_in}
+use Rattle.combinators.proofs.Rules.{never}
+use Rattle.syntax.specs.Layout.{colour_slot, last_slot, style_in}
 use Rattle.syntax.specs.Selector.{Component}
 use Rattle.syntax.specs.Style.{agent_origin, StyleDecl}
 use Rattle.compiled.specs.Decoded.{Decoded, read, on_decoded, mapped, counted}
 use Rattle.compiled.specs.Number.{number_at, ranged_at}
-use Rattle.compiled.specs.Text.{span_at}
 use Rattle.compiled.specs.Component.{component_at}
-use Rattle.compiled.specs.Style.{greatest_colour, greatest_white_space, content_at, number_up_to, value_at, valued_at, slot_at, started_at, style_numbers_at, style_at}
+use Rattle.compiled.specs.Style.{value_at, valued_at, slot_at, started_at, style_numbers_at, style_at}
 use Rattle.compiled.specs.Sheet.{CompiledSelector, head_at, styles_at, selector_at}
 use Rattle.compiled.specs.declared.sheets.Head.{Head}
-use Rattle.compiled.proofs.Bounds.{Reaches, reaches-read, reaches_end, reaches-less, reaches_then, reaches-mapped, reaches-counted, number-reaches, ranged-reaches, span-reaches, head-reaches, style-reaches, styles-reach}
+use Rattle.compiled.proofs.Bounds.{Reaches, reaches_end, reaches-less, reaches_then, reaches-mapped, reaches-counted, number-reaches, ranged-reaches, head-reaches, style-reaches, styles-reach, value-reaches}
 use Rattle.compiled.proofs.Walking.{steps, counted-first, counted_none, counted-length, components-long, selector-steps}
 use Rattle.segments.specs.Segments.{piece}
 use Rattle.segments.specs.Sweep.{piece_at}
@@ -33,17 +31,6 @@ module _ (t : List ℕ) where
   weaker : {A : Type 0} (k m n : ℕ) (d : Decoded A) → m ≤ k → Reaches k (length t) n d → Reaches m (length t) n d
   weaker k m n d l h = reaches-less (length t) d k n m n h (omega arith) (omega arith) (λ g. g)
 
-  -- the value of a slot
-  value-reaches : (from slot n : ℕ) → n ≤ length t → Reaches 0 (length t) n (value_at t from slot n)
-  unfolding value_at content_at number_up_to
-  value-reaches from slot n l =
-      pick-holds (Reaches 0 (length t) n) (is slot display_slot) _ _ (λ _. reaches-read (length t) n 0 n _ (omega arith) l)
-      (λ _. pick-holds (Reaches 0 (length t) n) (is slot content_slot) _ _
-      (λ _. weaker 1 0 n _ (omega arith) (reaches-mapped (length t) _ (span_at t n) 1 n (span-reaches t n)))
-      (λ _. pick-holds (Reaches 0 (length t) n) (is slot white_space_slot) _ _
-      (λ _. weaker 1 0 n _ (omega arith) (reaches-mapped (length t) _ (ranged_at t n 0 greatest_white_space) 1 n (ranged-reaches t n 0 greatest_white_space)))
-      (λ _. weaker 1 0 n _ (omega arith) (reaches-mapped (length t) _ (ranged_at t n 0 greatest_colour) 1 n (ranged-reaches t n 0 greatest_colour)))))
-
   -- whether it is important, its start, and its slot
   style-long : (i : ℕ) → Reaches 2 (length t) i (style_at t i)
   unfolding style_at style_numbers_at started_at slot_at valued_at
@@ -52,7 +39,7 @@ module _ (t : List ℕ) where
       (reaches_then (length t) (ranged_at t i 0 1) _ 1 1 i (ranged-reaches t i 0 1)
       (λ n important _. reaches_then (length t) (number_at t n) _ 1 0 n (number-reaches t n)
       (λ k from _. weaker 1 0 k _ (omega arith) (reaches_then (length t) (ranged_at t k colour_slot last_slot) _ 1 0 k (ranged-reaches t k colour_slot last_slot)
-      (λ m slot l. reaches-mapped (length t) _ (value_at t from slot m) 0 m (value-reaches from slot m l))))))
+      (λ m slot l. reaches-mapped (length t) _ (value_at t from slot m) 0 m (value-reaches t from slot m l))))))
 
   -- styles, one or more, with their count take three
   styles-long : (i m : ℕ) (ds : List StyleDecl) → styles_at t i ≡ read m ds → has_style ds ≡ true → i + 3 ≤ m

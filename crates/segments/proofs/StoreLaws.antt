@@ -3,8 +3,8 @@ use Prim.Native.Nat.{ℕ, zero, suc, ◌+◌, ◌≤◌, ◌<◌}
 use mathlib.Core.Path.{◌≡◌, refl, ap, ◌∙◌}
 use mathlib.Core.List.{List, [], ◌∷◌}
 use native.Mathlib.Omega.{arith}
-use lib.ListN.{length, set, take, drop, length-drop}
-use lib.Seq.{sets, set-set, set-get_or, drop-cons, length-take-le}
+use lib.ListN.{length, set, take, drop}
+use lib.Seq.{sets, set-set, set-get_or, drop-cons}
 use Rattle.combinators.specs.Part.{part}
 use Rattle.combinators.proofs.Wiped.{sets-apart}
 
@@ -25,8 +25,3 @@ part_same zero store o h = refl
 part_same (suc n) store o h =
     ap (λ (l : List ℕ). sets store o (take (suc n) l)) (drop-cons store o 0 (omega arith))
     ∙ ap (λ (r : List ℕ). sets r (suc o) (take n (drop (suc o) store))) (set-get_or store o 0) ∙ part_same n store (suc o) (omega arith)
-
--- a part has its length where the store has room for it
-pub length_part : (store : List ℕ) (o n : ℕ) → o + n ≤ length store → length (part store o n) ≡ n
-unfolding part
-length_part store o n h = length-take-le n (drop o store) (let l = length-drop o store in omega arith)

@@ -12,7 +12,7 @@ use Rattle.combinators.specs.Choice.{and}
 use Rattle.combinators.proofs.Rules.{pick_true, pick-false, is-yes, is-no}
 use Rattle.syntax.specs.Layout.{flag}
 use Rattle.syntax.specs.Selector.{Component}
-use Rattle.cascade.proofs.RowLaws.{flag-back}
+use Rattle.syntax.proofs.Back.{flag-back}
 use Rattle.page.specs.Path.{Element, Path}
 use Rattle.matching.specs.Matches.{on_parent}
 use Rattle.compiled.specs.Decoded.{read, on_decoded}

@@ -9,7 +9,7 @@ use lib.ListN.{length, get_or, drop, replicate}
 use Rattle.combinators.proofs.Rules.{pick_true, pick-false, is-yes, is-no, lt-or-ge}
 use Rattle.syntax.specs.Layout.{flag}
 use Rattle.syntax.specs.Style.{agent_origin}
-use Rattle.cascade.proofs.RowLaws.{flag-back}
+use Rattle.syntax.proofs.Back.{flag-back}
 use Rattle.page.specs.Path.{Element, Path}
 use Rattle.matching.specs.Matches.{on_parent}
 use Rattle.compiled.specs.Decoded.{read, on_decoded}

@@ -10,8 +10,7 @@ use Rattle.syntax.specs.Layout.{flag, flag_of, colour_number, colour_of, style_s
 use Rattle.syntax.specs.RuleLayout.{component_kind, pseudo_number, pseudo_from}
 use Rattle.syntax.specs.Selector.{star, element, child, descendant, none}
 use Rattle.syntax.specs.Style.{author_origin}
-use Rattle.page.specs.Path.{Element}
-use Rattle.matching.specs.Matches.{step, here, name_is}
+use Rattle.matching.specs.Matches.{step, here, name_is, named}
 use Rattle.compiled.specs.Decoded.{on_decoded, and_then, mapped, counted}
 use Rattle.compiled.specs.Number.{group_bytes, number_bytes, limited, groups_at, number_at, ranged_at}
 use Rattle.compiled.specs.Text.{text_bytes, span_at, text_in}
@@ -26,10 +25,6 @@ use Rattle.segments.specs.Visits.{block_bytes, awaits, ended_by, ended_at, decid
 use Rattle.segments.specs.Pass.{matched_here, block_set, pass_from}
 use Rattle.segments.specs.Document.{styled_from, leftmost_at, fresh_from}
 use Rattle.segments.specs.Down.{pass_at, fresh_in, passed_down}
-
--- an element by its name
-unfoldable named : List ℕ → Element
-named n = record { name = n; attributes = []; place = 1 }
 
 -- `p{color:red}`, `p{}`, `a b > c{color:red}` and `* *{color:red}`: bytes 1 to 14, 15 to 21, 22 to 43 and 44 on
 unfoldable sheet : List ℕ

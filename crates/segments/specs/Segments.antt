@@ -7,8 +7,8 @@ use Rattle.combinators.specs.Word.{starts_with, same_text}
 use Rattle.characters.specs.Literal.{text}
 use Rattle.characters.specs.Utf8.{utf8}
 use Rattle.syntax.specs.Selector.{Component, star, class, element, hash, child, descendant, nth, attribute, attribute_equal}
-use Rattle.page.specs.Path.{Element, Path}
-use Rattle.matching.specs.Matches.{step, here, on_parent, on_ancestors, name_is}
+use Rattle.page.specs.Path.{Path}
+use Rattle.matching.specs.Matches.{step, here, on_parent, on_ancestors, name_is, named}
 
 -- ---- a selector, rightmost first as it is compiled
 
@@ -105,10 +105,6 @@ unfoldable pub matches_down : List Component → Path → Bool
 matches_down cs p = (visit (alone p) (map piece cs) (arriving (map piece cs) p)).matched
 
 -- ---- cases
-
--- an element by its name
-unfoldable named : List ℕ → Element
-named n = record { name = n; attributes = []; place = 1 }
 
 -- `a > b` at b in a, and at b in c in a; `a b > c` at c in b in c in a; `* p` at a p in the document; two steps side by side; a step at the left end, and one at the right; no component
 test-down : (matches_down (element (text "b") ∷ child ∷ element (text "a") ∷ []) (named (text "b") ∷ named (text "a") ∷ []) ≡ true)

@@ -25,7 +25,7 @@ use Rattle.lexer.specs.TokenRow.{string_kind, columns_of}
 use Rattle.lexer.specs.declared.Written.{Written}
 use Rattle.lexer.specs.declared.tokens.Token as declared
 use Rattle.lexer.specs.declared.tokens.Token.TheVariants as code
-use Rattle.lexer.specs.declared.tokens.TokenRead.{TokenRead}
+use Rattle.combinators.specs.declared.taken.Taken.{Taken}
 use Rattle.std.proofs.lemmas.Option.{same_Some, none-some}
 use Rattle.lexer.specs.contracts.tokens.Token.{the_type}
 use Rattle.lexer.proofs.Bounds.{short, Fits, bound-short}
@@ -35,16 +35,18 @@ use Rattle.lexer.proofs.Quotes.{string-short}
 use Rattle.lexer.proofs.TokenBounds.{string-bounded}
 use Rattle.syntax.specs.Selector as syntax
 use Rattle.syntax.specs.Selector.{attribute, attribute_equal}
-use Rattle.syntax.specs.RuleLayout.{attribute_kind, attribute_equal_kind, component_kind, component_first, component_second, component_text}
+use Rattle.syntax.specs.RuleLayout.{component_text}
 use Rattle.values.specs.Words.{is_kind, kind_of}
 use Rattle.lexer.proofs.NameAnswers.{NameRead, named-from, unnamed-from}
 use Rattle.selectors.specs.Outcome.{Outcome, reads, fails, on_outcome, parsed, or_else}
 use Rattle.selectors.specs.Selector.{closed, quoted_of, value_of, attr_of}
 use Rattle.selectors.specs.Reading.{written}
-use Rattle.selectors.specs.ComponentAnswer.{component_answer, closed_by, closed_answer, closed_store, attr_value_of, equal_answer, equal_store}
+use Rattle.selectors.specs.ComponentAnswer.{component_coded, component_answer, closed_by, closed_answer, closed_store, attr_value_of, equal_answer, equal_store}
 use Rattle.selectors.specs.Stores.{Clean}
+use Rattle.selectors.specs.declared.components.Component as component
+use Rattle.selectors.specs.declared.components.Component.TheVariants as variant
 use Rattle.combinators.proofs.ZeroLaws.{zeros-back, zeros-after}
-use Rattle.selectors.proofs.ComponentLaws.{ComponentAnswer, row, Left, left-none, or-fails, or-reads}
+use Rattle.selectors.proofs.ComponentLaws.{read_as, Left, left-none, or-fails, or-reads}
 
 -- ---- the returns of `closed`
 module _ (s st : List ℕ) (n m fill : ℕ) (t : Bool) (et : t ≡ is (get_or s n 0) ascii.right_square_bracket) where
@@ -104,11 +106,11 @@ record Token-read (p : Parsed Token) (n : ℕ) (k : declared.Token) : Type 0 whe
   code_is : k ≡ coded token
 
 -- an answer with a token says that one was read
-token-read : (p : Parsed Token) (n : ℕ) (k : declared.Token) → Some (record { taken = n; token = k }) ≡ token_answer p → Token-read p n k
+token-read : (p : Parsed Token) (n : ℕ) (k : declared.Token) → Some (record { taken = n; value = k }) ≡ token_answer p → Token-read p n k
 unfolding token_answer
 token-read (ok i κ) n k e =
-    let q : record { taken = n; token = k } ≡ record { taken = i; token = coded κ } = same_Some _ _ e in
-    record { token = κ; reading = ap (λ w. ok w.taken κ) (sym q); code_is = ap (λ w. w.token) q }
+    let q : record { taken = n; value = k } ≡ record { taken = i; value = coded κ } = same_Some _ _ e in
+    record { token = κ; reading = ap (λ w. ok w.taken κ) (sym q); code_is = ap (λ w. w.value) q }
 token-read err n k e = absurd (none-some _ (sym e))
 
 -- an answer without one says that none was
@@ -138,7 +140,7 @@ others = 0 ∷ 1 ∷ 2 ∷ 4 ∷ 5 ∷ 6 ∷ 7 ∷ 8 ∷ 9 ∷ 10 ∷ 11 ∷ 12 
 string-other : {A : Type 0} (m : ℕ) → OneOf others (tag_of the_type (code.String m)) → A
 string-other m h = absurd (miss others _ tt h)
 
-module _ (s st z : List ℕ) (fill : ℕ) (x : Option TokenRead) (w : (x ≡ token_answer (string_of s)) × (z ≡ sets st fill (token_text (string_of s)))) where
+module _ (s st z : List ℕ) (fill : ℕ) (x : Option (Taken declared.Token)) (w : (x ≡ token_answer (string_of s)) × (z ≡ sets st fill (token_text (string_of s)))) where
   -- where no token begins there is no string
   pub string-none : x ≡ None → idents.Named (quoted_of s) st fill None z
   unfolding token_text
@@ -146,7 +148,7 @@ module _ (s st z : List ℕ) (fill : ℕ) (x : Option TokenRead) (w : (x ≡ tok
       let e = no-token (string_of s) (sym h ∙ w.0) in
       none_left (quoted_of s) st z fill (quoted-none s e) (w.1 ∙ ap (λ (p : Parsed Token). sets st fill (token_text p)) e)
 
-  module _ (n : ℕ) (k : declared.Token) (h : x ≡ Some (record { taken = n; token = k })) where
+  module _ (n : ℕ) (k : declared.Token) (h : x ≡ Some (record { taken = n; value = k })) where
     -- the token that was read
     got : Token-read (string_of s) n k
     got = token-read (string_of s) n k (sym h ∙ w.0)
@@ -304,14 +306,14 @@ attr-value-keeps s = or-keeps s _ _ (closed-keeps s _ (quoted-keeps s)) (closed-
 -- ---- the returns of `parse_attr_equal`
 -- a value that was read is left behind the name
 equal-read : (p : Parsed (List ℕ)) (n : ℕ) (v : List ℕ) → p ≡ ok n v → (m : ℕ) → m ≡ length v → (st y : List ℕ) (at name fill : ℕ) → y ≡ sets st (fill + name) v
-    → (Ok (Some (row (at + 1 + n) attribute_equal_kind name m)) ≡ equal_answer p at name) × (y ≡ equal_store p name fill st)
+    → (Some (read_as (at + 1 + n) (variant.AttributeEqual name m)) ≡ equal_answer p at name) × (y ≡ equal_store p name fill st)
 unfolding equal_answer equal_store on_parsed
 equal-read p n v e m em st y at name fill ey = rw (e, em) (refl, ey)
 
 module _ (s st : List ℕ) (at name fill : ℕ) (z : List ℕ) (x : Option Written)
     (w : idents.Named (attr_value_of (take (length s - (at + 1)) (drop (at + 1) s))) st (fill + name) x z) where
   -- the answer and the store that it leaves
-  abbrev EqualLeft : ComponentAnswer → List ℕ → Type 0
+  abbrev EqualLeft : Option (Taken component.Component) → List ℕ → Type 0
   EqualLeft r y = (r ≡ equal_answer (attr_value_of (drop (at + 1) s)) at name) × (y ≡ equal_store (attr_value_of (drop (at + 1) s)) name fill st)
 
   -- the value is that of the rest of the text
@@ -319,14 +321,14 @@ module _ (s st : List ℕ) (at name fill : ℕ) (z : List ℕ) (x : Option Writt
   value_lent = rw (rest s (at + 1)) at w
 
   -- the return where a value was read: it is left behind the name
-  pub equal-value : (n m : ℕ) → x ≡ Some (record { taken = n; length = m }) → EqualLeft (Ok (Some (row (at + 1 + n) attribute_equal_kind name m))) z
+  pub equal-value : (n m : ℕ) → x ≡ Some (record { taken = n; length = m }) → EqualLeft (Some (read_as (at + 1 + n) (variant.AttributeEqual name m))) z
   unfolding name_text
   equal-value n m h =
       let q = named-from _ n m (sym h ∙ value_lent.0) in
       equal-read _ n q.name q.reads m q.long st z at name fill (value_lent.1 ∙ ap (λ (p : Parsed (List ℕ)). sets st (fill + name) (name_text p)) q.reads)
 
   -- the return where none was: the name is wiped
-  pub equal-none : x ≡ None → (y : List ℕ) → y ≡ wiped fill name z → EqualLeft (Ok None) y
+  pub equal-none : x ≡ None → (y : List ℕ) → y ≡ wiped fill name z → EqualLeft None y
   unfolding equal_answer equal_store on_parsed name_text
   equal-none h y ey =
       let q = unnamed-from _ (sym h ∙ value_lent.0) in
@@ -374,16 +376,16 @@ attr-there s t et e = let l = byte-there s 0 ascii.left_square_bracket (omega ar
 
 -- an attribute without a value
 attribute-left : (o : Outcome syntax.Component) (n : ℕ) (b : List ℕ) → reads n (attribute b) ≡ o → (m : ℕ) → m ≡ length b → (st z : List ℕ) (fill : ℕ) → z ≡ sets st fill b
-    → Left o st fill (Ok (Some (row n attribute_kind m 0))) z
-unfolding component_answer written on_outcome component_kind component_first component_second component_text
+    → Left o st fill (Ok (Some (read_as n (variant.Attribute m)))) z
+unfolding component_answer component_coded written on_outcome component_text
 attribute-left o n b e m em st z fill ez = rw (← e, em) (refl, ez)
 
 -- one with a value, or none, by what stands behind the `=`
-equal-left : (p : Parsed (List ℕ)) (at : ℕ) (b : List ℕ) (m : ℕ) → m ≡ length b → (st z : List ℕ) (fill : ℕ) → Zeros st fill → z ≡ sets st fill b → (r : ComponentAnswer) (y : List ℕ)
-    → (r ≡ equal_answer p at m) × (y ≡ equal_store p m fill z) → Left (valued (at + 1) p b) st fill r y
-unfolding component_answer written on_outcome on_parsed parsed component_kind component_first component_second component_text equal_answer equal_store
-equal-left (ok n v) at b m em st z fill c ez r y w = (w.0 ∙ rw em, w.1 ∙ rw (em, ez) (sym (sets-append st fill b v)))
-equal-left err at b m em st z fill c ez r y w = (w.0, w.1 ∙ rw ez (zeros-back st fill c b m (omega arith)))
+equal-left : (p : Parsed (List ℕ)) (at : ℕ) (b : List ℕ) (m : ℕ) → m ≡ length b → (st z : List ℕ) (fill : ℕ) → Zeros st fill → z ≡ sets st fill b → (r : Option (Taken component.Component)) (y : List ℕ)
+    → (r ≡ equal_answer p at m) × (y ≡ equal_store p m fill z) → Left (valued (at + 1) p b) st fill (Ok r) y
+unfolding component_answer component_coded written on_outcome on_parsed parsed component_text equal_answer equal_store
+equal-left (ok n v) at b m em st z fill c ez r y w = (rw w.0 (rw em), w.1 ∙ rw (em, ez) (sym (sets-append st fill b v)))
+equal-left err at b m em st z fill c ez r y w = (ap Ok w.0, w.1 ∙ rw ez (zeros-back st fill c b m (omega arith)))
 
 module _ (s st : List ℕ) (fill : ℕ) (t : Bool) (et : t ≡ is (get_or s 0 0) ascii.left_square_bracket) where
   -- without an opening bracket there is no attribute
@@ -443,7 +445,7 @@ module _ (s st : List ℕ) (fill : ℕ) (t : Bool) (et : t ≡ is (get_or s 0 0)
         attr-closed-le f = let l = byte-there s (1 + n) ascii.right_square_bracket (omega arith) (told _ _ _ eu f) in omega arith
 
         -- the return where it ends there
-        pub attr-closed : u ≡ true → Left (attr_of s) st fill (Ok (Some (row (1 + n + 1) attribute_kind m 0))) z
+        pub attr-closed : u ≡ true → Left (attr_of s) st fill (Ok (Some (read_as (1 + n + 1) (variant.Attribute m)))) z
         attr-closed f =
             attribute-left _ (1 + n + 1) name.name (sym (or-reads _ _ _ _ (sym (closed-there f))) ∙ attr-by) m name.long st z fill stored-name
 
@@ -475,8 +477,8 @@ module _ (s st : List ℕ) (fill : ℕ) (t : Bool) (et : t ≡ is (get_or s 0 0)
                 }
 
             -- the return behind an `=`: an attribute with its value, or none where no value reads
-            pub attr-equal : Zeros st fill → (r : ComponentAnswer) (y : List ℕ)
-                → (r ≡ equal_answer (attr_value_of (drop (1 + n + 1) s)) (1 + n) m) × (y ≡ equal_store (attr_value_of (drop (1 + n + 1) s)) m fill z) → Left (attr_of s) st fill r y
+            pub attr-equal : Zeros st fill → (r : Option (Taken component.Component)) (y : List ℕ)
+                → (r ≡ equal_answer (attr_value_of (drop (1 + n + 1) s)) (1 + n) m) × (y ≡ equal_store (attr_value_of (drop (1 + n + 1) s)) m fill z) → Left (attr_of s) st fill (Ok r) y
             attr-equal c r y q =
                 rw (← (sym (value-both s (1 + n + 1) name.name) ∙ pick_true _ _ _ _ (told _ _ _ ev g) refl ∙ sym (or-fails _ _ closed-fails) ∙ attr-by))
                 (equal-left _ (1 + n) name.name m name.long st z fill c stored-name r y q)

@@ -15,6 +15,7 @@ use Rattle.selectors.specs.Selector.{component_of, components_of, components_fro
 use Rattle.selectors.specs.Components.{first_component, started_of, kept_of}
 use Rattle.selectors.proofs.AllLaws.{reads-no, panics-no, behind-never, then_never}
 use Rattle.selectors.proofs.ComponentEnds.{component-some, none_left, enough_turns}
+use Rattle.selectors.proofs.ComponentLaws.{or-fails}
 
 -- ---- a blank at the end
 -- of components with one more behind them, that last one is dropped where it is a blank
@@ -118,11 +119,6 @@ unfolding or_else
 or-never (reads n a) p h = refl
 or-never fails p h = absurd (h refl)
 or-never (panics q) p h = refl
-
--- the second alternative where the first fails
-or-fails : {A : Type 0} (o p : Outcome A) → o ≡ fails → or_else o p ≡ p
-unfolding or_else
-or-fails o p e = rw e
 
 -- components with a first one are some components
 some_more : (n : ℕ) (o : Outcome (List Component)) (c : Component) → some_of (behind n o (λ cs. c ∷ cs)) ≡ behind n o (λ cs. c ∷ cs)

@@ -4,9 +4,12 @@ use mathlib.Core.Bool.{Bool, true, false}
 use mathlib.Core.List.{List, [], ◌∷◌, ◌++◌}
 use Prim.Native.Nat.{ℕ, zero, suc, ◌+◌, ◌-◌, ◌*◌, ◌^◌, ◌≤◌, ◌<◌}
 use native.Mathlib.Omega.{arith}
+use lib.Dec.{eqb}
 use lib.ListN.{length, take, drop, length-drop, length-append}
 use lib.Seq.{sets, drop-drop}
-use Rattle.std.specs.Prelude.{Some, None, Ok, Err}
+use Rattle.std.specs.Prelude.{Some, None, Ok, Err, ltb}
+use Rattle.std.specs.Bool.{then_some}
+use Rattle.std.proofs.lemmas.Bool.{ltb-true, ltb-false}
 use Rattle.std.specs.Int.{from_bool}
 use Rattle.combinators.specs.Choice.{pick, is}
 use Rattle.combinators.specs.Store.{wiped}
@@ -20,8 +23,8 @@ use Rattle.syntax.specs.Writing.{ComponentFits}
 use Rattle.syntax.proofs.RowSizes.{length-components}
 use Rattle.selectors.specs.Outcome.{Outcome, reads, fails, panics, on_outcome, behind}
 use Rattle.selectors.specs.Selector.{component_of, components_of, components_from}
-use Rattle.selectors.specs.Components.{text_length, first_component, next_of, kept_of, started_of}
-use Rattle.selectors.specs.ComponentAnswer.{component_answer}
+use Rattle.selectors.specs.Components.{text_length, has_row, first_component, next_of, kept_of, started_of}
+use Rattle.selectors.specs.ComponentAnswer.{component_coded, columns_of, row_of, component_answer}
 use Rattle.selectors.specs.Stores.{Clean}
 use Rattle.selectors.specs.Reading.{written, TextRoom, RowRoom}
 use Rattle.selectors.proofs.AllLaws.{where-read, where-panics, panics-no}
@@ -29,39 +32,52 @@ use Rattle.selectors.proofs.Blanks.{kept-count, kept_row, kept-text}
 use Rattle.selectors.proofs.BodyLaws.{first_behind, started}
 use Rattle.selectors.proofs.ComponentKeeps.{Small, next-keeps, row-numbers}
 use Rattle.selectors.proofs.ComponentLaws as components
-use Rattle.selectors.proofs.ComponentLaws.{row}
+use Rattle.selectors.proofs.ComponentLaws.{read_as}
 use Rattle.selectors.specs.declared.components.Component as declared
+use Rattle.combinators.specs.declared.columns.Columns.{Columns}
+use Rattle.combinators.specs.declared.taken.Taken.{Taken}
 use Rattle.selectors.specs.declared.readings.Panic.{Panic}
 use Rattle.selectors.proofs.ComponentEnds.{none_left}
 use Rattle.selectors.proofs.Gathering.{Gathered, gathered_none, gathered-more, gathered-as, none_yet, store-zeros, rules-long, store_long, all_read, all-panics}
 use Rattle.selectors.proofs.ReadingLaws.{Reading, panic_at, sized, Left, left-fails}
 
--- ---- the numbers of a component
--- the length of its texts is told by them
-pub text-told : (c : Component) → text_length (component_kind c) (component_first c) (component_second c) ≡ length (component_text c)
-unfolding text_length component_kind component_first component_second component_text pick is
+-- ---- a component as the code has it
+-- the length of its texts
+text-told : (c : Component) → text_length (component_coded c) ≡ length (component_text c)
+unfolding text_length component_coded component_text
 text-told star = refl
-text-told (class t) = omega arith
-text-told (element t) = omega arith
-text-told (hash t) = omega arith
+text-told (class t) = refl
+text-told (element t) = refl
+text-told (hash t) = refl
 text-told child = refl
 text-told descendant = refl
 text-told (nth a b) = refl
-text-told (attribute n) = omega arith
+text-told (attribute n) = refl
 text-told (attribute_equal n v) = sym (length-append n v)
 
+-- its columns
+columns-told : (c : Component) → columns_of (component_coded c) ≡ record { kind = component_kind c; first = component_first c; second = component_second c }
+unfolding columns_of component_coded component_kind component_first component_second
+columns-told star = refl
+columns-told (class t) = refl
+columns-told (element t) = refl
+columns-told (hash t) = refl
+columns-told child = refl
+columns-told descendant = refl
+columns-told (nth a b) = refl
+columns-told (attribute n) = refl
+columns-told (attribute_equal n v) = refl
+
 -- what an answer says of the component
-pub record Read (o : Outcome Component) (n k a b : ℕ) : Type 0 where
+pub record Read (o : Outcome Component) (n : ℕ) (d : declared.Component) : Type 0 where
   pub component : Component
   pub reads-it : o ≡ reads n component
-  pub kind : k ≡ component_kind component
-  pub first : a ≡ component_first component
-  pub second : b ≡ component_second component
+  pub coded : d ≡ component_coded component
 
--- an answer with numbers says that a component was read, and these are its numbers
-pub read_by : (o : Outcome Component) (got : declared.Component) → Ok (Some got) ≡ component_answer o → Read o got.taken got.kind got.first got.second
+-- an answer with a component says that it was read
+pub read_by : (o : Outcome Component) (got : Taken declared.Component) → Ok (Some got) ≡ component_answer o → Read o got.taken got.value
 unfolding component_answer on_outcome
-read_by (reads m c) got e = let q : got.taken ≡ m = cc in record { component = c; reads-it = rw q; kind = cc; first = cc; second = cc }
+read_by (reads m c) got e = let q : got.taken ≡ m = cc in record { component = c; reads-it = rw q; coded = cc }
 read_by fails got e = absurd (let z : ◌≡◌ {A = ℕ} 0 1 = cc in omega arith)
 read_by (panics p) got e = absurd (let z : ◌≡◌ {A = ℕ} 0 1 = cc in omega arith)
 
@@ -79,15 +95,11 @@ panics-by (reads m c) p e = absurd (let z : ◌≡◌ {A = ℕ} 0 1 = cc in omeg
 panics-by fails p e = absurd (let z : ◌≡◌ {A = ℕ} 0 1 = cc in omega arith)
 panics-by (panics q) p e = let h : p.place ≡ q = cc in rw h
 
--- the length of its texts, by the numbers of its row
-length-told : (c : Component) (k a b : ℕ) → k ≡ component_kind c → a ≡ component_first c → b ≡ component_second c → text_length k a b ≡ length (component_text c)
-length-told c k a b e f g = rw (e, f, g) (text-told c)
-
 -- its row where it is kept
-row_told : (c : Component) (k a b kept fill : ℕ) (start : Bool) → k ≡ component_kind c → a ≡ component_first c → b ≡ component_second c → kept ≡ length (kept_of start c)
-    → pick (is kept 0) [] (k ∷ fill ∷ a ∷ b ∷ []) ≡ rows_many component_row component_text fill (kept_of start c)
+row_told : (c : Component) (d : declared.Component) (kept fill : ℕ) (start : Bool) → d ≡ component_coded c → kept ≡ length (kept_of start c)
+    → pick (is kept 0) [] (row_of fill d) ≡ rows_many component_row component_text fill (kept_of start c)
 unfolding component_row
-row_told c k a b kept fill start e f g h = rw (e, f, g, h) (kept_row c fill start)
+row_told c d kept fill start e h = rw (e, columns-told c, h) (kept_row c fill start)
 
 -- its text, kept or not
 texts-told : (o : Outcome Component) (n : ℕ) (c : Component) (store : List ℕ) (fill : ℕ) (start : Bool) → o ≡ reads n c
@@ -239,12 +251,13 @@ module _ {s rules₀ : List ℕ} {place : ℕ} {store₀ : List ℕ} {fill : ℕ
   pub rows_long : length rules ≡ length rules₀
   rows_long = rules-long i.gathered
 
-  module _ {a : components.ComponentAnswer} {store₁ : List ℕ} (e : components.Left (next_of (is taken 0) lent) store (fill + text) a store₁) where
+  module _ {a : components.ComponentAnswer} {store₁ : List ℕ} (e : components.Left (next_of (eqb taken 0) lent) store (fill + text) a store₁) where
     abbrev found : Outcome Component
     found = next_of (is taken 0) (drop taken s)
 
     -- the answer is that of the next component in the text from `taken` on
     answered : components.Left found store (fill + text) a store₁
+    unfolding is
     answered = rw (← rest s taken) e
 
     -- where nothing was written the store is as it was
@@ -267,15 +280,23 @@ module _ {s rules₀ : List ℕ} {place : ℕ} {store₀ : List ℕ} {fill : ℕ
       same = unwritten (rw none)
 
       -- not even a first one
-      pub first-fails : taken ≡ 0 → Ends s rules₀ place store₀ fill (Ok None) rules store₁
+      first-fails : taken ≡ 0 → Ends s rules₀ place store₀ fill (Ok None) rules store₁
       first-fails z =
           let y = none_yet i.gathered (omega (arith, i.counted)) in
           left-fails _ _ _ _ _ _ _ _ (first-none s i.turns taken i.enough (is-yes taken 0 z) none) y.0 (same ∙ y.1)
 
       -- where no further component reads, what was read so far is the whole
-      pub stops : (taken ≡ 0 → ⊥) → Ends s rules₀ place store₀ fill (Ok (Some (sized taken count numbers text))) rules store₁
+      stops : (taken ≡ 0 → ⊥) → Ends s rules₀ place store₀ fill (Ok (Some (sized taken count numbers text))) rules store₁
       unfolding component_rows component_texts
       stops n = rw same (all_read i.gathered 0 taken (later-none s i.turns taken i.enough i.turns (is-no taken 0 n) none) (omega arith))
+
+      -- the return where no component reads: what was read so far, or nothing where that is none
+      pub ends-there : Ends s rules₀ place store₀ fill (Ok (then_some (ltb 0 taken) (sized taken count numbers text))) rules store₁
+      ends-there = by-some (ltb 0 taken) refl
+        where
+          by-some : (b : Bool) → ltb 0 taken ≡ b → Ends s rules₀ place store₀ fill (Ok (then_some b (sized taken count numbers text))) rules store₁
+          by-some true h = stops (λ z. absurd (let l = ltb-true 0 taken h in omega arith))
+          by-some false h = first-fails (let l = ltb-false 0 taken h in omega arith)
 
     -- the crate panics in the component: what was read before is wiped
     module _ {p : ℕ} (told : a ≡ Err (panic_at p)) where
@@ -299,11 +320,11 @@ module _ {s rules₀ : List ℕ} {place : ℕ} {store₀ : List ℕ} {fill : ℕ
           all-panics i.gathered r.zeros q.zeros ey (ez ∙ ap (wiped fill text) panic-same) p (taken + p)
           (panics-at s i.turns taken i.enough (is taken 0) refl p panic i.turns i.enough) refl
 
-    -- a component reads, of n bytes and the kind k
-    module _ {n k f g : ℕ} (told : a ≡ Ok (Some (row n k f g))) where
-      -- the answer's numbers are those of the component that reads
-      one : Read found n k f g
-      one = read_by found (row n k f g) (sym told ∙ answered.0)
+    -- a component reads, of n bytes
+    module _ {n : ℕ} {d : declared.Component} (told : a ≡ Ok (Some (read_as n d))) where
+      -- the answer's component is the one that reads
+      one : Read found n d
+      one = read_by found (read_as n d) (sym told ∙ answered.0)
 
       abbrev c : Component
       c = one.component
@@ -312,9 +333,13 @@ module _ {s rules₀ : List ℕ} {place : ℕ} {store₀ : List ℕ} {fill : ℕ
       keeps : Fits (drop taken s) n (component_text c) × Small c
       keeps = where-read (length (drop taken s)) _ found n c one.reads-it (next-keeps (is taken 0) (drop taken s))
 
-      -- the length of its text is told by its numbers
-      text-is : text_length k f g ≡ length (component_text c)
-      text-is = length-told c k f g one.kind one.first one.second
+      -- the length of its text
+      text-is : text_length d ≡ length (component_text c)
+      text-is = ap text_length one.coded ∙ text-told c
+
+      -- its columns
+      columns-are : columns_of d ≡ record { kind = component_kind c; first = component_first c; second = component_second c }
+      columns-are = ap columns_of one.coded ∙ columns-told c
 
       -- it lies within the text
       pub taken-within : taken + n ≤ length s
@@ -325,20 +350,21 @@ module _ {s rules₀ : List ℕ} {place : ℕ} {store₀ : List ℕ} {fill : ℕ
       taken_more = omega (arith, keeps.0.some)
 
       -- the texts so far are at most two bytes longer than what was taken
-      pub text-short : text + text_length k f g ≤ taken + n + 2
+      pub text-short : text + text_length d ≤ taken + n + 2
       text-short = omega (arith, bound-two keeps.0.bound, i.sharp (omega (arith, taken_more, taken-within)), text-is)
 
       -- its numbers fit a row
-      pub fits : ComponentFits f g (fill + text)
+      pub fits : ComponentFits (columns_of d).first (columns_of d).second (fill + text)
       fits =
           let b = row-numbers (drop taken s) (omega (arith, q.bits, length-drop taken s)) n c keeps.0 keeps.1 in
-          record { first_fits = omega (arith, b.0, one.first); second_fits = omega (arith, b.1, one.second); fill-fits = omega (arith, q.bits, i.long, i.within) }
+          rw columns-are (record { first_fits = omega (arith, b.0); second_fits = omega (arith, b.1); fill-fits = omega (arith, q.bits, i.long, i.within) })
 
       -- its row is kept, but for a blank at the start of the selector
-      module _ {b : Bool} (eb : b ≡ pick (is taken 0) (pick (is k descendant_kind) false true) true) {kept : ℕ} (en : kept ≡ from_bool b) where
+      module _ {b : Bool} (eb : b ≡ has_row (eqb taken 0) d) {kept : ℕ} (en : kept ≡ from_bool b) where
         -- as a number: none or one
-        ek : kept ≡ pick (is taken 0) (pick (is k descendant_kind) 0 1) 1
-        ek = en ∙ ap from_bool eb ∙ from_picks (is taken 0) (is k descendant_kind)
+        ek : kept ≡ pick (is taken 0) (pick (is (columns_of d).kind descendant_kind) 0 1) 1
+        unfolding has_row is
+        ek = en ∙ ap from_bool eb ∙ from_picks (is taken 0) (is (columns_of d).kind descendant_kind)
 
         -- the row that is put down, by that number
         put : (row : List ℕ) → pick b row [] ≡ pick (is kept 0) [] row
@@ -346,7 +372,7 @@ module _ {s rules₀ : List ℕ} {place : ℕ} {store₀ : List ℕ} {fill : ℕ
 
         -- as many rows are kept as the definition keeps of the component
         kept-is : kept ≡ length (kept_of (is taken 0) c)
-        kept-is = ek ∙ ap (λ (j : ℕ). pick (is taken 0) (pick (is j descendant_kind) 0 1) 1) one.kind ∙ kept-count c 0 (is taken 0)
+        kept-is = ek ∙ ap (λ (j : ℕ). pick (is taken 0) (pick (is j descendant_kind) 0 1) 1) (ap (λ (row : Columns). row.kind) columns-are) ∙ kept-count c 0 (is taken 0)
 
         -- none or one is kept, at the start or not, of a blank or not
         few : (start d : Bool) → pick start (pick d 0 1) 1 ≤ 1
@@ -357,14 +383,14 @@ module _ {s rules₀ : List ℕ} {place : ℕ} {store₀ : List ℕ} {fill : ℕ
 
         -- at most one row is kept of a component
         pub kept-few : kept ≤ 1
-        kept-few = rw ek (few (is taken 0) (is k descendant_kind))
+        kept-few = rw ek (few (is taken 0) (is (columns_of d).kind descendant_kind))
 
         -- the count of rows stays within the bytes taken
         pub count_fits : count + kept ≤ taken + n
         count_fits = omega (arith, i.counted, kept-few, taken_more)
 
         -- with the component's row and text stored where it is kept, the reader goes on behind it
-        pub goes : {y : List ℕ} {t : ℕ} → y ≡ sets rules (place + numbers) (pick b (k ∷ (fill + text) ∷ f ∷ g ∷ []) []) → t ≡ text_length k f g
+        pub goes : {y : List ℕ} {t : ℕ} → y ≡ sets rules (place + numbers) (pick b (row_of (fill + text) d) []) → t ≡ text_length d
             → Reading-on s rules₀ place store₀ fill y store₁ (taken + n) (count + kept) (numbers + component_width * kept) (text + t)
         unfolding written on_outcome component_rows
         goes {y} {t} ey et =
@@ -375,7 +401,7 @@ module _ {s rules₀ : List ℕ} {place : ℕ} {store₀ : List ℕ} {fill : ℕ
               enough = o.suffice;
               gathered =
                   gathered-as (gathered-more i.gathered n (kept_of (is taken 0) c) (rest_of s o.others (taken + n)) y store₁ o.rest-is
-                  (ey ∙ ap (sets rules (place + numbers)) (put _ ∙ row_told c k f g kept (fill + text) (is taken 0) one.kind one.first one.second kept-is))
+                  (ey ∙ ap (sets rules (place + numbers)) (put _ ∙ row_told c d kept (fill + text) (is taken 0) one.coded kept-is))
                   (answered.1 ∙ texts-told found n c store (fill + text) (is taken 0) one.reads-it))
                   refl (omega (arith, kept-is)) (omega (arith, kept-is, length-components (fill + text) (kept_of (is taken 0) c)))
                   (omega (arith, et, text-is, ap length x));

@@ -13,11 +13,7 @@ use Rattle.syntax.proofs.Streams.{texts-append, rows_append}
 use Rattle.selectors.specs.Outcome.{Outcome, reads, fails, panics, on_outcome, behind}
 use Rattle.selectors.proofs.ReadingLaws.{panic_at, sized, Left, LeftMany, left-reads, left-many, left-panics, left-many-panics}
 use Rattle.combinators.proofs.ZeroLaws.{zeros-behind, zeros-back}
-
--- a list of length 0 is empty
-no_items : {A : Type 0} (l : List A) → length l ≤ 0 → l ≡ []
-no_items [] h = refl
-no_items (a ∷ l) h = absurd (omega arith)
+use Rattle.combinators.proofs.Lists.{nil-of}
 
 module _ {A : Type 0} (w : ℕ → A → List ℕ) (x : A → List ℕ) where
   -- the rows of one thing are its row
@@ -121,7 +117,7 @@ module _ {A : Type 0} {w : ℕ → A → List ℕ} {x : A → List ℕ} {whole :
   pub none_yet : count ≤ 0 → (rules ≡ rules₀) × (store ≡ store₀)
   unfolding rows_many texts_many
   none_yet h =
-      let e : g.done ≡ [] = no_items g.done (omega (arith, g.count-is)) in
+      let e : g.done ≡ [] = nil-of g.done (omega (arith, g.count-is)) in
       (g.rules-are ∙ rw e, g.store_is ∙ rw e)
 
   -- what was gathered is told as well by numbers that are equal

@@ -26,7 +26,7 @@ use Rattle.lexer.proofs.IdentBounds.{ident-fits}
 use Rattle.lexer.proofs.Idents as idents
 use Rattle.lexer.proofs.TokenBounds.{on-holds}
 use Rattle.syntax.specs.Selector as syntax
-use Rattle.syntax.specs.RuleLayout.{nth_kind, component_kind, component_first, component_second, component_text}
+use Rattle.syntax.specs.RuleLayout.{component_text}
 use Rattle.syntax.specs.Signed.{signed_number}
 use Rattle.syntax.proofs.Streams.{held-part, sets-held}
 use Rattle.lexer.proofs.NameAnswers.{NameRead, named-from, unnamed-from}
@@ -35,14 +35,15 @@ use Rattle.selectors.specs.Selector as selector
 use Rattle.selectors.specs.Selector.{nth_args_of, nth_child_args, pseudo_class_of}
 use Rattle.selectors.specs.NthAnswer.{nth_answer}
 use Rattle.selectors.specs.Reading.{written}
-use Rattle.selectors.specs.ComponentAnswer.{component_answer, nth_child_name}
+use Rattle.selectors.specs.ComponentAnswer.{component_coded, component_answer, nth_child_name}
 use Rattle.selectors.specs.Stores.{Clean}
 use Rattle.selectors.proofs.AllLaws.{where-read, where-panics}
 use Rattle.selectors.proofs.NthKeeps.{args-keeps}
 use Rattle.selectors.proofs.NthLaws.{numbers, nth_read, not-read, panic-read}
 use Rattle.combinators.proofs.ZeroLaws.{zeros-back}
-use Rattle.selectors.proofs.ComponentLaws.{row, answer-none}
+use Rattle.selectors.proofs.ComponentLaws.{read_as, answer-none}
 use Rattle.selectors.proofs.ReadingLaws.{panic_at}
+use Rattle.selectors.specs.declared.components.Component.TheVariants as code
 use Rattle.selectors.specs.declared.nth.Nth.{Nth}
 use Rattle.selectors.specs.declared.readings.Panic.{Panic}
 
@@ -196,8 +197,8 @@ module _ (u : List ℕ) (k : ℕ) where
 
 -- nth with its two numbers is answered with both as numbers of 32 bits
 answer-nth : (o : Outcome syntax.Component) (n : ℕ) (x : selector.Nth) → o ≡ reads n (syntax.nth x.a x.b) → (a b : ℕ) → a ≡ signed_number x.a → b ≡ signed_number x.b
-    → Ok (Some (row n nth_kind a b)) ≡ component_answer o
-unfolding component_answer on_outcome component_kind component_first component_second
+    → Ok (Some (read_as n (code.Nth a b))) ≡ component_answer o
+unfolding component_answer component_coded on_outcome
 answer-nth o n x e a b ea eb = rw (e, ea, eb)
 
 -- a panic is answered with its place
@@ -254,7 +255,7 @@ module _ (s st : List ℕ) (t : Bool) (et : t ≡ is (get_or s 0 0) ascii.colon)
               omega (arith, child-le l, (where-read (length (drop (1 + k) s)) _ _ n g.value g.reading (args-keeps (drop (1 + k) s))).0, length-drop (1 + k) s)
 
           -- the return where they do
-          pub pseudo-nth : (Ok (Some (row (1 + k + n) nth_kind a b)) ≡ component_answer (pseudo_class_of s)) × (z ≡ st)
+          pub pseudo-nth : (Ok (Some (read_as (1 + k + n) (code.Nth a b))) ≡ component_answer (pseudo_class_of s)) × (z ≡ st)
           pseudo-nth =
               let g = nth_read _ (numbers n a b) (sym h ∙ read) in
               (answer-nth _ _ g.value (sym pseudo-is ∙ args_read _ (1 + k) n g.value g.reading) a b g.first-is g.second_is, w.1)

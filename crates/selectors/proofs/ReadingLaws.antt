@@ -1,13 +1,13 @@
 -- What an answer tells of the outcome that it stands for.
 use mathlib.Core.Path.{◌≡◌, refl, sym, ◌∙◌}
 use mathlib.Core.List.{List}
-use Prim.Native.Nat.{ℕ}
+use Prim.Native.Nat.{ℕ, ◌+◌, ◌^◌, ◌<◌}
 use native.Mathlib.Omega.{arith}
 use lib.ListN.{length}
 use lib.Seq.{sets}
 use Rattle.selectors.specs.Outcome.{Outcome, reads, fails, panics, on_outcome}
 use Rattle.selectors.specs.Reading.{reading, many_reading, written}
-use Rattle.std.specs.Prelude.{Option, Some, None, Result, Ok, Err, ok_or}
+use Rattle.std.specs.Prelude.{Option, Some, None, Result, Ok, Err, IfErr, MatchResult, ok_or}
 use Rattle.selectors.specs.declared.readings.Panic.{Panic}
 use Rattle.selectors.specs.declared.readings.Read.{Read}
 
@@ -31,13 +31,28 @@ pub not-there : {A : Type 0} (o : Option A) (p q : Panic) → Err q ≡ ok_or o 
 not-there (Some a) p q e = cc
 not-there None p q e = (refl, cc)
 
+-- ---- a panic whose place is moved
+abbrev pub Moved : {A : Type 0} → Result A Panic → ℕ → Result A Panic → Type 0
+Moved r n m = MatchResult r (λ x. m ≡ Ok x) (λ p. m ≡ Err (panic_at (n + p.place)))
+
+-- where each panic's place fits a word when it is moved, it may be moved
+pub moved-fits : {A : Type 0} (r : Result A Panic) (n : ℕ) → ((p : Panic) → r ≡ Err p → n + p.place < 2 ^ 64) → IfErr r (λ p. n + p.place < 2 ^ 64)
+moved-fits (Ok x) n h = tt
+moved-fits (Err p) n h = h p refl
+
+-- an answer without a panic is not changed
+pub moved-ok : {A : Type 0} (r m : Result A Panic) (n : ℕ) → Moved r n m → (x : A) → m ≡ Ok x → r ≡ Ok x
+moved-ok (Ok y) m n h x e = sym h ∙ e
+moved-ok (Err p) m n h x e = absurd (let q : ◌≡◌ {A = Result _ Panic} (Err (panic_at (n + p.place))) (Ok x) = sym h ∙ e in cc)
+
+-- the panic before it was moved
+pub moved-err : {A : Type 0} (r m : Result A Panic) (n : ℕ) → Moved r n m → (q : Panic) → m ≡ Err q → (p : ℕ) × (r ≡ Err (panic_at p)) × (q ≡ panic_at (n + p))
+moved-err (Ok y) m n h q e = absurd (let z : ◌≡◌ {A = Result _ Panic} (Ok y) (Err q) = sym h ∙ e in cc)
+moved-err (Err p) m n h q e = (p.place, refl, let z : ◌≡◌ {A = Result _ Panic} (Err (panic_at (n + p.place))) (Err q) = sym h ∙ e in cc)
+
 -- an answer with something that was read is not one without
 pub read-there : {A : Type 0} (r : Result (Option A) Panic) (x : A) → r ≡ Ok (Some x) → r ≡ Ok None → ⊥
 read-there r x e n = let q : ◌≡◌ {A = Result (Option _) Panic} (Ok (Some x)) (Ok None) = sym e ∙ n in cc
-
--- nor is a panic
-pub panic-there : {A : Type 0} (r : Result (Option A) Panic) (p : Panic) → r ≡ Err p → r ≡ Ok None → ⊥
-panic-there r p e n = let q : ◌≡◌ {A = Result (Option _) Panic} (Err p) (Ok None) = sym e ∙ n in cc
 
 module _ {A : Type 0} (c : A → ℕ) (w : A → List ℕ) (x : A → List ℕ) where
   -- what was read, and its sizes

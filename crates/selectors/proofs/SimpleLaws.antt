@@ -1,12 +1,13 @@
 -- Simple components: the alternatives in order, each of which leaves the store as it was where it fails.
 use mathlib.Core.Path.{◌≡◌, refl, sym, ap, ◌∙◌}
+use mathlib.Core.Bool.{Bool, true, false}
 use mathlib.Core.List.{List, []}
 use Prim.Native.Nat.{ℕ}
 use native.Mathlib.Omega.{arith}
 use lib.Seq.{sets}
 use Rattle.std.specs.Prelude.{None, Ok}
-use Rattle.combinators.specs.Choice.{pick, is}
-use Rattle.combinators.proofs.Rules.{pick-holds, is-yes, is-no}
+use Rattle.combinators.specs.Choice.{pick}
+use Rattle.combinators.proofs.Rules.{pick-holds}
 use Rattle.lexer.specs.Name.{ident_of}
 use Rattle.syntax.specs.Selector as syntax
 use Rattle.syntax.specs.Selector.{child, star, descendant, element}
@@ -172,17 +173,17 @@ module _ (s st : List ℕ) (fill : ℕ) (r : ComponentAnswer) (er : r ≡ compon
   simple-named h x z v = rw (← component-is s) (left-second _ _ st fill (tried _ st fill r st mark-left h).0 x z v)
 
 -- ---- the returns of `parse_next`
-module _ (start : ℕ) (s st : List ℕ) (fill : ℕ) where
+module _ (start : Bool) (s st : List ℕ) (fill : ℕ) where
   -- behind the start of a selector the next component is any component
-  pub next-any : (start ≡ 0 → ⊥) → (x : ComponentAnswer) (z : List ℕ) → Left (component_of s) st fill x z → Left (next_of (is start 0) s) st fill x z
+  pub next-any : start ≡ false → (x : ComponentAnswer) (z : List ℕ) → Left (component_of s) st fill x z → Left (next_of start s) st fill x z
   unfolding next_of pick
-  next-any n x z v = rw (is-no start 0 n) v
+  next-any n x z v = rw n v
 
-  module _ (h : start ≡ 0) (r : ComponentAnswer) (z : List ℕ) (w : Left (parsed 0 (ident_of s) element) st fill r z) where
+  module _ (h : start ≡ true) (r : ComponentAnswer) (z : List ℕ) (w : Left (parsed 0 (ident_of s) element) st fill r z) where
     -- at the start of a selector a type selector that reads or panics is the next component
-    pub next-element : (r ≡ Ok None → ⊥) → Left (next_of (is start 0) s) st fill r z
+    pub next-element : (r ≡ Ok None → ⊥) → Left (next_of start s) st fill r z
     unfolding next_of first_component pick
-    next-element k = rw (is-yes start 0 h) (left-first _ _ st fill r z w k)
+    next-element k = rw h (left-first _ _ st fill r z w k)
 
     -- no type selector was read: any component is tried
     module _ (e : r ≡ Ok None) where
@@ -191,6 +192,6 @@ module _ (start : ℕ) (s st : List ℕ) (fill : ℕ) where
       next-same = (tried _ st fill r z w e).1
 
       -- where none was read, what the reader of any component leaves is left
-      pub next-other : (x : ComponentAnswer) (y : List ℕ) → Left (component_of s) z fill x y → Left (next_of (is start 0) s) st fill x y
+      pub next-other : (x : ComponentAnswer) (y : List ℕ) → Left (component_of s) z fill x y → Left (next_of start s) st fill x y
       unfolding next_of first_component pick
-      next-other x y v = rw (is-yes start 0 h) (left-second _ _ st fill (tried _ st fill r z w e).0 x y (rw next-same at v))
+      next-other x y v = rw h (left-second _ _ st fill (tried _ st fill r z w e).0 x y (rw next-same at v))

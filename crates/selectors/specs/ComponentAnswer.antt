@@ -1,8 +1,10 @@
--- Components of selectors as the code answers them: the columns of a component's row, and its text in the store.
-use Rattle.std.specs.Prelude.{ℕ, ◌+◌, Option, Some, None, Result, Ok, Err, List, ◌≡◌, refl, length, get_or, drop}
+-- Components of selectors as the code answers them, with the lengths of their texts, which lie in the store; and the columns of their rows.
+use Rattle.std.specs.Prelude.{ℕ, ◌+◌, Option, Some, None, Result, Ok, Err, List, [], ◌∷◌, ◌≡◌, refl, length, get_or, drop}
 use Rattle.std.proofs.lemmas.List.Edits.{sets}
 use Rattle.combinators.specs.Ascii as ascii
 use Rattle.combinators.specs.Choice.{pick, is}
+use Rattle.combinators.specs.declared.columns.Columns.{Columns}
+use Rattle.combinators.specs.declared.taken.Taken.{Taken}
 use Rattle.combinators.specs.Parsed as parsed
 use Rattle.combinators.specs.Parsed.{Parsed, ok, err, on_parsed}
 use Rattle.combinators.specs.Store.{wiped}
@@ -14,24 +16,53 @@ use Rattle.lexer.specs.Whitespace.{skip_whitespace}
 use Rattle.lexer.specs.declared.Written.{Written}
 use Rattle.syntax.specs.Selector as syntax
 use Rattle.syntax.specs.Selector.{child, star}
-use Rattle.syntax.specs.RuleLayout.{class_kind, attribute_equal_kind, component_kind, component_first, component_second, component_text}
+use Rattle.syntax.specs.RuleLayout.{star_kind, class_kind, element_kind, hash_kind, child_kind, descendant_kind, nth_kind, attribute_kind, attribute_equal_kind, component_text}
+use Rattle.syntax.specs.Signed.{signed_number}
 use Rattle.selectors.specs.Outcome as outcome
 use Rattle.selectors.specs.Outcome.{Outcome, reads, on_outcome, or_else}
 use Rattle.selectors.specs.Selector.{quoted_of, marked, blank_of, class_of, attr_of, hash_of, pseudo_class_of}
 use Rattle.selectors.specs.Reading.{written}
 use Rattle.selectors.specs.declared.components.Component.{Component}
+use Rattle.selectors.specs.declared.components.Component.TheVariants as code
 use Rattle.selectors.specs.declared.readings.Panic.{Panic}
 
-unfoldable pub component_answer : Outcome syntax.Component → Result (Option Component) Panic
+-- a component with the lengths of its texts, or the numbers of `nth-child` in the form of the compiled sheet
+unfoldable pub component_coded : syntax.Component → Component
+component_coded star = code.Star
+component_coded (syntax.class t) = code.Class (length t)
+component_coded (syntax.element t) = code.Element (length t)
+component_coded (syntax.hash t) = code.Hash (length t)
+component_coded child = code.Child
+component_coded syntax.descendant = code.Descendant
+component_coded (syntax.nth a b) = code.Nth (signed_number a) (signed_number b)
+component_coded (syntax.attribute n) = code.Attribute (length n)
+component_coded (syntax.attribute_equal n v) = code.AttributeEqual (length n) (length v)
+
+-- its kind and its two numbers
+unfoldable pub columns_of : Component → Columns
+columns_of code.Star = record { kind = star_kind; first = 0; second = 0 }
+columns_of (code.Class n) = record { kind = class_kind; first = n; second = 0 }
+columns_of (code.Element n) = record { kind = element_kind; first = n; second = 0 }
+columns_of (code.Hash n) = record { kind = hash_kind; first = n; second = 0 }
+columns_of code.Child = record { kind = child_kind; first = 0; second = 0 }
+columns_of code.Descendant = record { kind = descendant_kind; first = 0; second = 0 }
+columns_of (code.Nth a b) = record { kind = nth_kind; first = a; second = b }
+columns_of (code.Attribute n) = record { kind = attribute_kind; first = n; second = 0 }
+columns_of (code.AttributeEqual n m) = record { kind = attribute_equal_kind; first = n; second = m }
+
+-- its row, where its texts start at f
+abbrev pub row_of : ℕ → Component → List ℕ
+row_of f d = (columns_of d).kind ∷ f ∷ (columns_of d).first ∷ (columns_of d).second ∷ []
+
+unfoldable pub component_answer : Outcome syntax.Component → Result (Option (Taken Component)) Panic
 component_answer o =
-    on_outcome o (λ n c. Ok (Some (record { taken = n; kind = component_kind c; first = component_first c; second = component_second c }))) (Ok None)
-    (λ p. Err (record { place = p }))
+    on_outcome o (λ n c. Ok (Some (record { taken = n; value = component_coded c }))) (Ok None) (λ p. Err (record { place = p }))
 
 -- `.ab` and `[a="b"]`
-case : (component_answer (reads 3 (syntax.class (text "ab"))) ≡ Ok (Some (record { taken = 3; kind = class_kind; first = 2; second = 0 })))
-    × (component_answer (reads 7 (syntax.attribute_equal (text "a") (text "b"))) ≡ Ok (Some (record { taken = 7; kind = attribute_equal_kind; first = 1; second = 1 })))
+case : (component_answer (reads 3 (syntax.class (text "ab"))) ≡ Ok (Some (record { taken = 3; value = code.Class 2 })))
+    × (component_answer (reads 7 (syntax.attribute_equal (text "a") (text "b"))) ≡ Ok (Some (record { taken = 7; value = code.AttributeEqual 1 1 })))
     × (written component_text (reads 7 (syntax.attribute_equal (text "a") (text "b"))) ≡ text "ab")
-unfolding component_answer written on_outcome component_kind component_first component_second component_text text utf8 pick
+unfolding component_answer component_coded written on_outcome component_text text utf8 pick
 case = (refl, refl, refl)
 
 -- ---- the parts of `parse_simple_selector_component`
@@ -76,8 +107,8 @@ unfoldable pub attr_value_of : List ℕ → Parsed (List ℕ)
 attr_value_of t = parsed.or_else (closed_by t (quoted_of t)) (closed_by t (ident_of t))
 
 -- the answer where a name of so many bytes has a value or none behind its `=`, which stands at a place
-unfoldable pub equal_answer : Parsed (List ℕ) → ℕ → ℕ → Result (Option Component) Panic
-equal_answer p at name = on_parsed p (λ n v. Ok (Some (record { taken = at + 1 + n; kind = attribute_equal_kind; first = name; second = length v }))) (Ok None)
+unfoldable pub equal_answer : Parsed (List ℕ) → ℕ → ℕ → Option (Taken Component)
+equal_answer p at name = on_parsed p (λ n v. Some (record { taken = at + 1 + n; value = code.AttributeEqual name (length v) })) None
 
 -- the store: the value stands behind the name, or the name is wiped
 unfoldable pub equal_store : Parsed (List ℕ) → ℕ → ℕ → List ℕ → List ℕ

@@ -1,17 +1,32 @@
--- Components as the code has them: by the numbers of their rows.
-use Rattle.std.specs.Prelude.{ℕ, ◌+◌, ◌*◌, ◌-◌, Bool, false, Option, Some, None, List, [], ◌∷◌, get_or}
+-- Components as the code has them: their texts, their rows, and the order in which they are read.
+use Rattle.std.specs.Prelude.{ℕ, ◌+◌, ◌*◌, ◌-◌, Bool, true, false, Option, Some, None, List, [], ◌∷◌, get_or}
 use Rattle.combinators.specs.Choice.{pick, is}
 use Rattle.lexer.specs.Name.{ident_of}
-use Rattle.syntax.specs.RuleLayout.{component_width, component_kind_at, nth_kind, descendant_kind}
+use Rattle.syntax.specs.RuleLayout.{component_width, component_kind_at, descendant_kind}
 use Rattle.syntax.specs.Selector.{Component, element, PseudoElement, none, before, after}
+use Rattle.selectors.specs.ComponentAnswer.{columns_of}
+use Rattle.selectors.specs.declared.components.Component as component
+use Rattle.selectors.specs.declared.components.Component.TheVariants as variant
 use Rattle.selectors.specs.declared.selectors.PseudoElement as declared
 use Rattle.selectors.specs.declared.selectors.PseudoElement.TheVariants as code
 use Rattle.selectors.specs.Outcome.{Outcome, behind, parsed, or_else}
 use Rattle.selectors.specs.Selector.{component_of, body_of, is_descendant, without_first}
 
--- the bytes of the texts of a component of a kind and two numbers
-unfoldable pub text_length : ℕ → ℕ → ℕ → ℕ
-text_length k a b = pick (is k nth_kind) 0 (a + b)
+-- the bytes of a component's texts
+unfoldable pub text_length : component.Component → ℕ
+text_length variant.Star = 0
+text_length (variant.Class n) = n
+text_length (variant.Element n) = n
+text_length (variant.Hash n) = n
+text_length variant.Child = 0
+text_length variant.Descendant = 0
+text_length (variant.Nth a b) = 0
+text_length (variant.Attribute n) = n
+text_length (variant.AttributeEqual n m) = n + m
+
+-- whether it has a row, at the start of a selector or behind it: a blank at the start has none
+unfoldable pub has_row : Bool → component.Component → Bool
+has_row start d = pick start (pick (is (columns_of d).kind descendant_kind) false true) true
 
 -- ---- selectors in the order of the code
 -- the first component: a type selector where there is one, or else any

@@ -1,6 +1,6 @@
 // Attributes in square brackets, with a value or without. What an alternative wrote that then fails is wiped. That the store is clean is asked of
 // each reader, and kept by no type: it is so from a fill on, which goes on from reader to reader.
-ghost use Rattle.std.specs.Prelude.{◌≡◌, ◌≤◌, ◌<◌, ◌+◌, ◌-◌, length, drop};
+ghost use Rattle.std.specs.Prelude.{◌≡◌, ◌≤◌, ◌<◌, ◌+◌, ◌-◌, Ok, length, drop};
 ghost use Rattle.std.proofs.lemmas.List.Edits.{sets};
 ghost use Rattle.lexer.specs.Name.{ident_of, name_answer, name_text};
 ghost use Rattle.selectors.specs.Selector.{quoted_of, attr_of};
@@ -9,14 +9,13 @@ ghost use Rattle.syntax.specs.RuleLayout.{component_text};
 ghost use Rattle.selectors.specs.ComponentAnswer.{component_answer, closed_answer, closed_store, closed_by, attr_value_of, equal_answer, equal_store};
 ghost use Rattle.selectors.specs.Stores.{Clean};
 
-use crate::components::{Component, with_text};
-use crate::readings::Panic;
+use crate::components::Component;
 use combinators::bytes::byte_is;
 use combinators::stores::fill_part;
+use combinators::taken::Taken;
 use lexer::Written;
 use lexer::names::parse_ident;
 use lexer::tokens::{Token, parse_string_token};
-use syntax::rows::{ATTRIBUTE, ATTRIBUTE_EQUAL};
 
 // A quoted string that is no bad one.
 fn parse_quoted_string(s: &[u8], store: &mut [u8], fill: usize) -> Option<Written>
@@ -25,7 +24,7 @@ fn parse_quoted_string(s: &[u8], store: &mut [u8], fill: usize) -> Option<Writte
     ensures store_after { store.new ≡ sets store.old fill (name_text (quoted_of s.now)) }
 {
     let read = parse_string_token(s, store, fill)?;
-    let Token::String(length) = read.token else {
+    let Token::String(length) = read.value else {
         fill_part(store, fill, read.taken, 0);
         return None;
     };
@@ -71,7 +70,7 @@ fn parse_ident_value(s: &[u8], store: &mut [u8], fill: usize) -> Option<Written>
     closed(s, name, store, fill)
 }
 
-// A value up to its `]`: a quoted string, or else a name.
+// A value up to its `]`: a quoted string, or else a name. No or_else: its closure would take the store along, of which nothing would be known behind it.
 fn parse_attr_value(s: &[u8], store: &mut [u8], fill: usize) -> Option<Written>
     requires { Clean (length s.now) fill store.old }
     ensures value { result ≡ name_answer (attr_value_of s.now) }
@@ -90,7 +89,7 @@ fn parse_attr_equal(
     name: usize,
     store: &mut [u8],
     fill: usize,
-) -> Result<Option<Component>, Panic>
+) -> Option<Taken<Component>>
     requires at_in_bounds { at < length s.now }
     requires clean { Clean (length s.now - (at + 1)) (fill + name) store.old }
     ensures value { result ≡ equal_answer (attr_value_of (drop (at + 1) s.now)) at name }
@@ -98,35 +97,34 @@ fn parse_attr_equal(
 {
     let Some(value) = parse_attr_value(&s[at + 1..], store, fill + name) else {
         fill_part(store, fill, name, 0);
-        return Ok(None);
+        return None;
     };
-    Ok(Some(Component {
+    Some(Taken {
         taken: at + 1 + value.taken,
-        kind: ATTRIBUTE_EQUAL,
-        first: name,
-        second: value.length,
-    }))
+        value: Component::AttributeEqual(name, value.length),
+    })
 }
 
-// A name in square brackets, with a value or without.
-pub fn parse_attr(s: &[u8], store: &mut [u8], fill: usize) -> Result<Option<Component>, Panic>
+// A name in square brackets, with a value or without. The `[` is passed by a place and not stripped: what stands behind the name is asked for by places in `s`.
+pub fn parse_attr(s: &[u8], store: &mut [u8], fill: usize) -> Option<Taken<Component>>
     requires { Clean (length s.now) fill store.old }
-    ensures value { result ≡ component_answer (attr_of s.now) }
+    ensures value { Ok result ≡ component_answer (attr_of s.now) }
     ensures store_after { store.new ≡ sets store.old fill (written component_text (attr_of s.now)) }
 {
     if !byte_is(s, 0, b'[') {
-        return Ok(None);
+        return None;
     }
-    let Some(name) = parse_ident(&s[1..], store, fill) else {
-        return Ok(None);
-    };
+    let name = parse_ident(&s[1..], store, fill)?;
     let at = 1 + name.taken;
     if byte_is(s, at, b']') {
-        return Ok(Some(with_text(at + 1, ATTRIBUTE, name.length)));
+        return Some(Taken {
+            taken: at + 1,
+            value: Component::Attribute(name.length),
+        });
     }
     if byte_is(s, at, b'=') {
         return parse_attr_equal(s, at, name.length, store, fill);
     }
     fill_part(store, fill, name.length, 0);
-    Ok(None)
+    None
 }

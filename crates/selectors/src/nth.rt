@@ -2,10 +2,10 @@
 // as -2v-1.
 ghost use Rattle.std.specs.Prelude.{◌≡◌, ◌≤◌, length};
 ghost use Rattle.syntax.specs.Signed.{signed_number};
-ghost use Rattle.selectors.specs.Selector.{sign_taken, signed, greatest, both_of, just_a, just_b, nth_of, nth_args_of};
+ghost use Rattle.selectors.specs.Selector.{signed, greatest, both_of, just_a, just_b, nth_of, nth_args_of};
 ghost use Rattle.selectors.specs.NthAnswer.{nth_answer, converted_answer, integer_of};
 
-use crate::readings::Panic;
+use crate::readings::{Panic, moved};
 use combinators::bytes::{byte_is, starts_with};
 use lexer::numbers::{parse_integer, parse_sign};
 use lexer::whitespace::skip_from;
@@ -28,7 +28,7 @@ struct SignedInteger {
 }
 
 // The greatest number of `i32`, which the crate converts to.
-const GREATEST: u32 = 2147483647;
+const GREATEST: u32 = i32::MAX as u32;
 
 const EVEN: [u8; 4] = *b"even";
 
@@ -40,14 +40,6 @@ const ZERO: u32 = 0;
 const ONE: u32 = 2;
 
 const TWO: u32 = 4;
-
-// A sign or none.
-fn opt_sign(s: &[u8]) -> usize
-    ensures value { result ≡ sign_taken s.now }
-    ensures upper_bound { result ≤ length s.now }
-{
-    parse_sign(s)
-}
 
 // The number `v` with a minus or without.
 fn signed_number(v: u32, minus: bool) -> u32
@@ -77,7 +69,7 @@ fn signed_integer(s: &[u8]) -> SignedInteger
     ensures value { result ≡ integer_of s.now }
     ensures taken_in_bounds { result.taken ≤ length s.now }
 {
-    let sign = opt_sign(s);
+    let sign = parse_sign(s);
     let taken = sign + parse_integer(&s[sign..]);
     let minus = byte_is(s, 0, b'-');
     let value = converted(&s[sign..taken], minus);
@@ -167,7 +159,7 @@ fn parse_nth(s: &[u8]) -> Result<Option<Nth>, Panic>
     just_b(s)
 }
 
-// The arguments in brackets, with white space or none before and behind.
+// The arguments in brackets, with white space or none before and behind. The '(' is passed by a place and not stripped: what follows goes by places in `s`.
 pub fn parse_nth_child_args(s: &[u8]) -> Result<Option<Nth>, Panic>
     ensures { result ≡ nth_answer (nth_args_of s.now) }
 {
@@ -175,11 +167,8 @@ pub fn parse_nth_child_args(s: &[u8]) -> Result<Option<Nth>, Panic>
         return Ok(None);
     }
     let start = skip_from(s, 1);
-    // `map_err` would do, but no proof reaches what its closure ensures
-    let nth = match parse_nth(&s[start..]) {
-        Ok(Some(nth)) => nth,
-        Ok(None) => return Ok(None),
-        Err(panic) => return Err(panic.behind(start)),
+    let Some(nth) = moved(parse_nth(&s[start..]), start)? else {
+        return Ok(None);
     };
     let end = skip_from(s, start + nth.taken);
     if !byte_is(s, end, b')') {

@@ -1,5 +1,5 @@
 // What readers of selectors, rules and sheets answer, and how what they wrote is taken back.
-ghost use Rattle.std.specs.Prelude.{◌≡◌, ◌+◌, ◌^◌, ◌<◌};
+ghost use Rattle.std.specs.Prelude.{◌≡◌, ◌+◌, ◌^◌, ◌<◌, Ok, Err, IfErr, MatchResult};
 ghost use Rattle.combinators.specs.Lent.{SameStores, SameWork};
 ghost use Rattle.combinators.specs.Store.{wiped};
 
@@ -34,7 +34,16 @@ impl Panic {
     }
 }
 
-// Zeros again where rows and texts were written, of which nothing is kept.
+// What was answered of the part of a text that starts at its byte `n`, told of the whole: a panic's place is moved.
+pub fn moved<T>(answer: Result<T, Panic>, n: usize) -> Result<T, Panic>
+    requires { IfErr answer (λ panic. n + panic.place < 2 ^ 64) }
+    ensures { MatchResult answer (λ read. result ≡ Ok read) (λ panic. result ≡ Err (record { place = n + panic.place })) }
+{
+    answer.map_err(|panic| panic.behind(n))
+}
+
+// Zeros again where rows and texts were written, of which nothing is kept. What is taken back is told by its places and lengths: a reader that stops has
+// counted, and has no Read yet.
 pub fn take_back(stores: &mut Stores<'_>, place: usize, numbers: usize, fill: usize, text: usize)
     ensures same { SameStores stores.old stores.new }
     ensures work_unchanged { SameWork stores.old stores.new }

@@ -36,14 +36,7 @@ pub fn parse_selectors(
     // no `?`: what was written before is taken back
     loop {
         match parse_selector(&s[next..], stores, place + numbers, fill + text) {
-            Ok(None) => {
-                return Ok(Read {
-                    taken,
-                    count,
-                    numbers,
-                    text,
-                });
-            }
+            Ok(None) => break,
             Err(panic) => {
                 take_back(stores, place, numbers, fill, text);
                 return Err(panic.behind(next));
@@ -54,15 +47,16 @@ pub fn parse_selectors(
                 numbers += selector.numbers;
                 text += selector.text;
                 if !byte_is(s, taken, b',') {
-                    return Ok(Read {
-                        taken,
-                        count,
-                        numbers,
-                        text,
-                    });
+                    break;
                 }
                 next = skip_from(s, taken + 1);
             }
         }
     }
+    Ok(Read {
+        taken,
+        count,
+        numbers,
+        text,
+    })
 }

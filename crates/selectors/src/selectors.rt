@@ -1,26 +1,28 @@
 // Selectors: components as long as they read, and `parse_selector`. Rows go to the stores' rules from `place` on, texts to their texts from `fill` on; both
 // are zero there, and stay so where nothing is read. The room is asked of each reader, by its own text,
 // and `place` and `fill` stand beside the stores: they go on from what was read to what is read next.
-ghost use Rattle.std.specs.Prelude.{◌≡◌, true, false, [], ◌∷◌, ◌+◌, ◌-◌, ◌*◌, ◌^◌, ◌<◌, length};
+ghost use Rattle.std.specs.Prelude.{◌≡◌, [], ◌+◌, ◌-◌, ◌*◌, ◌^◌, ◌<◌, length};
 ghost use Rattle.std.proofs.lemmas.List.Edits.{sets};
 ghost use Rattle.combinators.specs.Choice.{pick, is};
 ghost use Rattle.combinators.specs.Lent.{SameStores, SameWork};
 ghost use Rattle.combinators.specs.Store.{wiped};
-ghost use Rattle.syntax.specs.RuleLayout.{component_width, descendant_kind, component_text, component_rows, component_texts, selector_head, selector_row, selector_text, pseudo_number};
+ghost use Rattle.syntax.specs.RuleLayout.{component_width, component_text, component_rows, component_texts, selector_head, selector_row, selector_text, pseudo_number};
 ghost use Rattle.syntax.specs.Writing.{ComponentFits};
 ghost use Rattle.selectors.specs.Selector.{selector_of, pseudo_of, pseudo_taken};
-ghost use Rattle.selectors.specs.ComponentAnswer.{component_answer};
-ghost use Rattle.selectors.specs.Components.{pseudo_meant, text_length, next_of, started_of, blank_last};
+ghost use Rattle.selectors.specs.ComponentAnswer.{columns_of, row_of, component_answer};
+ghost use Rattle.selectors.specs.Components.{has_row, pseudo_meant, next_of, started_of, blank_last};
 ghost use Rattle.selectors.specs.Stores.{Clean};
 ghost use Rattle.selectors.specs.Reading.{reading, written, TextRoom, RowRoom};
 
 use crate::components::{Component, parse_element, parse_simple_selector_component};
 use crate::readings::{Panic, Read, take_back};
 use combinators::bytes::starts_with;
+use combinators::columns::Columns;
 use combinators::lent::Stores;
 use combinators::stores::{fill_part, number_at};
+use combinators::taken::Taken;
 use syntax::rows::{
-    COMPONENT_KIND, COMPONENT_WIDTH, DESCENDANT, NTH, PSEUDO_AFTER, PSEUDO_BEFORE, PSEUDO_NONE,
+    COMPONENT_KIND, COMPONENT_WIDTH, DESCENDANT, PSEUDO_AFTER, PSEUDO_BEFORE, PSEUDO_NONE,
     SELECTOR_HEAD,
 };
 use syntax::writers::{put_component, put_selector_head};
@@ -36,65 +38,43 @@ pub enum PseudoElement {
     After,
 }
 
-// A pseudo element or none, and the bytes that it takes.
-#[derive(Clone, Copy, Debug, PartialEq, Eq)]
-pub struct PseudoRead {
-    pub taken: usize,
-    pub pseudo: Option<PseudoElement>,
-}
-
-// The bytes of a component's texts.
-#[tactic(auto, unfolding(crate::specs::Components::text_length, combinators::specs::Choice::pick, combinators::specs::Choice::is))]
-fn text_length(kind: u32, first: usize, second: usize) -> usize
-    requires { text_length kind first second < 2 ^ 64 }
-    ensures { result ≡ text_length kind first second }
-{
-    if kind == NTH { 0 } else { first + second }
-}
-
-// The next component, `start` bytes from the start of a selector: there a type selector if there is one, or else any.
+// The next component: at the start of a selector a type selector if there is one, or else any. No or_else: its closure would take the store along, of
+// which nothing would be known behind it.
 fn parse_next(
     s: &[u8],
-    start: usize,
+    at_start: bool,
     store: &mut [u8],
     fill: usize,
-) -> Result<Option<Component>, Panic>
+) -> Result<Option<Taken<Component>>, Panic>
     requires { Clean (length s.now) fill store.old }
-    ensures value { result ≡ component_answer (next_of (is start 0) s.now) }
-    ensures store_after { store.new ≡ sets store.old fill (written component_text (next_of (is start 0) s.now)) }
+    ensures value { result ≡ component_answer (next_of at_start s.now) }
+    ensures store_after { store.new ≡ sets store.old fill (written component_text (next_of at_start s.now)) }
 {
-    if start > 0 {
+    if !at_start {
         return parse_simple_selector_component(s, store, fill);
     }
-    match parse_element(s, store, fill)? {
-        Some(element) => Ok(Some(element)),
-        None => parse_simple_selector_component(s, store, fill),
+    if let Some(element) = parse_element(s, store, fill) {
+        return Ok(Some(element));
     }
+    parse_simple_selector_component(s, store, fill)
 }
 
-// Whether a component of a kind has a row, `start` bytes from the start of a selector: there a blank is dropped.
-#[tactic(auto, unfolding(combinators::specs::Choice::pick, combinators::specs::Choice::is))]
-fn is_kept(start: usize, kind: u32) -> bool
-    ensures { result ≡ pick (is start 0) (pick (is kind descendant_kind) false true) true }
+// Whether a component has a row: at the start of a selector a blank is dropped.
+#[tactic(auto, unfolding(crate::specs::Components::has_row, crate::specs::ComponentAnswer::columns_of, combinators::specs::Choice::pick, combinators::specs::Choice::is))]
+fn is_kept(at_start: bool, component: Component) -> bool
+    ensures { result ≡ has_row at_start component }
 {
-    start > 0 || kind != DESCENDANT
+    !at_start || !matches!(component, Component::Descendant)
 }
 
 // Puts down the row of a component where it is kept: `fill` is a number of the row, `place` where the row goes.
 #[tactic(auto, unfolding(combinators::specs::Choice::pick))]
 fn put_kept(kept: bool, component: Component, fill: usize, rules: &mut [u32], place: usize)
-    requires { ComponentFits component.first component.second fill }
-    ensures { rules.new ≡ sets rules.old place (pick kept (component.kind ∷ fill ∷ component.first ∷ component.second ∷ []) []) }
+    requires { ComponentFits (columns_of component).first (columns_of component).second fill }
+    ensures { rules.new ≡ sets rules.old place (pick kept (row_of fill component) []) }
 {
     if kept {
-        put_component(
-            component.kind,
-            component.first,
-            component.second,
-            fill,
-            rules,
-            place,
-        );
+        put_component(Columns::from(component), fill, rules, place);
     }
 }
 
@@ -118,28 +98,28 @@ fn parse_body(
     let mut count = 0;
     let mut numbers = 0;
     let mut text = 0;
+    // no `?`: what was written before is taken back
     loop {
         let at = fill + text;
-        match parse_next(&s[taken..], taken, stores.texts, at) {
-            Ok(Some(component)) => {
-                let kept = is_kept(taken, component.kind);
-                put_kept(kept, component, at, stores.rules, place + numbers);
-                taken += component.taken;
+        let at_start = taken == 0;
+        match parse_next(&s[taken..], at_start, stores.texts, at) {
+            Ok(Some(read)) => {
+                let kept = is_kept(at_start, read.value);
+                put_kept(kept, read.value, at, stores.rules, place + numbers);
+                taken += read.taken;
                 let rows = usize::from(kept);
                 count += rows;
                 numbers += COMPONENT_WIDTH * rows;
-                text += text_length(component.kind, component.first, component.second);
+                text += read.value.text_length();
             }
             Ok(None) => {
-                if taken == 0 {
-                    return Ok(None);
-                }
-                return Ok(Some(Read {
+                let read = Read {
                     taken,
                     count,
                     numbers,
                     text,
-                }));
+                };
+                return Ok((taken > 0).then_some(read));
             }
             Err(panic) => {
                 take_back(stores, place, numbers, fill, text);
@@ -167,24 +147,24 @@ fn drop_blank(rules: &mut [u32], place: usize, count: usize) -> usize
 }
 
 // Reads a pseudo element or none.
-fn parse_pseudo_element(s: &[u8]) -> PseudoRead
-    ensures { (result.taken ≡ pseudo_taken (pseudo_of s.now)) × (pseudo_meant result.pseudo ≡ pseudo_of s.now) }
+fn parse_pseudo_element(s: &[u8]) -> Taken<Option<PseudoElement>>
+    ensures { (result.taken ≡ pseudo_taken (pseudo_of s.now)) × (pseudo_meant result.value ≡ pseudo_of s.now) }
 {
     if starts_with(s, &BEFORE) {
-        return PseudoRead {
+        return Taken {
             taken: BEFORE.len(),
-            pseudo: Some(PseudoElement::Before),
+            value: Some(PseudoElement::Before),
         };
     }
     if starts_with(s, &AFTER) {
-        return PseudoRead {
+        return Taken {
             taken: AFTER.len(),
-            pseudo: Some(PseudoElement::After),
+            value: Some(PseudoElement::After),
         };
     }
-    PseudoRead {
+    Taken {
         taken: 0,
-        pseudo: None,
+        value: None,
     }
 }
 
@@ -193,12 +173,10 @@ fn parse_pseudo_element(s: &[u8]) -> PseudoRead
 fn pseudo_number(pseudo: Option<PseudoElement>) -> u32
     ensures { result ≡ pseudo_number (pseudo_meant pseudo) }
 {
-    let Some(element) = pseudo else {
-        return PSEUDO_NONE;
-    };
-    match element {
-        PseudoElement::Before => PSEUDO_BEFORE,
-        PseudoElement::After => PSEUDO_AFTER,
+    match pseudo {
+        None => PSEUDO_NONE,
+        Some(PseudoElement::Before) => PSEUDO_BEFORE,
+        Some(PseudoElement::After) => PSEUDO_AFTER,
     }
 }
 
@@ -222,7 +200,7 @@ pub fn parse_selector(
     };
     let kept = drop_blank(stores.rules, place + SELECTOR_HEAD, body.count);
     let pseudo = parse_pseudo_element(&s[body.taken..]);
-    put_selector_head(kept, pseudo_number(pseudo.pseudo), stores.rules, place);
+    put_selector_head(kept, pseudo_number(pseudo.value), stores.rules, place);
     Ok(Some(Read {
         taken: body.taken + pseudo.taken,
         count: 1,

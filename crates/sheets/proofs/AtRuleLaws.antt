@@ -7,7 +7,7 @@ use native.Mathlib.Omega.{arith}
 use lib.ListN.{length, get_or, take, drop, length-drop}
 use lib.Seq.{sets}
 use Rattle.selectors.proofs.ReadingLaws as readings
-use Rattle.selectors.proofs.ReadingLaws.{Reading}
+use Rattle.selectors.specs.declared.readings.Read.{Read}
 use Rattle.std.specs.Prelude.{Some, None, Ok, Option, Result, Err}
 use Rattle.combinators.specs.Ascii as ascii
 use Rattle.combinators.specs.Choice.{pick, is}
@@ -98,11 +98,11 @@ module _ (s : List ℕ) (n : ℕ) (tokens brackets store : List ℕ) (fill : ℕ
         record { balanced = p.0; taken = ap (λ r. r.taken) p.1; count = ap (λ r. r.count) p.1; text = ap (λ r. r.text) p.1 }
 
     -- and where a bracket is wrong
-    unsaid : {got : Unbalanced} → a ≡ Err got → Said stated false got.taken got.count got.text
+    unsaid : {got : Unbalanced} → a ≡ Err got → Said stated false got.0.taken got.0.count got.0.text
     unfolding left statement_answer
     unsaid {got} ea =
         let p = unsaid-by stated.balanced _ _ got (sym ea ∙ ap (λ (l : Left). l.answer) left_is) in
-        record { balanced = p.0; taken = ap (λ r. r.taken) p.1; count = ap (λ r. r.count) p.1; text = ap (λ r. r.text) p.1 }
+        record { balanced = p.0; taken = ap (λ r. r.0.taken) p.1; count = ap (λ r. r.0.count) p.1; text = ap (λ r. r.0.text) p.1 }
 
     module _ {v : Bool} {m k t : ℕ} (q : Said stated v m k t) where
       -- the count of tokens fits
@@ -131,8 +131,8 @@ module _ (s : List ℕ) (n : ℕ) (tokens brackets store : List ℕ) (fill : ℕ
           p ∙ rw (q.text, store_is) (zeros-back store fill o.store-zeros (texts_of stated.tokens) (length (texts_of stated.tokens)) (omega arith))
 
     -- what the function ensures
-    abbrev pub Ended : Reading → List ℕ → List ℕ → List ℕ → Type 0
-    Ended r x' b' z' = (r ≡ reading length (rule_rows fill) rule_texts (statement_end s n)) × ((x' ≡ tokens) × ((b' ≡ brackets) × (z' ≡ store)))
+    abbrev pub Ended : Option Read → List ℕ → List ℕ → List ℕ → Type 0
+    Ended r x' b' z' = (Ok r ≡ reading length (rule_rows fill) rule_texts (statement_end s n)) × ((x' ≡ tokens) × ((b' ≡ brackets) × (z' ≡ store)))
 
     -- the statement ends: its brackets match
     module _ {got : declared.Statement} (ea : a ≡ Ok got) where
@@ -145,7 +145,7 @@ module _ (s : List ℕ) (n : ℕ) (tokens brackets store : List ℕ) (fill : ℕ
       some_end = end-within (said ea)
 
       -- all is as before, and nothing is kept of it
-      pub some-ended : {x' b' z' : List ℕ} → x' ≡ wiped 0 (token_width * got.count) x → b' ≡ wiped 0 got.count b → z' ≡ wiped fill got.text z → Ended (Ok (Some (readings.sized (n + got.taken) 0 0 0))) x' b' z'
+      pub some-ended : {x' b' z' : List ℕ} → x' ≡ wiped 0 (token_width * got.count) x → b' ≡ wiped 0 got.count b → z' ≡ wiped fill got.text z → Ended (Some (readings.sized (n + got.taken) 0 0 0)) x' b' z'
       unfolding reading on_outcome statement_end pick rule_rows rule_texts rows_many texts_many
       some-ended ex eb ez =
           let q = said ea in
@@ -154,11 +154,11 @@ module _ (s : List ℕ) (n : ℕ) (tokens brackets store : List ℕ) (fill : ℕ
     -- a bracket is wrong
     module _ {got : Unbalanced} (ea : a ≡ Err got) where
       -- the tokens before it have room
-      pub none-count : token_width * got.count < 2 ^ 64
+      pub none-count : token_width * got.0.count < 2 ^ 64
       none-count = count_fits (unsaid ea)
 
       -- all is as before, and it does not read
-      pub none-ended : {x' b' z' : List ℕ} → x' ≡ wiped 0 (token_width * got.count) x → b' ≡ wiped 0 got.count b → z' ≡ wiped fill got.text z → Ended (Ok None) x' b' z'
+      pub none-ended : {x' b' z' : List ℕ} → x' ≡ wiped 0 (token_width * got.0.count) x → b' ≡ wiped 0 got.0.count b → z' ≡ wiped fill got.0.text z → Ended None x' b' z'
       unfolding reading on_outcome statement_end pick
       none-ended ex eb ez =
           let q = unsaid ea in
@@ -167,16 +167,16 @@ module _ (s : List ℕ) (n : ℕ) (tokens brackets store : List ℕ) (fill : ℕ
 -- ---- `parse_at_rule`: an '@', a name and the end of the statement; the stores are as they were
 module _ (s tokens brackets store : List ℕ) (fill : ℕ) (o : WorkRoom s tokens brackets store fill) where
   -- what the function ensures
-  abbrev pub Told : Reading → List ℕ → List ℕ → List ℕ → Type 0
-  Told r x b z = (r ≡ reading length (rule_rows fill) rule_texts (at_rule_of s)) × ((x ≡ tokens) × ((b ≡ brackets) × (z ≡ store)))
+  abbrev pub Told : Option Read → List ℕ → List ℕ → List ℕ → Type 0
+  Told r x b z = (Ok r ≡ reading length (rule_rows fill) rule_texts (at_rule_of s)) × ((x ≡ tokens) × ((b ≡ brackets) × (z ≡ store)))
 
   -- of the end of its statement
-  abbrev Told-end : ℕ → List ℕ → Reading → List ℕ → List ℕ → List ℕ → Type 0
-  Told-end n z' r x b z = (r ≡ reading length (rule_rows fill) rule_texts (statement_end s n)) × ((x ≡ tokens) × ((b ≡ brackets) × (z ≡ z')))
+  abbrev Told-end : ℕ → List ℕ → Option Read → List ℕ → List ℕ → List ℕ → Type 0
+  Told-end n z' r x b z = (Ok r ≡ reading length (rule_rows fill) rule_texts (statement_end s n)) × ((x ≡ tokens) × ((b ≡ brackets) × (z ≡ z')))
 
   module _ {a : ℕ} (ea : a ≡ skip_whitespace s) {t : Bool} (et : t ≡ is (get_or s a 0) ascii.commercial_at) where
     -- without `@` nothing is read
-    pub at-missing : t ≡ false → Told (Ok None) tokens brackets store
+    pub at-missing : t ≡ false → Told None tokens brackets store
     unfolding at_rule_of reading on_outcome pick
     at-missing f = (rw (← ea, ← et, f), (refl, (refl, refl)))
 
@@ -198,7 +198,7 @@ module _ (s tokens brackets store : List ℕ) (fill : ℕ) (o : WorkRoom s token
 
         module _ {x : Option Written} (ex : x ≡ name_answer (ident_of behind-at)) {z : List ℕ} (ez : z ≡ sets store fill (name_text (ident_of behind-at))) where
           -- without a name behind `@` nothing is read
-          pub name-missing : x ≡ None → Told (Ok None) tokens brackets z
+          pub name-missing : x ≡ None → Told None tokens brackets z
           unfolding reading on_outcome on_parsed name_text
           name-missing q =
               let p = unnamed-from (ident_of behind-at) (sym q ∙ ex) in
@@ -235,6 +235,6 @@ module _ (s tokens brackets store : List ℕ) (fill : ℕ) (o : WorkRoom s token
               name-room = rw name-wiped o
 
               -- and all to the end of the statement
-              pub name-told : {r : Reading} {x₂ b₂ z₂ : List ℕ} → Told-end (i + n) z' r x₂ b₂ z₂ → Told r x₂ b₂ z₂
+              pub name-told : {r : Option Read} {x₂ b₂ z₂ : List ℕ} → Told-end (i + n) z' r x₂ b₂ z₂ → Told r x₂ b₂ z₂
               unfolding on_parsed
               name-told e = (e.0 ∙ rw (rule-is, named.reads), (e.1.0, (e.1.1.0, e.1.1.1 ∙ name-wiped)))

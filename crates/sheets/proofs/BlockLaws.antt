@@ -1,17 +1,16 @@
 -- The block of a rule: '{', declarations, ';' or none, '}'.
-use mathlib.Core.Path.{◌≡◌, refl, sym, ap, subst, ◌∙◌}
+use mathlib.Core.Path.{◌≡◌, refl, sym, ap, ◌∙◌}
 use mathlib.Core.Bool.{Bool, true, false}
 use mathlib.Core.List.{List, [], ◌∷◌, map}
 use Prim.Native.Nat.{ℕ, ◌+◌, ◌-◌, ◌*◌, ◌^◌, ◌≤◌, ◌<◌}
 use native.Mathlib.Omega.{arith}
 use lib.ListN.{length, get_or, take, drop, length-drop, length-map}
 use lib.Seq.{sets}
-use Rattle.std.specs.Prelude.{Option, Some, None}
+use Rattle.std.specs.Prelude.{Option, Some, None, Ok}
 use Rattle.combinators.specs.Ascii as ascii
 use Rattle.combinators.specs.Choice.{pick, is}
 use Rattle.combinators.specs.Store.{wiped}
 use Rattle.combinators.proofs.Lists.{rest, byte-there}
-use Rattle.combinators.proofs.Rules.{pick-holds}
 use Rattle.lexer.specs.Whitespace.{skip_whitespace}
 use Rattle.syntax.specs.Declaration.{Decl, color, background_color, height, max_height, overflow, overflow_y, display, white_space, content, unknown, Declaration}
 use Rattle.syntax.specs.Layout.{declaration_width, declaration_rows, declaration_texts}
@@ -21,17 +20,13 @@ use Rattle.declarations.specs.Rules.{Rules, starts_at, declarations_of}
 use Rattle.declarations.specs.Leaving.{kept, Leaves, leaves, used_rules, rules_answer, rules_of, rules_left}
 use Rattle.declarations.specs.declared.rules.RulesRead.{RulesRead}
 use Rattle.declarations.proofs.StyleAttribute.{bounded}
-use Rattle.selectors.specs.Outcome.{Outcome, reads, fails, panics, on_outcome, behind}
+use Rattle.selectors.specs.Outcome.{reads, fails, on_outcome, behind}
 use Rattle.sheets.specs.Sheet.{spaced, before_end, block_of}
-use Rattle.sheets.specs.Rules.{block_at, block_answer, BlockRoom}
-use Rattle.sheets.specs.declared.rulesets.Block.{Block}
-use Rattle.selectors.specs.Reading.{written}
+use Rattle.selectors.specs.declared.readings.Read.{Read}
+use Rattle.sheets.specs.Rules.{block_at, BlockRoom}
+use Rattle.selectors.specs.Reading.{reading, written}
 use Rattle.combinators.proofs.ZeroLaws.{zeros-back}
-use Rattle.selectors.proofs.ReadingLaws.{ReadAs}
-
--- the place behind a block and its sizes, as they are answered
-abbrev pub block_sizes : ℕ → ℕ → ℕ → ℕ → Block
-block_sizes end count numbers text = record { end = end; count = count; numbers = numbers; text = text }
+use Rattle.selectors.proofs.ReadingLaws.{sized}
 
 -- ---- `parse_block`: the place behind a ';', if there is one, and behind white space
 module _ (s : List ℕ) (e : ℕ) (h : e ≤ length s) {t : Bool} (et : t ≡ is (get_or s e 0) ascii.semicolon) where
@@ -93,14 +88,14 @@ kept-starts at d (x ∷ ds) =
 module _ (s : List ℕ) (n at : ℕ) (rules : List ℕ) (place : ℕ) (tokens brackets store : List ℕ) (fill : ℕ)
     (o : BlockRoom s n at rules place tokens brackets store fill) where
   -- what the function ensures
-  abbrev pub Blocked : Option Block → List ℕ → List ℕ → List ℕ → List ℕ → Type 0
-  Blocked r y x b z = (r ≡ block_answer fill (block_at at s n))
+  abbrev pub Blocked : Option Read → List ℕ → List ℕ → List ℕ → List ℕ → Type 0
+  Blocked r y x b z = (Ok r ≡ reading length (declaration_rows fill) declaration_texts (block_at at s n))
       × ((y ≡ sets rules place (written (declaration_rows fill) (block_at at s n)))
       × ((x ≡ tokens) × ((b ≡ brackets) × (z ≡ sets store fill (written declaration_texts (block_at at s n))))))
 
   -- where it does not read
   failed : block_of s n ≡ fails → {y x b z : List ℕ} → y ≡ rules → x ≡ tokens → b ≡ brackets → z ≡ store → Blocked None y x b z
-  unfolding block_at behind block_answer written on_outcome
+  unfolding block_at behind reading written on_outcome
   failed e ey ex eb ez = (rw e, (ey ∙ rw e, (ex, (eb, ez ∙ rw e))))
 
   module _ {w : ℕ} (ew : w ≡ n + skip_whitespace (drop n s)) {t : Bool} (et : t ≡ is (get_or s w 0) ascii.left_curly_bracket) where
@@ -219,47 +214,6 @@ module _ (s : List ℕ) (n at : ℕ) (rules : List ℕ) (place : ℕ) (tokens br
                     rw (← ew, ← et, f, ← ed, ← end-at, ← eu, v, ← ei, z)
 
                 -- and its rows and texts are left
-                pub block_read : Blocked (Some (block_sizes i r.count (declaration_width * r.count) r.text)) y x b z
-                unfolding block_answer written on_outcome
+                pub block_read : Blocked (Some (sized i r.count (declaration_width * r.count) r.text)) y x b z
+                unfolding reading written on_outcome
                 block_read = (rw (block-is, length-declarations fill ds, count-is, text-is), (rules-are ∙ rw block-is, (tokens-are, (brackets-are, store_is ∙ rw block-is))))
-
--- ---- what the answer of `parse_block` says
--- an answer with a block: declarations were read, and the answer says their sizes
-pub block-by : (f : ℕ) (o : Outcome (List Declaration)) (got : Block) → Some got ≡ block_answer f o
-    → ReadAs length (declaration_rows f) declaration_texts o got.end got.count got.numbers got.text
-unfolding block_answer on_outcome
-block-by f (reads m ds) got e =
-    let q : got.end ≡ m = cc in
-    record { value = ds; reads-it = rw q; counts = cc; rows = cc; texts = cc }
-block-by f fails got e = absurd (let z : ◌≡◌ {A = ℕ} 0 1 = cc in omega arith)
-block-by f (panics p) got e = absurd (let z : ◌≡◌ {A = ℕ} 0 1 = cc in omega arith)
-
--- an outcome where the crate does not panic
-abbrev Calm : Outcome (List Declaration) → Type 0
-Calm (reads n ds) = Unit
-Calm fails = Unit
-Calm (panics p) = ⊥
-
--- moving the starts of declarations adds no panic
-calm-moved : (at : ℕ) (o : Outcome (List Declaration)) → Calm o → Calm (behind 0 o (map (starts_at at)))
-unfolding behind on_outcome
-calm-moved at (reads n ds) h = tt
-calm-moved at fails h = tt
-calm-moved at (panics p) h = h
-
--- reading a block does not panic
-calm-block : (s : List ℕ) (n : ℕ) → Calm (block_of s n)
-unfolding block_of
-calm-block s n = pick-holds Calm _ _ _ (λ _. pick-holds Calm _ _ _ (λ _. tt) (λ _. tt)) (λ _. tt)
-
--- the crate never panics in a block
-pub block-never-panics : (at : ℕ) (s : List ℕ) (n p : ℕ) → block_at at s n ≡ panics p → ⊥
-unfolding block_at
-block-never-panics at s n p e = subst Calm e (calm-moved at (block_of s n) (calm-block s n))
-
--- so where there is none, none reads
-pub no-block-by : (f : ℕ) (o : Outcome (List Declaration)) → ((p : ℕ) → o ≡ panics p → ⊥) → None ≡ block_answer f o → o ≡ fails
-unfolding block_answer on_outcome
-no-block-by f (reads m ds) never e = absurd (let z : ◌≡◌ {A = ℕ} 0 1 = cc in omega arith)
-no-block-by f fails never e = refl
-no-block-by f (panics p) never e = absurd (never p refl)

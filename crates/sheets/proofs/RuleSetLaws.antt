@@ -21,14 +21,13 @@ use Rattle.declarations.specs.Rules.{starts_at}
 use Rattle.selectors.specs.Outcome.{Outcome, reads, fails, panics, on_outcome, behind}
 use Rattle.selectors.specs.SelectorList.{selectors_of}
 use Rattle.sheets.specs.Sheet.{block_of, ruleset_of, moved_by}
-use Rattle.sheets.specs.Rules.{block_at, block_answer, BlockRoom, RuleRoom}
-use Rattle.sheets.specs.declared.rulesets.Block.{Block}
+use Rattle.sheets.specs.Rules.{block_at, BlockRoom, RuleRoom}
+use Rattle.selectors.specs.declared.readings.Read.{Read}
 use Rattle.selectors.specs.Reading.{reading, written, TextRoom, RowRoom}
 use Rattle.selectors.proofs.AllLaws.{where-read, where-panics}
-use Rattle.selectors.proofs.ReadingLaws.{Reading, ManyReading, panic_at, sized, Left, LeftMany, left-reads, left-fails, left-panics, Found, found_as, found-many, nothing-as, panicked-many}
+use Rattle.selectors.proofs.ReadingLaws.{Reading, ManyReading, read_by, fails_by, panic_at, sized, Left, LeftMany, left-reads, left-fails, left-panics, Found, found_as, found-many, nothing-as, panicked-many}
 use Rattle.selectors.proofs.SelectorBounds.{SelectorsKeep, selectors-keep}
 use Rattle.selectors.proofs.SelectorLists.{selectors-never}
-use Rattle.sheets.proofs.BlockLaws.{block_sizes, block-by, no-block-by, block-never-panics}
 use Rattle.sheets.proofs.SheetBounds.{BlockKeeps, block-at-keeps}
 use Rattle.combinators.proofs.ZeroLaws.{zeros-later, zeros-behind, zeros-back}
 
@@ -208,7 +207,7 @@ module _ (s : List ℕ) (at : ℕ) (rules : List ℕ) (place : ℕ) (tokens brac
             ap (λ (q : Outcome RuleSet). behind 0 q (moved_by at)) (ruleset-is ∙ rw got.reads-it) ∙ moved-block at w ss (block_of s (w + n))
 
         -- what `parse_block` left: the declarations, written behind the selectors
-        module _ {q : Option Block} {y₂ x₂ b₂ z₂ : List ℕ} (e₂ : (q ≡ block_answer (fill + text) block)
+        module _ {q : Option Read} {y₂ x₂ b₂ z₂ : List ℕ} (e₂ : (Ok q ≡ reading length (declaration_rows (fill + text)) declaration_texts block)
             × ((y₂ ≡ sets y (place + rule_head + numbers) (written (declaration_rows (fill + text)) block))
             × ((x₂ ≡ tokens) × ((b₂ ≡ brackets) × (z₂ ≡ sets z (fill + text) (written declaration_texts block)))))) where
           -- the selectors are taken back, where nothing was written behind them
@@ -226,17 +225,17 @@ module _ (s : List ℕ) (at : ℕ) (rules : List ℕ) (place : ℕ) (tokens brac
           pub block-fails : q ≡ None → {y₃ z₃ : List ℕ} → y₃ ≡ wiped (place + rule_head) numbers y₂ → z₃ ≡ wiped fill text z₂ → Ruled (Ok None) y₃ x₂ b₂ z₃
           unfolding behind on_outcome
           block-fails hq ey₃ ez₃ =
-              let e = no-block-by (fill + text) block (block-never-panics at s (w + n)) (sym hq ∙ e₂.0) in
+              let e = fails_by length (declaration_rows (fill + text)) declaration_texts block (ap Ok (sym hq) ∙ e₂.0) in
               let n = nothing-as length (declaration_rows (fill + text)) declaration_texts block y (place + rule_head + numbers) z (fill + text) e e₂.1.0 e₂.1.1.1.1 in
               ruled (left-fails _ _ _ _ _ _ _ _ (meant_is ∙ rw e) (rules-back n.0 ey₃) (store-back n.1 ez₃)) e₂.1.1.0 e₂.1.1.1.0
 
           -- the block reads, up to its end
-          module _ {end declarations more kept : ℕ} (hq : q ≡ Some (block_sizes end declarations more kept)) where
+          module _ {end declarations more kept : ℕ} (hq : q ≡ Some (sized end declarations more kept)) where
             -- the declarations that were read, with their counts
             got₂ : Found length (declaration_rows (fill + text)) declaration_texts block y (place + rule_head + numbers) z (fill + text) y₂ z₂ end declarations more kept
             got₂ =
                 found_as length (declaration_rows (fill + text)) declaration_texts block y (place + rule_head + numbers) z (fill + text)
-                (block-by (fill + text) block (block_sizes end declarations more kept) (sym hq ∙ e₂.0)) e₂.1.0 e₂.1.1.1.1
+                (read_by length (declaration_rows (fill + text)) declaration_texts block (sized end declarations more kept) (ap Ok (sym hq) ∙ e₂.0)) e₂.1.0 e₂.1.1.1.1
 
             -- what stands behind it
             abbrev ds : List Declaration

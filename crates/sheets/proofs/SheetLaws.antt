@@ -9,10 +9,11 @@ use borrow.Author.Tests.{lt-ltb, le-ltb}
 use lib.ListN.{length, drop, replicate, length-replicate}
 use lib.Seq.{sets, sets-eq}
 use Rattle.selectors.proofs.ReadingLaws.{ManyReading, panic_at, sized}
-use Rattle.std.specs.Prelude.{Result, Ok, Err}
+use Rattle.std.specs.Prelude.{Ok, Err}
+use Rattle.std.proofs.lemmas.List.{drop-replicate}
 use Rattle.combinators.specs.Refusal.{refused_at, panic}
 use Rattle.combinators.specs.LeastLengths.{stores_suffice}
-use Rattle.combinators.specs.Store.{cleared, Zeros}
+use Rattle.combinators.specs.Store.{cleared}
 use Rattle.combinators.proofs.Cleared.{cleared-is}
 use Rattle.combinators.proofs.LeastLaws.{least}
 use Rattle.combinators.proofs.Rules.{pick_true, pick-false}
@@ -27,12 +28,10 @@ use Rattle.sheets.specs.SheetAnswer.{sheet_limit, refused_sheet, refusal_of, num
 use Rattle.selectors.proofs.AllLaws.{reads-no, behind-never, then_never}
 use Rattle.sheets.proofs.SheetBounds.{sheet-keeps}
 use Rattle.sheets.specs.declared.answers.SheetNumbers.{SheetNumbers}
-use Rattle.sheets.specs.declared.sheet.Sheet.{Sheet}
-use Rattle.sheets.specs.declared.sheet.SheetError.{SheetError}
 use Rattle.sheets.specs.declared.sheet.SheetError.TheVariants.{TooLong, ShortStore, NotUtf8, Panic}
 use Rattle.selectors.specs.declared.readings.Read.{Read}
 use Rattle.selectors.specs.declared.readings.Panic as readings
-use Rattle.combinators.proofs.ZeroLaws.{zeros-all}
+use Rattle.combinators.proofs.ZeroLaws.{clear-zeros}
 
 -- ---- zeros
 -- a store cleared throughout is as many zeros
@@ -41,18 +40,6 @@ all-cleared l =
     let e : length l - 0 ≡ length l = omega arith in
     cleared-is 0 l ∙ rw e refl
 
--- behind some zeros of a list of zeros are the others
-drop-zeros : (k n : ℕ) → drop {A = ℕ} k (replicate n 0) ≡ replicate (n - k) 0
-drop-zeros zero n =
-    let e : n - 0 ≡ n = omega arith in
-    rw e refl
-drop-zeros (suc k) zero =
-    let e : 0 - suc k ≡ 0 = omega arith in
-    rw e refl
-drop-zeros (suc k) (suc n) =
-    let e : suc n - suc k ≡ n - k = omega arith in
-    rw e (drop-zeros k n)
-
 -- what is stored at the start of a store that was cleared
 pub stored : (xs l : List ℕ) → length xs ≤ length l → sets (cleared 0 l) 0 xs ≡ padded xs (length l)
 unfolding padded
@@ -60,22 +47,18 @@ stored xs l h =
     let n = length l in
     let c : length (replicate {A = ℕ} n 0) ≡ n = length-replicate n 0 in
     ap (λ (r : List ℕ). sets r 0 xs) (all-cleared l) ∙ sets-eq xs (replicate n 0) 0 (omega arith)
-    ∙ ap (λ (k : ℕ). xs ++ drop k (replicate n 0)) (zero-add (length xs)) ∙ ap (λ (r : List ℕ). xs ++ r) (drop-zeros (length xs) n)
+    ∙ ap (λ (k : ℕ). xs ++ drop k (replicate n 0)) (zero-add (length xs)) ∙ ap (λ (r : List ℕ). xs ++ r) (drop-replicate (length xs) n 0)
 
 -- ---- reading a sheet for which the stores suffice
--- the sheet that an answer with its sizes stands for
-abbrev pub sheet_read : Read → Result Sheet SheetError
-sheet_read got = Ok (record { count = got.count; stop = got.taken; numbers = got.numbers; bytes = got.text })
-
 -- an answer with rules says the counts of the rules that were read
-answer-reads : (o : Outcome (List RuleSet)) (got : Read) → Ok got ≡ many_reading length (rule_rows 0) rule_texts o → numbers_of (sheet_read got) ≡ sheet_numbers o
+answer-reads : (o : Outcome (List RuleSet)) (got : Read) → Ok got ≡ many_reading length (rule_rows 0) rule_texts o → numbers_of (Ok got) ≡ sheet_numbers o
 unfolding many_reading sheet_numbers numbers_of on_outcome
 answer-reads (reads n rs) got e =
     let same : got ≡ sized n (length rs) (length (rule_rows 0 rs)) (length (rule_texts rs)) = cc in
-    ap (λ (r : Read). numbers_of (sheet_read r)) same
+    ap (λ (r : Read). numbers_of (Ok r)) same
 answer-reads fails got e =
     let same : got ≡ sized 0 0 0 0 = cc in
-    ap (λ (r : Read). numbers_of (sheet_read r)) same
+    ap (λ (r : Read). numbers_of (Ok r)) same
 answer-reads (panics p) got e = absurd (let z : ◌≡◌ {A = ℕ} 0 1 = cc in omega arith)
 
 -- where it panics, the answer has the byte where
@@ -92,10 +75,6 @@ left_by p q r s t = rw (p, q, r, s, t) refl
 
 module _ {s rules tokens brackets texts : List ℕ} (o : SheetLent s rules tokens brackets texts)
     {y x b z : List ℕ} (cy : y ≡ cleared 0 rules) (cx : x ≡ cleared 0 tokens) (cb : b ≡ cleared 0 brackets) (cz : z ≡ cleared 0 texts) where
-  -- a cleared store is zero from its start on
-  zeros_of : (l : List ℕ) → Zeros (cleared 0 l) 0
-  zeros_of l = rw (all-cleared l) (zeros-all (length l) 0)
-
   -- a cleared store is as long as it was
   long_of : (l : List ℕ) → length (cleared 0 l) ≡ length l
   long_of l = ap length (all-cleared l) ∙ length-replicate (length l) 0
@@ -105,14 +84,14 @@ module _ {s rules tokens brackets texts : List ℕ} (o : SheetLent s rules token
   room l =
       rw (cy, cx, cb, cz)
       (record {
-        rules-zeros = zeros_of rules;
+        rules-zeros = clear-zeros rules;
         for-rules = omega (arith, o.least.for-rules, long_of rules);
         row-bits = omega (arith, l, long_of rules);
         work =
             record {
-              tokens-zeros = zeros_of tokens;
-              brackets-zeros = zeros_of brackets;
-              store-zeros = zeros_of texts;
+              tokens-zeros = clear-zeros tokens;
+              brackets-zeros = clear-zeros brackets;
+              store-zeros = clear-zeros texts;
               for-tokens = omega (arith, o.least.for-tokens, long_of tokens);
               for-brackets = omega (arith, o.least.for-brackets, long_of brackets);
               for-texts = omega (arith, o.least.for-texts, long_of texts);
@@ -150,8 +129,8 @@ module _ {s rules tokens brackets texts : List ℕ} (o : SheetLent s rules token
 
     -- the return where the sheet reads
     pub sheet-read : {got : Read} → r ≡ Ok got
-        → ◌≡◌ {A = SheetLeft} (record { answer = numbers_of (sheet_read got); rules = y'; tokens = x'; brackets = b'; texts = z' }) (sheet_left s rules tokens brackets texts)
-    sheet-read {got} g = left (numbers_of (sheet_read got)) (answer-reads (sheet_of s) got (sym g ∙ er))
+        → ◌≡◌ {A = SheetLeft} (record { answer = numbers_of (Ok got); rules = y'; tokens = x'; brackets = b'; texts = z' }) (sheet_left s rules tokens brackets texts)
+    sheet-read {got} g = left (numbers_of (Ok got)) (answer-reads (sheet_of s) got (sym g ∙ er))
 
     -- the return where the crate panics
     pub sheet-panics : {p : readings.Panic} → r ≡ Err p

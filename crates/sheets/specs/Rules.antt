@@ -1,22 +1,16 @@
 -- Rules in the order of the code, and the room that reading them asks for.
-use Rattle.std.specs.Prelude.{ℕ, ◌+◌, ◌*◌, ◌^◌, ◌≤◌, ◌<◌, Option, Some, None, List, map, length}
+use Rattle.std.specs.Prelude.{ℕ, ◌+◌, ◌*◌, ◌^◌, ◌≤◌, ◌<◌, List, map, length}
 use Rattle.lexer.specs.TokenRow.{token_width}
 use Rattle.syntax.specs.Declaration.{Declaration}
-use Rattle.syntax.specs.Layout.{declaration_width, declaration_rows, declaration_texts}
+use Rattle.syntax.specs.Layout.{declaration_width}
 use Rattle.declarations.specs.Rules.{starts_at}
-use Rattle.selectors.specs.Outcome.{Outcome, on_outcome, behind}
+use Rattle.selectors.specs.Outcome.{Outcome, behind}
 use Rattle.sheets.specs.Sheet.{block_of}
-use Rattle.sheets.specs.declared.rulesets.Block.{Block}
 use Rattle.combinators.specs.Store.{Zeros}
 
 -- ---- the declarations of a rule whose text starts at a byte
 unfoldable pub block_at : ℕ → List ℕ → ℕ → Outcome (List Declaration)
 block_at at t n = behind 0 (block_of t n) (map (starts_at at))
-
--- as the code answers it; the crate never panics in a block (law `block-never-panics`)
-unfoldable pub block_answer : ℕ → Outcome (List Declaration) → Option Block
-block_answer fill o =
-    on_outcome o (λ n ds. Some (record { end = n; count = length ds; numbers = length (declaration_rows fill ds); text = length (declaration_texts ds) })) None (λ p. None)
 
 -- ---- room: all stores are zero where something may be written
 

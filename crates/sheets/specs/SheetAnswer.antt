@@ -14,7 +14,7 @@ use Rattle.selectors.specs.Outcome.{Outcome, on_outcome}
 use Rattle.selectors.specs.Reading.{written}
 use Rattle.sheets.specs.Sheet.{sheet_from, sheet_of}
 use Rattle.sheets.specs.declared.answers.SheetNumbers.{SheetNumbers}
-use Rattle.sheets.specs.declared.sheet.Sheet.{Sheet}
+use Rattle.selectors.specs.declared.readings.Read.{Read}
 use Rattle.sheets.specs.declared.sheet.SheetError.{SheetError}
 use Rattle.sheets.specs.declared.sheet.SheetError.TheVariants.{TooLong, ShortStore, NotUtf8, Panic}
 
@@ -34,8 +34,8 @@ refusal_of ShortStore = refused short_store
 refusal_of NotUtf8 = refused not_utf8
 refusal_of (Panic p) = refused_at panic p
 
-unfoldable pub numbers_of : Result Sheet SheetError → SheetNumbers
-numbers_of (Ok sheet) = record { refusal = no_refusal; count = sheet.count; stop = sheet.stop; numbers = sheet.numbers; bytes = sheet.bytes }
+unfoldable pub numbers_of : Result Read SheetError → SheetNumbers
+numbers_of (Ok read) = record { refusal = no_refusal; count = read.count; stop = read.taken; numbers = read.numbers; bytes = read.text }
 numbers_of (Err e) = refused_sheet (refusal_of e)
 
 -- ---- what is left of the call: its answer, and the four stores

@@ -2,10 +2,11 @@
 ghost use Rattle.std.specs.Prelude.{◌≡◌};
 ghost use Rattle.sheets.specs.SheetAnswer.{refusal_of, refused_sheet, numbers_of};
 
-use crate::sheet::{Sheet, SheetError};
+use crate::sheet::SheetError;
 use combinators::refusals::{
     NOT_UTF8, PANIC, Refusal, SHORT_STORE, TOO_LONG, no_refusal, refused, refused_at,
 };
+use selectors::readings::Read;
 
 // The refusal; of a sheet that was read the count of its rules, the first byte not read, the numbers that the rules take and the bytes of their texts.
 // What does not apply is 0: so the documents and C have it.
@@ -33,6 +34,7 @@ impl From<SheetError> for Refusal {
     }
 }
 
+// A refusal and no sheet: zeros, as in other answers, but of this answer's fields.
 fn refused_sheet(refusal: Refusal) -> SheetNumbers
     ensures { result ≡ refused_sheet refusal }
 {
@@ -46,18 +48,20 @@ fn refused_sheet(refusal: Refusal) -> SheetNumbers
 }
 
 // What an answer stands for.
-#[tactic(auto, unfolding(crate::specs::SheetAnswer::numbers_of))]
-pub fn numbers_of(answer: Result<Sheet, SheetError>) -> SheetNumbers
-    ensures { result ≡ numbers_of answer }
-{
-    match answer {
-        Ok(sheet) => SheetNumbers {
-            refusal: no_refusal(),
-            count: sheet.count,
-            stop: sheet.stop,
-            numbers: sheet.numbers,
-            bytes: sheet.bytes,
-        },
-        Err(error) => refused_sheet(Refusal::from(error)),
+impl From<Result<Read, SheetError>> for SheetNumbers {
+    ghost from_gives = { λ answer numbers. numbers ≡ numbers_of answer };
+
+    #[tactic(auto, unfolding(crate::specs::SheetAnswer::numbers_of))]
+    fn from(answer: Result<Read, SheetError>) -> SheetNumbers {
+        match answer {
+            Ok(read) => SheetNumbers {
+                refusal: no_refusal(),
+                count: read.count,
+                stop: read.taken,
+                numbers: read.numbers,
+                bytes: read.text,
+            },
+            Err(error) => refused_sheet(Refusal::from(error)),
+        }
     }
 }

@@ -1,6 +1,6 @@
 // Rules: `parse_ruleset`. The row of a rule goes to the stores' rules from `place` on, its texts to their texts from `fill` on. All stores are zero where
 // something may be written, and stay so where nothing is read. `place` and `fill` stand beside the stores: they go on from one part of a rule to the next.
-ghost use Rattle.std.specs.Prelude.{◌≡◌, ◌+◌, ◌≤◌, length, get_or};
+ghost use Rattle.std.specs.Prelude.{◌≡◌, ◌+◌, ◌≤◌, Ok, length, get_or};
 ghost use Rattle.std.proofs.lemmas.List.Edits.{sets};
 ghost use Rattle.combinators.specs.Ascii.{semicolon};
 ghost use Rattle.combinators.specs.Choice.{pick, is};
@@ -9,14 +9,14 @@ ghost use Rattle.syntax.specs.Layout.{declaration_rows, declaration_texts};
 ghost use Rattle.syntax.specs.RuleLayout.{rule_row, rule_text};
 ghost use Rattle.selectors.specs.Outcome.{behind};
 ghost use Rattle.sheets.specs.Sheet.{before_end, ruleset_of, moved_by};
-ghost use Rattle.sheets.specs.Rules.{block_at, block_answer, BlockRoom, RuleRoom};
+ghost use Rattle.sheets.specs.Rules.{block_at, BlockRoom, RuleRoom};
 ghost use Rattle.selectors.specs.Reading.{reading, written};
 
 use combinators::bytes::byte_is;
 use combinators::lent::Stores;
 use declarations::rules::parse_rules;
 use lexer::whitespace::{skip_from, skip_optional_whitespace};
-use selectors::readings::{Panic, Read, take_back};
+use selectors::readings::{Panic, Read, moved, take_back};
 use selectors::selector_lists::parse_selectors;
 use syntax::rows::{DECLARATION_WIDTH, RULE_HEAD};
 use syntax::writers::put_rule_head;
@@ -40,17 +40,8 @@ fn before_end(s: &[u8], n: usize) -> usize
     skip_from(s, past_semicolon(s, skip_from(s, n)))
 }
 
-// The place behind a block, how many declarations it has, how many numbers their rows take and how many bytes their texts. The crate never panics
-// in a block.
-#[derive(Clone, Copy, Debug, PartialEq, Eq)]
-pub struct Block {
-    pub end: usize,
-    pub count: usize,
-    pub numbers: usize,
-    pub text: usize,
-}
-
-// Reads '{', declarations and '}' behind the selectors of a rule, which end at `n`; `s` starts at the byte `at` of the text.
+// Reads '{', declarations and '}' behind the selectors of a rule, which end at `n`; `s` starts at the byte `at` of the text. What it takes is counted
+// from the start of `s`. The crate never panics in a block.
 fn parse_block(
     s: &[u8],
     n: usize,
@@ -58,11 +49,11 @@ fn parse_block(
     stores: &mut Stores<'_>,
     place: usize,
     fill: usize,
-) -> Option<Block>
+) -> Option<Read>
     requires { OfStores (BlockRoom s.now n at) stores.old place fill }
     ensures same { SameStores stores.old stores.new }
     ensures work_unchanged { SameWork stores.old stores.new }
-    ensures value { result ≡ block_answer fill (block_at at s.now n) }
+    ensures value { Ok result ≡ reading length (declaration_rows fill) declaration_texts (block_at at s.now n) }
     ensures rules_after { stores.new.rules.now ≡ sets stores.old.rules.now place (written (declaration_rows fill) (block_at at s.now n)) }
     ensures texts_after { stores.new.texts.now ≡ sets stores.old.texts.now fill (written declaration_texts (block_at at s.now n)) }
 {
@@ -75,8 +66,8 @@ fn parse_block(
     let numbers = DECLARATION_WIDTH * read.count;
     let f = before_end(s, d + read.taken);
     if byte_is(s, f, b'}') {
-        return Some(Block {
-            end: skip_from(s, f + 1),
+        return Some(Read {
+            taken: skip_from(s, f + 1),
             count: read.count,
             numbers,
             text: read.text,
@@ -102,11 +93,7 @@ pub fn parse_ruleset(
     ensures texts_after { stores.new.texts.now ≡ sets stores.old.texts.now fill (written rule_text (behind 0 (ruleset_of s.now) (moved_by at))) }
 {
     let w = skip_optional_whitespace(s);
-    // no `?`: the panic's place is moved, and no proof reaches what a closure of `map_err` ensures
-    let list = match parse_selectors(&s[w..], stores, place + RULE_HEAD, fill) {
-        Ok(list) => list,
-        Err(panic) => return Err(panic.behind(w)),
-    };
+    let list = moved(parse_selectors(&s[w..], stores, place + RULE_HEAD, fill), w)?;
     let Some(block) = parse_block(
         s,
         w + list.taken,
@@ -120,7 +107,7 @@ pub fn parse_ruleset(
     };
     put_rule_head(at + w, list.count, block.count, stores.rules, place);
     Ok(Some(Read {
-        taken: block.end,
+        taken: block.taken,
         count: 1,
         numbers: RULE_HEAD + list.numbers + block.numbers,
         text: list.text + block.text,

@@ -7,21 +7,11 @@ ghost use Rattle.sheets.specs.SheetAnswer.{numbers_of, SheetLent, leaving, sheet
 
 use crate::statements::parse_stylesheet;
 use characters::utf8::is_valid;
-use combinators::least::stores_suffice;
 use combinators::lent::Stores;
-use selectors::readings::Panic;
+use selectors::readings::{Panic, Read};
 
 // The bytes that a sheet may have.
 pub const SHEET_LIMIT: usize = 32768;
-
-// A sheet that was read: the count of rules, the first byte not read, the numbers that the rules take and the bytes of their texts.
-#[derive(Clone, Copy, Debug, PartialEq, Eq)]
-pub struct Sheet {
-    pub count: usize,
-    pub stop: usize,
-    pub numbers: usize,
-    pub bytes: usize,
-}
 
 // Why a sheet is refused, the error of a `Result`; of a panic the byte where the crate panics.
 #[derive(Clone, Copy, Debug, PartialEq, Eq)]
@@ -41,37 +31,26 @@ impl From<Panic> for SheetError {
 }
 
 // Reads a sheet for which the stores suffice, whatever they hold.
-fn read_text(s: &[u8], stores: &mut Stores<'_>) -> Result<Sheet, SheetError>
+fn read_text(s: &[u8], stores: &mut Stores<'_>) -> Result<Read, SheetError>
     requires { SheetLent s.now stores.old.rules.now stores.old.tokens.now stores.old.brackets.now stores.old.texts.now }
     ensures same { SameStores stores.old stores.new }
     ensures stores_after { leaving (numbers_of result) stores.new ≡ sheet_left s.now stores.old.rules.now stores.old.tokens.now stores.old.brackets.now stores.old.texts.now }
 {
     stores.clear();
-    let read = parse_stylesheet(s, stores)?;
-    Ok(Sheet {
-        count: read.count,
-        stop: read.taken,
-        numbers: read.numbers,
-        bytes: read.text,
-    })
+    Ok(parse_stylesheet(s, stores)?)
 }
 
-// Reads a sheet, if none of the three tests refuses it: its rules, which lie in the stores' rules and their texts in the texts, and the first byte not read.
-// Other calls have the tests again: each definition has them with its own answer, and the errors are of other types.
-pub fn read_sheet(s: &[u8], stores: &mut Stores<'_>) -> Result<Sheet, SheetError>
+// Reads a sheet, if none of the three tests refuses it: its rules, which lie in the stores' rules and their texts in the texts; the bytes taken are all
+// before the first one not read. `height_length` has the tests again: one function for both would need an error without a panic and a `From` for each
+// of the two, which is longer than the tests.
+pub fn read_sheet(s: &[u8], stores: &mut Stores<'_>) -> Result<Read, SheetError>
     ensures same { SameStores stores.old stores.new }
     ensures stores_after { leaving (numbers_of result) stores.new ≡ read_sheet s.now stores.old.rules.now stores.old.tokens.now stores.old.brackets.now stores.old.texts.now }
 {
     if s.len() > SHEET_LIMIT {
         return Err(SheetError::TooLong);
     }
-    if !stores_suffice(
-        s.len(),
-        stores.rules.len(),
-        stores.tokens.len(),
-        stores.brackets.len(),
-        stores.texts.len(),
-    ) {
+    if !stores.suffice(s.len()) {
         return Err(SheetError::ShortStore);
     }
     if !is_valid(s) {

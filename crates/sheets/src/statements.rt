@@ -13,7 +13,8 @@ use crate::rulesets::parse_ruleset;
 use combinators::lent::Stores;
 use selectors::readings::{Panic, Read, take_back};
 
-// Reads a rule, or else an at-rule; `s` starts at the byte `at` of the text.
+// Reads a rule, or else an at-rule; `s` starts at the byte `at` of the text. No or_else: its closure would take the stores along, of which nothing would be
+// known behind it.
 pub fn parse_statement(
     s: &[u8],
     at: usize,
@@ -30,7 +31,7 @@ pub fn parse_statement(
 {
     match parse_ruleset(s, at, stores, place, fill)? {
         Some(rule) => Ok(Some(rule)),
-        None => parse_at_rule(s, stores, fill),
+        None => Ok(parse_at_rule(s, stores, fill)),
     }
 }
 
@@ -56,14 +57,7 @@ pub fn parse_stylesheet(s: &[u8], stores: &mut Stores<'_>) -> Result<Read, Panic
                 numbers += statement.numbers;
                 text += statement.text;
             }
-            Ok(None) => {
-                return Ok(Read {
-                    taken,
-                    count,
-                    numbers,
-                    text,
-                });
-            }
+            Ok(None) => break,
             Err(panic) => {
                 take_back(stores, 0, numbers, 0, text);
                 return Err(panic.behind(taken));

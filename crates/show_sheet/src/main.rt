@@ -53,7 +53,7 @@ fn print_sheet(out: &impl Print, sheet: &[u8]) -> io::Result<()> {
     match read_sheet(sheet, &mut stores) {
         Ok(read) => {
             let texts = &texts;
-            print_read(out, sheet, read.stop)?;
+            print_read(out, sheet, read.taken)?;
             print_rules(out, Source { sheet, texts }, &rules, read.count)
         }
         Err(error) => print!(out; "{}", Refusal { sheet, error }),

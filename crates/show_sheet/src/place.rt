@@ -18,8 +18,8 @@ impl<'a> Place<'a> {
     }
 
     fn column(self) -> usize {
-        let head = self.head();
-        head.iter().filter(|b| starts_character(**b)).count() + 1
+        let head = str::from_utf8(self.head()).unwrap_or_default();
+        head.chars().count() + 1
     }
 
     // The bytes before it on its line.
@@ -41,11 +41,6 @@ impl fmt::Display for Place<'_> {
     fn fmt<W: fmt::Write>(&self, f: &mut fmt::Formatter<W>) -> fmt::Result {
         write!(f, "{}:{}", self.line(), self.column())
     }
-}
-
-// Whether a byte of a text is the first of a character.
-fn starts_character(b: u8) -> bool {
-    !matches!(b, 0x80..=0xbf)
 }
 
 /// The same with its line, and a mark under the byte.

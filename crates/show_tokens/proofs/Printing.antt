@@ -3,52 +3,27 @@ use mathlib.Core.Path.{◌≡◌, refl, ap, sym, ◌∙◌}
 use mathlib.Core.List.{List}
 use Prim.Native.Nat.{ℕ, ◌+◌, ◌-◌, ◌≤◌}
 use native.Mathlib.Omega.{arith}
-use lib.ListN.{length, take, drop, length-append, length-drop}
+use lib.ListN.{length, take, drop, length-drop}
 use Rattle.std.proofs.Common.{Option, Some}
 use Rattle.combinators.specs.Parsed.{Parsed, ok, err}
 use Rattle.combinators.proofs.Lists.{rest}
 use Rattle.lexer.specs.Token as lexer
-use Rattle.lexer.specs.Token.{coded, text_of, token_of, lexed_answer}
+use Rattle.lexer.specs.Token.{coded, token_of, lexed_answer, length_by}
 use Rattle.lexer.specs.Whitespace.{skip_whitespace}
 use Rattle.lexer.specs.declared.tokens.Token as declared
 use Rattle.lexer.specs.declared.tokens.Lexed.{Lexed}
 use Rattle.lexer.proofs.Bounds.{bound-two}
 use Rattle.lexer.proofs.Comments.{skip-le}
-use Rattle.lexer.proofs.TokenBounds.{token-fits}
-use Rattle.show_tokens.specs.Texts.{texts_length}
+use Rattle.lexer.proofs.TokenBounds.{token-fits, length-coded}
 
 -- ---- a token that was read
-
--- the texts in the store are as long as the token's own
-texts-length : (k : lexer.Token) → texts_length (coded k) ≡ length (text_of k)
-unfolding coded text_of
-texts-length (lexer.ident b) = refl
-texts-length (lexer.function b) = refl
-texts-length (lexer.hash b) = refl
-texts-length (lexer.string b) = refl
-texts-length (lexer.bad_string b) = refl
-texts-length (lexer.delim c) = refl
-texts-length (lexer.number b) = refl
-texts-length (lexer.dimension b u) = sym (length-append b u)
-texts-length (lexer.percentage b) = refl
-texts-length lexer.cdo = refl
-texts-length lexer.cdc = refl
-texts-length lexer.colon = refl
-texts-length lexer.semicolon = refl
-texts-length lexer.comma = refl
-texts-length lexer.open_square = refl
-texts-length lexer.close_square = refl
-texts-length lexer.open_round = refl
-texts-length lexer.close_round = refl
-texts-length lexer.open_brace = refl
-texts-length lexer.close_brace = refl
 
 -- where a token starts and ends, and the room of its texts, in m bytes of text
 pub record Shown (m w n : ℕ) (k : declared.Token) : Type 0 where
   pub starts : w ≤ m
   pub some : 1 ≤ n
   pub ends : n ≤ m
-  pub texts : texts_length k ≤ m + 2
+  pub texts : length_by k ≤ m + 2
 
 -- by what the definition reads
 shown_of : (s : List ℕ) (p : Parsed lexer.Token) → token_of s ≡ p → (l : Lexed) → lexed_answer (skip_whitespace s) p ≡ Some l → Shown (length s) l.start l.end l.token
@@ -60,7 +35,7 @@ shown_of s (ok i x) e l h =
       starts = rw (sym a) (skip-le s);
       some = rw (sym a) f.some;
       ends = rw (sym a) f.within_text;
-      texts = rw (sym a) (omega (arith, texts-length x, bound-two f.bound, f.within_text));
+      texts = rw (sym a) (omega (arith, length-coded x, bound-two f.bound, f.within_text));
     }
 shown_of s err e l h = absurd (let q : ◌≡◌ {A = ℕ} 0 1 = cc in omega arith)
 

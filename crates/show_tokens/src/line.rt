@@ -1,6 +1,6 @@
 // The line of a token.
 ghost use Rattle.std.specs.Prelude.{◌≤◌, length};
-ghost use Rattle.show_tokens.specs.Texts.{texts_length};
+ghost use Rattle.lexer.specs.Token.{length_by};
 
 use lexer::tokens::Token;
 use std::fmt;
@@ -13,10 +13,11 @@ pub struct Line<'a> {
     pub end: usize,
     pub token: Token,
     pub store: &'a [u8],
-    ghost texts_fit: { texts_length token ≤ length store.now },
+    ghost texts_fit: { length_by token ≤ length store.now },
 }
 
 impl fmt::Display for Line<'_> {
+    #[tactic(auto, unfolding(lexer::specs::Token::length_by))]
     fn fmt<W: fmt::Write>(&self, f: &mut fmt::Formatter<W>) -> fmt::Result {
         write!(f, "{} {} {}", self.start, self.end, kind_of(self.token))?;
         let store = self.store;

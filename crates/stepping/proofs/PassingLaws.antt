@@ -1,9 +1,8 @@
 -- The selectors at a row: the blocks go to the own part, and at an element what those declare that match is merged one after the other.
-use Prim.Native.Nat.{ℕ, ◌+◌, ◌-◌, ◌≤◌, ◌<◌}
+use Prim.Native.Nat.{ℕ, suc, ◌+◌, ◌-◌, ◌≤◌, ◌<◌}
 use mathlib.Core.Path.{◌≡◌, refl, sym, ap, subst, ◌∙◌}
 use mathlib.Core.Bool.{Bool, true, false}
 use mathlib.Core.List.{List, [], ◌∷◌, ◌++◌, append-nil}
-use mathlib.Core.Logic.{◌⊎◌, inl, inr}
 use native.Mathlib.Omega.{arith}
 use lib.ListN.{length}
 use Rattle.combinators.specs.Choice.{pick}
@@ -12,18 +11,17 @@ use Rattle.syntax.specs.Style.{agent_origin}
 use Rattle.syntax.specs.declared.styles.Value.{Value}
 use Rattle.cascade.specs.declared.slots.Cascade.TheVariants.{Crate}
 use Rattle.cascade.specs.Record.{Declared}
-use Rattle.page.specs.Path.{Path}
+use Rattle.page.specs.Path.{Element, Path}
 use Rattle.styles.specs.Merged.{merged_row}
 use Rattle.styles.proofs.Merging.{merged-none, Merging, merging-begin, merging-more, merging-done}
 use Rattle.compiled.specs.Answer.{read_answer, bytes_refusal}
 use Rattle.compiled.specs.Decoded.{on_decoded}
 use Rattle.compiled.specs.Number.{number_at}
 use Rattle.compiled.specs.Sheet.{compiled_limit}
-use Rattle.std.proofs.Common.{Result, Ok, Err}
+use Rattle.std.proofs.Common.{Option, Some, None, Result, Ok, Err}
 use Rattle.compiled.specs.declared.places.Fault.{Fault}
 use Rattle.compiled.specs.declared.places.Read.{Read}
 use Rattle.compiled.proofs.Answers.{answer_read, answer-fault}
-use Rattle.compiled.proofs.Bounds.{reaches_end, number-reaches}
 use Rattle.compiled.proofs.Walking.{sheet-steps}
 use Rattle.segments.specs.Before.{no_place}
 use Rattle.segments.specs.Document.{styled_from, fresh_from, SelectorsRead}
@@ -32,6 +30,8 @@ use Rattle.segments.specs.Parts.{pair_limit}
 use Rattle.segments.specs.Pass.{Passed, matched_here, block_set, pass_from}
 use Rattle.segments.specs.Sweep.{pair_at}
 use Rattle.segments.specs.Visits.{to_next, Visited, visit_at}
+use Rattle.hints.specs.Skipping.{FewLeft, left_to_pass}
+use Rattle.hints.specs.declared.skipping.Skipped.{Skipped}
 use Rattle.visits.proofs.CodePassLaws as pass
 use Rattle.visits.proofs.CodePassLaws.{Passing, pass-turn}
 use Rattle.visits.proofs.CodeStyledLaws.{sheet-selectors}
@@ -100,10 +100,6 @@ module _ (code : List ℕ) (row : Path) (above : List ℕ) where
   find-begin own out first count l n = record { passing = record { whole = refl; room = l; near = n }; merging = merging-begin Crate out _ }
 
   module _ (own₀ out₀ : List ℕ) (first count : ℕ) (own out : List ℕ) (p left : ℕ) (v : Finding own₀ out₀ first count own out p left) where
-    -- what is left at the end
-    abbrev Found : Type 0
-    Found = (own ≡ (pass_from code row above count first own₀).part) × (out ≡ merged_row Crate out₀ (declared_from own₀ count first))
-
     -- some are passed over, none of which matches
     pub find-skip : (own₁ : List ℕ) (p₁ left₁ : ℕ) → pass_from code row above left₁ p₁ own₁ ≡ pass_from code row above left p own → length own₁ ≡ length own → p₁ ≤ compiled_limit
         → Finding own₀ out₀ first count own₁ out p₁ left₁
@@ -112,25 +108,6 @@ module _ (code : List ℕ) (row : Path) (above : List ℕ) where
           passing = record { whole = ap (λ (r : Passed). r.part) s ∙ v.passing.whole; room = omega (arith, l, v.passing.room); near = n };
           merging = subst (Merging Crate out₀ (declared_from own₀ count first) out) (ap (λ (r : Passed). declared_at code r.matched) (sym s)) v.merging;
         }
-
-    -- where none is left to visit, part and row are those behind all of them
-    pub find-end : left ≤ 0 → Found
-    find-end h =
-        let d : left ≡ 0 = omega arith in
-        let z : declared_from own 0 p ≡ [] = unfold pass_from read_in selectors_declare in refl in
-        (pass.pass-end code row above own₀ first count own p left v.passing h, merging-done Crate out₀ _ out _ v.merging (ap (λ (k : ℕ). declared_from own k p) d ∙ z))
-
-    -- there is no other
-    pub find_none : p ≡ no_place → Found
-    find_none e =
-        let n : pass_from code row above left p own ≡ record { part = own; matched = [] } = ap (λ (x : ℕ). pass_from code row above left x own) e ∙ pass-none code above row left own in
-        let z : declared_at code [] ≡ [] = unfold read_in selectors_declare in refl in
-        (pass.pass-none code row above own₀ first count own p left v.passing e, merging-done Crate out₀ _ out _ v.merging (ap (λ (r : Passed). declared_at code r.matched) n ∙ z))
-
-    -- one or the other
-    pub find-stop : (left ≡ 0) ⊎ ((¬ (left ≡ 0)) × (p ≡ no_place)) → Found
-    find-stop (inl e) = find-end (omega arith)
-    find-stop (inr e) = find_none e.1
 
     -- what the visited selector declares was merged: the loop goes on at the next, with one fewer left
     pub find-more : 0 < left → ¬ (p ≡ no_place) → (next : ℕ) → next ≡ pair_at above (p + to_next) → next < pair_limit
@@ -147,15 +124,23 @@ module _ (code : List ℕ) (row : Path) (above : List ℕ) where
           merging = merging-more Crate out₀ _ out _ v.merging _ _ on out₁ eo;
         }
 
--- ---- the selectors of a sheet
--- it has a byte
-pub some_bytes : (code : List ℕ) → bytes_refusal code ≡ no_refusal → 0 < length code
-some_bytes code e =
-    let d = decoded code e in
-    let w = sheet-steps code d.0 d.1 d.2 in
-    let l = reaches_end (length code) 0 1 w.behind-count w.count (number_at code 0) (number-reaches code 0) w.count-read in
-    omega (arith, l.0, l.1)
+-- ---- by what is left behind those that are passed over at an element
+module _ (code above : List ℕ) (e : Element) (own₀ out₀ : List ℕ) (first count : ℕ) (own out : List ℕ) (p left : ℕ) (v : Finding code (e ∷ []) above own₀ out₀ first count own out p left)
+    (own₁ : List ℕ) (r : Option Skipped) (s : left_to_pass code e above own₁ r ≡ pass_from code (e ∷ []) above left p own) where
+  -- some are left
+  pub find-left : (x : Skipped) → r ≡ Some x → length own₁ ≡ length own → FewLeft left x → Finding code (e ∷ []) above own₀ out₀ first count own₁ out x.place (suc x.behind)
+  unfolding left_to_pass
+  find-left x q l f = find-skip code (e ∷ []) above own₀ out₀ first count own out p left v own₁ x.place (suc x.behind) (rw q at s) l f.near
 
+  -- where none is left, part and row are those behind all of them
+  pub find-over : r ≡ None → (own₁ ≡ (pass_from code (e ∷ []) above count first own₀).part) × (out ≡ merged code out₀ (pass_from code (e ∷ []) above count first own₀))
+  unfolding left_to_pass
+  find-over q =
+      let t : record { part = own₁; matched = [] } ≡ pass_from code (e ∷ []) above left p own = rw q at s in
+      let z : declared_at code [] ≡ [] = unfold read_in selectors_declare in refl in
+      (ap (λ (x : Passed). x.part) t ∙ v.passing.whole, merging-done Crate out₀ _ out _ v.merging (ap (λ (x : Passed). declared_at code x.matched) (sym t) ∙ z))
+
+-- ---- the selectors of a sheet
 module _ (code : List ℕ) (sheet : bytes_refusal code ≡ no_refusal) (r : Result (Read ℕ) Fault) (er : r ≡ read_answer (number_at code 0)) where
   -- there is a count
   pub count-there : (f : Fault) → r ≡ Err f → ⊥

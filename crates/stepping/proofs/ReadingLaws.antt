@@ -4,17 +4,12 @@ use mathlib.Core.List.{List, [], ◌∷◌}
 use Prim.Native.Nat.{ℕ, suc, ◌-◌, ◌≤◌, ◌<◌}
 use native.Mathlib.Omega.{arith}
 use Rattle.compiled.specs.Decoded.{Decoded, read, fault, on_decoded, and_then, mapped, counted}
-use Rattle.compiled.proofs.Walking.{First, counted-first, counted_none}
+use Rattle.compiled.proofs.Walking.{First, counted-first}
 use Rattle.stepping.specs.Reading.{listed}
 
 -- what is read is no fault
 pub no-fault : {A : Type 0} (d : Decoded A) (n p : ℕ) (a : A) → d ≡ read n a → d ≡ fault p → ⊥
 no-fault d n p a e f = let z : ◌≡◌ {A = ℕ} 0 1 = cc in omega arith
-
--- a list that is read, named by its reading
-pub listed_at : {A : Type 0} (d : Decoded (List A)) (n : ℕ) (xs : List A) → d ≡ read n xs → d ≡ read n (listed d)
-unfolding listed on_decoded
-listed_at d n xs e = e ∙ ap (read n) (sym (ap listed e))
 
 -- what is listed is what was read
 pub listed-is : {A : Type 0} (d : Decoded (List A)) (n : ℕ) (xs : List A) → d ≡ read n xs → listed d ≡ xs
@@ -56,9 +51,3 @@ module _ {A : Type 0} (u : ℕ → Decoded A) (left i end : ℕ) (others : List 
   -- it is no fault
   pub counted-there : (p : ℕ) → 0 < left → u i ≡ fault p → ⊥
   counted-there p h f = no-fault (u i) _ p _ (counted-left h).first f
-
-  -- where none is left to read, the list of the others is empty
-  pub counted-end : left ≤ 0 → others ≡ []
-  counted-end h =
-      let d : left ≡ 0 = omega arith in
-      (counted_none u i end others (ap (λ (k : ℕ). counted u k i) (sym d) ∙ e)).1

@@ -11,8 +11,9 @@ use Rattle.combinators.specs.Choice.{pick}
 use Rattle.combinators.specs.Part.{part}
 use Rattle.combinators.proofs.Wiped.{sets-append, sets-apart}
 use Rattle.std.proofs.lemmas.List.{drop-drop}
-use Rattle.segments.proofs.StoreLaws.{part-write, part_same, length_part}
+use Rattle.segments.proofs.StoreLaws.{part-write, part_same}
 use Rattle.combinators.proofs.Rules.{pick_true, pick-false, is-yes, is-no}
+use Rattle.combinators.proofs.Parts.{length_part}
 use Rattle.syntax.specs.Stream.{texts_many}
 use Rattle.cascade.specs.declared.slots.Cascade.TheVariants.{Crate}
 use Rattle.cascade.specs.Row.{style_row_width, Inherited, Emptied, inherited_row}
@@ -32,10 +33,11 @@ use Rattle.runner.specs.PageRows.{no_style, selectors_declare}
 use Rattle.runner.specs.Run.{Handed, Stepped, handed_from, row_below, found_at, document_step, element_step, open_step, step_on}
 use Rattle.runner.specs.State.{depths, part_place, part_of, raised, opened}
 use Rattle.runner.proofs.StateParts.{part_pair, raised-part, raised-behind}
+use Rattle.combinators.specs.declared.lent.Stores.{Stores}
+use Rattle.runner.proofs.FoundLaws.{some_bytes}
 use Rattle.stepping.specs.Lent.{StepLent}
 use Rattle.stepping.specs.Opened.{OpenLent, Below, child_below, ChildOpened, child_element, child_passed, ElementOpened}
 use Rattle.cascade.proofs.Windows.{all-wiped}
-use Rattle.stepping.proofs.PassingLaws.{some_bytes}
 
 -- ---- rows
 -- zeros over a whole row
@@ -233,16 +235,15 @@ module _ (settings : Settings) (attributes text : List ℕ) (base fill : ℕ) (o
   counting = pick settings.document_styles row_attributes []
 
   -- where the document's styles are on, what merging all attributes of the row left is what those that count leave
-  pub inline-on : settings.document_styles ≡ true → fill ≤ length texts → (n : ℕ) → n ≡ attribute_rows attributes → (out₁ texts₁ : List ℕ) (r : ℕ)
-      → (out₁ ≡ merged_row Crate out (late_declared Crate (placed_attributes (base + fill) (attributes_from attributes text n 0))))
-      × ((r ≡ fill + length (attributes_contents (attributes_from attributes text n 0)))
-      × (take r texts₁ ≡ take fill texts ++ attributes_contents (attributes_from attributes text n 0)))
+  pub inline-on : settings.document_styles ≡ true → fill ≤ length texts → (xs : List Attribute) → xs ≡ row_attributes → (out₁ texts₁ : List ℕ) (r : ℕ)
+      → (out₁ ≡ merged_row Crate out (late_declared Crate (placed_attributes (base + fill) xs)))
+      × ((r ≡ fill + length (attributes_contents xs))
+      × (take r texts₁ ≡ take fill texts ++ attributes_contents xs))
       → (out₁ ≡ merged_row Crate out (late_declared Crate (placed_attributes (base + fill) counting)))
       × ((take r texts₁ ≡ take fill texts ++ attributes_contents counting)
       × (r ≤ length texts₁))
-  inline-on h f n e out₁ texts₁ r q =
-      let xs : List Attribute = attributes_from attributes text n 0 in
-      let p : xs ≡ counting = ap (λ (k : ℕ). attributes_from attributes text k 0) e ∙ pick_true row_attributes row_attributes [] _ h refl in
+  inline-on h f xs e out₁ texts₁ r q =
+      let p : xs ≡ counting = e ∙ pick_true row_attributes row_attributes [] _ h refl in
       let long : length (take fill texts) ≡ fill = length-take-le fill texts f in
       let a : length (take r texts₁) ≡ length (take fill texts) + length (attributes_contents xs) = ap length q.1.1 ∙ length-append (take fill texts) (attributes_contents xs) in
       let b = q.1.0 in
@@ -270,10 +271,9 @@ module _ (settings : Settings) (attributes text : List ℕ) (base fill : ℕ) (o
       )
 
 -- ---- what a step asks for
-module _ (code attributes text : List ℕ) (depth : ℕ) (state rules tokens brackets texts : List ℕ) (fill : ℕ)
-    (l : StepLent code attributes text depth state rules tokens brackets texts fill) where
+module _ (code attributes text : List ℕ) (depth : ℕ) (state : List ℕ) (s : Stores) (fill : ℕ) (l : StepLent code attributes text depth state s fill) where
   -- what is filled lies in the store
-  pub filled : fill ≤ length texts
+  pub filled : fill ≤ length s.texts.now
   filled = omega (arith, l.for-attributes.for-texts)
 
   -- what opening the row asks for
@@ -314,15 +314,18 @@ module _ (settings : Settings) (code node attributes text out state texts : List
       ∙ ap (λ (k : ℕ). merged_row Crate merged (late_declared Crate (placed_attributes (length code + k) xs))) (sym long))
       part t
 
-module _ (settings : Settings) (code node attributes text : List ℕ) (depth : ℕ) (out state rules tokens brackets texts : List ℕ) (fill : ℕ)
-    (l : StepLent code attributes text depth state rules tokens brackets texts fill) where
+module _ (settings : Settings) (code node attributes text : List ℕ) (depth : ℕ) (out state : List ℕ) (s : Stores) (fill : ℕ) (l : StepLent code attributes text depth state s fill) where
+  -- the texts as they are lent
+  abbrev texts : List ℕ
+  texts = s.texts.now
+
   -- the row as it is handed to its step
   abbrev handed : Handed
   handed = handed_from node attributes text
 
   -- what is filled lies in the store
   abbrev fits : fill ≤ length texts
-  fits = filled code attributes text depth state rules tokens brackets texts fill l
+  fits = filled code attributes text depth state s fill l
 
   -- the step of other content leaves an empty row, and state and texts as they were
   pub other_step : length out ≡ style_row_width → (kind : ℕ) → kind ≡ (node_at node 0).kind → kind ≡ other_kind → (out₁ : List ℕ) → Emptied out out₁

@@ -2,9 +2,9 @@
 use mathlib.Core.Path.{◌≡◌, refl, sym, ap, ◌∙◌}
 use mathlib.Core.Bool.{true, false}
 use mathlib.Core.List.{List, [], ◌∷◌, ◌++◌}
+use mathlib.Core.Logic.{inl, inr}
 use Prim.Native.Nat.{ℕ, ◌-◌, ◌≤◌, ◌<◌}
 use native.Mathlib.Omega.{arith}
-use lib.ListN.{length}
 use Rattle.syntax.specs.declared.styles.StyleNumbers.{StyleNumbers}
 use Rattle.syntax.specs.declared.styles.Value.{Value}
 use Rattle.cascade.specs.declared.slots.Cascade.TheVariants.{Crate}
@@ -15,10 +15,10 @@ use Rattle.styles.specs.Merged.{merged_row}
 use Rattle.styles.specs.Said.{rule_style}
 use Rattle.styles.specs.StyleCall.{in_numbers}
 use Rattle.styles.proofs.Merging.{merged-none, merged-more, Merging, merging-begin, merging-more, merging-done}
-use Rattle.compiled.specs.Decoded.{read, counted}
+use Rattle.compiled.specs.Decoded.{read, fault, on_decoded, counted}
 use Rattle.compiled.specs.Number.{number_at}
 use Rattle.compiled.specs.Style.{style_numbers_at}
-use Rattle.compiled.specs.Sheet.{compiled_limit, styles_at}
+use Rattle.compiled.specs.Sheet.{styles_at}
 use Rattle.compiled.specs.Answer.{read_answer, place_answer}
 use Rattle.std.proofs.Common.{Result, Ok, Err}
 use Rattle.compiled.specs.declared.places.Fault.{Fault}
@@ -31,7 +31,7 @@ use Rattle.runner.specs.Walked.{walked_styles_at}
 use Rattle.runner.proofs.WalkedReads.{styles-place}
 use Rattle.stepping.specs.Reading.{listed}
 use Rattle.stepping.specs.Merging.{walked_style_at, styles_declare, CountedLent}
-use Rattle.stepping.proofs.ReadingLaws.{listed_at, listed-none, one-read, one_none, counted_next, counted-there, counted-end}
+use Rattle.stepping.proofs.ReadingLaws.{listed-is, listed-none, one-read, one_none, counted_next, counted-there}
 
 -- ---- turns of `merge_counted`
 module _ (code : List ℕ) (count at origin pseudo : ℕ) (spec : Specificity) (row₀ : List ℕ) where
@@ -39,18 +39,18 @@ module _ (code : List ℕ) (count at origin pseudo : ℕ) (spec : Specificity) (
   abbrev all : List (Styled Value)
   all = listed (counted (walked_style_at code) count at)
 
+  -- those that are left to read
+  abbrev left_at : ℕ → ℕ → List (Styled Value)
+  left_at left i = listed (counted (walked_style_at code) left i)
+
   -- what is left to read and merge is what was to be
   pub record StylesMerging (left i : ℕ) (row : List ℕ) : Type 0 where
-    pub end : ℕ
-    pub others : List (Styled Value)
-    pub told : counted (walked_style_at code) left i ≡ read end others
-    pub merging : Merging Crate row₀ (styles_declare origin pseudo spec all) row (styles_declare origin pseudo spec others)
+    pub lent : CountedLent code i left
+    pub merging : Merging Crate row₀ (styles_declare origin pseudo spec all) row (styles_declare origin pseudo spec (left_at left i))
 
   -- nothing is merged yet
   pub styles-begin : CountedLent code at count → StylesMerging count at row₀
-  styles-begin l =
-      let e = listed_at _ _ _ l.reads.told in
-      record { end = l.reads.end; others = all; told = e; merging = merging-begin Crate row₀ _ }
+  styles-begin l = record { lent = l; merging = merging-begin Crate row₀ _ }
 
   -- one style is merged
   style-merged : (row z : List ℕ) (x : StyleNumbers) → Merged Crate row z (record { pseudo = pseudo; slot = x.slot; candidate = record { weight = record { important = x.important; origin = origin; spec = spec }; value = x.value } })
@@ -70,50 +70,58 @@ module _ (code : List ℕ) (count at origin pseudo : ℕ) (spec : Specificity) (
   none-declared others e = rw e
 
   module _ (left i : ℕ) (row : List ℕ) (m : StylesMerging left i row) where
+    -- a style that is read is the first of those that are left, and of the others there is none, or all of them read
+    first-left : 0 < left → (n : ℕ) (x : Styled Value) → walked_style_at code i ≡ read n x → (left_at left i ≡ x ∷ left_at (left - 1) n) × CountedLent code n (left - 1)
+    first-left h n x u = go m.lent
+      where
+        go : CountedLent code i left → (left_at left i ≡ x ∷ left_at (left - 1) n) × CountedLent code n (left - 1)
+        go (inl few) =
+            let one : left ≡ 1 = omega arith in
+            let none : left - 1 ≡ 0 = omega arith in
+            let end : [] ≡ left_at 0 n = unfold counted listed on_decoded in refl in (
+              ap (λ (k : ℕ). left_at k i) one ∙ one-read (walked_style_at code) i n x u ∙ ap (λ (l : List (Styled Value)). x ∷ l) (end ∙ ap (λ (k : ℕ). left_at k n) (sym none)),
+              inl (omega arith),
+            )
+        go (inr r) =
+            let w = counted_next (walked_style_at code) left i r.end r.value r.told n x h u in
+            (listed-is _ r.end r.value r.told ∙ w.2 ∙ ap (λ (l : List (Styled Value)). x ∷ l) (sym (listed-is _ r.end w.0 w.1)), inr (record { end = r.end; value = w.0; told = w.1 }))
+
     -- a style is merged
     pub styles-more : 0 < left → (r : Result (Read StyleNumbers) Fault) → r ≡ read_answer (style_numbers_at code i) → (x : Read StyleNumbers) → r ≡ Ok x → (z : List ℕ)
         → Merged Crate row z (record { pseudo = pseudo; slot = x.value.slot; candidate = record { weight = record { important = x.value.important; origin = origin; spec = spec }; value = x.value.value } })
         → StylesMerging (left - 1) x.next z
     styles-more h r e x p z d =
         let u = mapped-read in_numbers (style_numbers_at code i) x.next x.value (answer_read (style_numbers_at code i) r e x p) in
-        let w = counted_next (walked_style_at code) left i m.end m.others m.told x.next (in_numbers x.value) h u in
+        let w = first-left h x.next (in_numbers x.value) u in
         record {
-          end = m.end;
-          others = w.0;
-          told = w.1;
-          merging = merging-more Crate row₀ _ row _ m.merging _ _ (one-declared m.others w.0 (in_numbers x.value) w.2) z (style-merged row z x.value d);
+          lent = w.1;
+          merging = merging-more Crate row₀ _ row _ m.merging _ _ (one-declared _ _ (in_numbers x.value) w.0) z (style-merged row z x.value d);
         }
 
-    -- while some are left, the reading of a style does not fail
-    pub styles-there : 0 < left → (r : Result (Read StyleNumbers) Fault) → r ≡ read_answer (style_numbers_at code i) → (f : Fault) → r ≡ Err f → ⊥
-    styles-there h r e f q =
-        counted-there (walked_style_at code) left i m.end m.others m.told f.place h (mapped-fault in_numbers (style_numbers_at code i) f.place (answer-fault (style_numbers_at code i) r e f q))
+    -- the only one does not read: nothing is declared, and where all of them read this cannot be
+    pub styles-fault : 0 < left → (r : Result (Read StyleNumbers) Fault) → r ≡ read_answer (style_numbers_at code i) → (f : Fault) → r ≡ Err f
+        → row ≡ merged_row Crate row₀ (styles_declare origin pseudo spec all)
+    styles-fault h r e f q = merging-done Crate row₀ _ row _ m.merging (none-declared _ (go m.lent))
+      where
+        u : walked_style_at code i ≡ fault f.place
+        u = mapped-fault in_numbers (style_numbers_at code i) f.place (answer-fault (style_numbers_at code i) r e f q)
+
+        go : CountedLent code i left → left_at left i ≡ []
+        go (inl few) = let one : left ≡ 1 = omega arith in ap (λ (k : ℕ). left_at k i) one ∙ one_none (walked_style_at code) i f.place u
+        go (inr l) = absurd (counted-there (walked_style_at code) left i l.end l.value l.told f.place h u)
 
     -- when none is left, all styles of the selector are merged into the row
     pub styles-done : left ≤ 0 → row ≡ merged_row Crate row₀ (styles_declare origin pseudo spec all)
-    styles-done h = merging-done Crate row₀ _ row _ m.merging (none-declared m.others (counted-end (walked_style_at code) left i m.end m.others m.told h))
+    styles-done h =
+        let d : left ≡ 0 = omega arith in
+        let end : left_at 0 i ≡ [] = unfold counted listed on_decoded in refl in
+        merging-done Crate row₀ _ row _ m.merging (none-declared _ (ap (λ (k : ℕ). left_at k i) d ∙ end))
 
 -- ---- where nothing is read, nothing is merged
 -- no styles, merged into a row, leave it as it is
 pub unmerged : (origin pseudo : ℕ) (spec : Specificity) (row : List ℕ) (xs : List (Styled Value)) → xs ≡ [] → row ≡ merged_row Crate row (styles_declare origin pseudo spec xs)
 unfolding styles_declare
 unmerged origin pseudo spec row xs e = rw e (sym (merged-none Crate row))
-
--- ---- returns of `merge_one`
-module _ (code : List ℕ) (at origin pseudo : ℕ) (spec : Specificity) (row : List ℕ) (r : Result (Read StyleNumbers) Fault) (e : r ≡ read_answer (style_numbers_at code at)) where
-  -- the style is merged
-  pub one-merged : (x : Read StyleNumbers) → r ≡ Ok x → (z : List ℕ)
-      → Merged Crate row z (record { pseudo = pseudo; slot = x.value.slot; candidate = record { weight = record { important = x.value.important; origin = origin; spec = spec }; value = x.value.value } })
-      → z ≡ merged_row Crate row (styles_declare origin pseudo spec (listed (counted (walked_style_at code) 1 at)))
-  one-merged x p z m =
-      let u = mapped-read in_numbers (style_numbers_at code at) x.next x.value (answer_read (style_numbers_at code at) r e x p) in
-      style-merged code 1 at origin pseudo spec row row z x.value m ∙ ap (λ xs. merged_row Crate row (styles_declare origin pseudo spec xs)) (sym (one-read (walked_style_at code) at x.next (in_numbers x.value) u))
-
-  -- where no style is read, the row stays: nothing is declared
-  pub one-unmerged : (f : Fault) → r ≡ Err f → row ≡ merged_row Crate row (styles_declare origin pseudo spec (listed (counted (walked_style_at code) 1 at)))
-  one-unmerged f q =
-      let u = mapped-fault in_numbers (style_numbers_at code at) f.place (answer-fault (style_numbers_at code at) r e f q) in
-      unmerged origin pseudo spec row _ (one_none (walked_style_at code) at f.place u)
 
 -- ---- returns of `merge_styles`
 module _ (code : List ℕ) (at : ℕ) (r : Result (Read ℕ) Fault) (e : r ≡ read_answer (number_at code at)) where
@@ -134,20 +142,19 @@ module _ (code : List ℕ) (at : ℕ) (r : Result (Read ℕ) Fault) (e : r ≡ r
         → z ≡ merged_row Crate row (styles_declare origin pseudo spec (listed (counted (walked_style_at code) x.value x.next))) → z ≡ merged_row Crate row (styles_declare origin pseudo spec (listed (walked_styles_at code at)))
     styles-merged origin pseudo spec row z h = rw styles-behind h
 
-    -- a count of one: merging that one style is merging all
-    pub style-alone : x.value ≡ 1 → (origin pseudo : ℕ) (spec : Specificity) (row z : List ℕ)
-        → z ≡ merged_row Crate row (styles_declare origin pseudo spec (listed (counted (walked_style_at code) 1 x.next))) → z ≡ merged_row Crate row (styles_declare origin pseudo spec (listed (walked_styles_at code at)))
-    style-alone one origin pseudo spec row z h = styles-merged origin pseudo spec row z (rw one h)
+    -- of one there is no more than one
+    pub one-lent : x.value ≡ 1 → CountedLent code x.next x.value
+    one-lent one = inl (omega arith)
 
     module _ (d : Result ℕ Fault) (ed : d ≡ place_answer (styles_at code at)) where
       -- all of them read
-      pub counted-lent : is_ok d ≡ true → length code ≤ compiled_limit → CountedLent code x.next x.value
-      counted-lent hd l = go d refl hd
+      pub counted-lent : is_ok d ≡ true → CountedLent code x.next x.value
+      counted-lent hd = go d refl hd
         where
           go : (b : Result ℕ Fault) → d ≡ b → is_ok b ≡ true → CountedLent code x.next x.value
           go (Ok m) k h =
               let w = place_read (walked_styles_at code at) d (ed ∙ styles-place code at) m k in
-              record { few = omega (arith, l); reads = record { end = m; value = w.0; told = sym styles-behind ∙ w.1 } }
+              inr (record { end = m; value = w.0; told = sym styles-behind ∙ w.1 })
           go (Err f) k h = never h
 
       -- where one of the styles does not read, the row stays: none is declared

@@ -1,18 +1,19 @@
 -- What the components of a selector add up to.
 use Prim.Native.Nat.{ℕ, zero, suc, ◌+◌, ◌-◌, ◌≤◌, ◌<◌, ◌^◌}
 use mathlib.Core.Path.{◌≡◌, refl, sym, ap, ◌∙◌}
-use mathlib.Core.Bool.{false}
+use mathlib.Core.Bool.{Bool, true, false}
 use mathlib.Core.List.{List, ◌∷◌}
 use native.Mathlib.Nat.{add-zero, zero-add, add_assoc}
 use native.Mathlib.Omega.{arith}
 use lib.ListN.{get_or}
 use Rattle.combinators.specs.Choice.{pick, or, is}
-use Rattle.combinators.proofs.Rules.{pick-holds, is-no, or_assoc, or-false}
+use Rattle.combinators.proofs.Rules.{pick-holds, never, is_true, is-yes, is-no, or_assoc, or-false}
 use Rattle.syntax.specs.RuleLayout.{star_kind, class_kind, element_kind, hash_kind, child_kind}
-use Rattle.syntax.specs.Selector.{Component, star, class, element, hash, child, descendant, nth, attribute, attribute_equal}
+use Rattle.syntax.specs.Selector.{Component, class}
 use Rattle.cascade.specs.Specificity.{specificity_of, no_specificity, sum, SumFits}
 use Rattle.cascade.specs.declared.specificity.Specificity.{Specificity}
-use Rattle.matching.specs.Specificity.{added, specificity}
+use Rattle.matching.specs.Specificity.{added, name_added, specificity}
+use Rattle.matching.proofs.ComponentLaws.{nothing, added-few}
 use Rattle.compiled.specs.Decoded.{Decoded, read, fault, mapped, counted}
 use Rattle.compiled.specs.Component.{written_at, mark_of, named_of, component_in, component_at}
 use Rattle.std.proofs.Common.{Result, Ok, Err}
@@ -24,13 +25,9 @@ use Rattle.compiled.specs.declared.texts.Span.{Span}
 use Rattle.compiled.specs.declared.components.Written.{Written}
 use Rattle.compiled.specs.declared.components.Written.TheVariants as written
 use Rattle.compiled.proofs.Answers.{got, answer_read, answer-fault}
-use Rattle.compiled.proofs.Following.{then-read, then-fault, mapped-read}
-use Rattle.compiled.proofs.Walking.{at_component, at-fault, Source, source}
+use Rattle.compiled.proofs.Following.{then-read, then-fault}
+use Rattle.compiled.proofs.Walking.{at_component, at-fault, Source, source, component-written}
 use Rattle.stepping.specs.Reading.{weight_at, weights_at}
-
--- as the code's constant has it
-abbrev nothing : Specificity
-nothing = record { inline = false; id = 0; class = 0; typ = 0 }
 
 -- ---- one component
 -- star and combinators add nothing
@@ -69,23 +66,26 @@ weight-read : (code : List ℕ) (at n : ℕ) (c : Component) (s : Specificity) �
 unfolding weight_at mapped read_answer
 weight-read code at n c s e p = rw (e, p)
 
--- ---- the returns of `name_weight`
-module _ (kind : ℕ) (s : Specificity) where
-  -- whatever the text is
-  abbrev Named : Type 0
-  Named = (x : List ℕ) → s ≡ added (named_of kind x)
+-- ---- what a component of one text adds
+-- whatever the text is, it adds what its kind does
+abbrev Named : ℕ → Specificity → Type 0
+Named kind s = (x : List ℕ) → s ≡ added (named_of kind x)
 
-  -- an element's name adds one to the type names, whatever it is
-  pub element-weight : kind ≡ element_kind → s ≡ specificity_of 0 0 1 → Named
-  element-weight e q = λ x. q ∙ element-adds kind x e
+-- what its kind does
+pub name-adds : (kind : ℕ) (s : Specificity) → s ≡ name_added kind → Named kind s
+name-adds kind s e = λ x. e ∙ by-kind x
+  where
+    by-kind : (x : List ℕ) → name_added kind ≡ added (named_of kind x)
+    by-kind x = go (is kind element_kind) refl (is kind hash_kind) refl
+      where
+        -- a kind that is another is not this one
+        other : (k : ℕ) → is kind k ≡ false → ¬ (kind ≡ k)
+        other k f y = never (sym f ∙ is-yes kind k y)
 
-  -- an id adds one to the ids, whatever it is
-  pub hash-weight : kind ≡ hash_kind → s ≡ specificity_of 1 0 0 → Named
-  hash-weight e q = λ x. q ∙ hash-adds kind x e
-
-  -- a class or an attribute adds one to the classes, whatever it is
-  pub class-weight : ¬ (kind ≡ element_kind) → ¬ (kind ≡ hash_kind) → s ≡ specificity_of 0 1 0 → Named
-  class-weight no-element no-hash q = λ x. q ∙ class-adds kind x no-element no-hash
+        go : (a : Bool) → is kind element_kind ≡ a → (b : Bool) → is kind hash_kind ≡ b → name_added kind ≡ added (named_of kind x)
+        go true p b q = let z : name_added kind ≡ specificity_of 0 0 1 = unfold name_added pick in rw p in z ∙ element-adds kind x (is_true kind element_kind p)
+        go false p true q = let z : name_added kind ≡ specificity_of 1 0 0 = unfold name_added pick in rw (p, q) in z ∙ hash-adds kind x (is_true kind hash_kind q)
+        go false p false q = let z : name_added kind ≡ specificity_of 0 1 0 = unfold name_added pick in rw (p, q) in z ∙ class-adds kind x (other element_kind p) (other hash_kind q)
 
 -- ---- the returns of `written_weight`
 module _ (w : Written) (s : Specificity) where
@@ -119,6 +119,10 @@ module _ (code : List ℕ) (at : ℕ) (r : Result (Read Written) Fault) (er : r 
   pub long-weight : (x : Read Written) → r ≡ Ok x → (s : Specificity) → Adds x.value s → got x.next s ≡ weight_at code at
   long-weight x p s q = weight-read code at x.next (component_in code x.value) s (at_component code at r er x p) (q code)
 
+  -- and what is made of what was read, with the same place behind it
+  pub long-made : (x : Read Written) → r ≡ Ok x → (m : Read Specificity) → m.next ≡ x.next → Adds x.value m.value → Ok m ≡ weight_at code at
+  long-made x p m e q = ap (λ (n : ℕ). got n m.value) e ∙ long-weight x p m.value q
+
   -- where no component is read, the fault is at the same place
   pub fault-weight : (f : Fault) → r ≡ Err f → Err f ≡ weight_at code at
   unfolding weight_at mapped read_answer
@@ -126,15 +130,10 @@ module _ (code : List ℕ) (at : ℕ) (r : Result (Read Written) Fault) (er : r 
 
 -- ---- the returns of `read_weight`
 module _ (code : List ℕ) (at size : ℕ) (short : ShortSize code at size) where
-  -- what is read of it
-  short-read : (n : ℕ) (w : Written) → written_at code at ≡ read n w → component_at code at ≡ read n (component_in code w)
-  unfolding component_at
-  short-read n w e = mapped-read (component_in code) (written_at code at) n w e
-
   -- a kind alone adds nothing
   pub short-alone : size ≡ 1 → got (at + 1) nothing ≡ weight_at code at
   unfolding component_in
-  short-alone e = weight-read code at (at + 1) _ nothing (short-read _ _ (short.alone e)) (mark-adds _)
+  short-alone e = weight-read code at (at + 1) _ nothing (component-written code at _ _ (short.alone e)) (mark-adds _)
 
   -- a kind and a text add what the kind says
   pub short-named : ¬ (size ≡ 1) → (kind : ℕ) → kind ≡ get_or code at 0 → (s : Specificity) → Named kind s → got (at + size) s ≡ weight_at code at
@@ -142,7 +141,7 @@ module _ (code : List ℕ) (at size : ℕ) (short : ShortSize code at size) wher
   short-named h kind e s q =
       let more : 1 < size = let z = short.some in omega arith in
       let x : Span = record { start = at + 2; size = size - 2 } in
-      weight-read code at (at + size) _ s (short-read _ _ (short.named more)) (q (text_in code x) ∙ ap (λ (k : ℕ). added (named_of k (text_in code x))) e)
+      weight-read code at (at + size) _ s (component-written code at _ _ (short.named more)) (q (text_in code x) ∙ ap (λ (k : ℕ). added (named_of k (text_in code x))) e)
 
 -- ---- sums
 -- brackets do not matter
@@ -160,19 +159,6 @@ sum_first s = rw (zero-add s.id, zero-add s.class, zero-add s.typ)
 sum-last : (s : Specificity) → sum s no_specificity ≡ s
 unfolding sum no_specificity specificity_of
 sum-last s = rw (or-false s.inline false refl, add-zero s.id, add-zero s.class, add-zero s.typ)
-
--- a component adds at most one to each count
-added-few : (c : Component) → ((added c).id ≤ 1) × (((added c).class ≤ 1) × ((added c).typ ≤ 1))
-unfolding added specificity_of no_specificity
-added-few star = (omega arith, (omega arith, omega arith))
-added-few (class c) = (omega arith, (omega arith, omega arith))
-added-few (element n) = (omega arith, (omega arith, omega arith))
-added-few (hash h) = (omega arith, (omega arith, omega arith))
-added-few child = (omega arith, (omega arith, omega arith))
-added-few descendant = (omega arith, (omega arith, omega arith))
-added-few (nth a b) = (omega arith, (omega arith, omega arith))
-added-few (attribute n) = (omega arith, (omega arith, omega arith))
-added-few (attribute_equal n v) = (omega arith, (omega arith, omega arith))
 
 -- ---- what was added, with what is left
 unfoldable pub weighing : Specificity → Decoded (List Component) → Result (Read Specificity) Fault

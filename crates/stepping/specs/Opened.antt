@@ -18,6 +18,7 @@ use Rattle.runner.specs.LeastLengths.{state_least}
 use Rattle.runner.specs.PageRows.{selectors_declare}
 use Rattle.runner.specs.Run.{found_at}
 use Rattle.runner.specs.State.{part_place, part_of, raised, opened}
+use Rattle.stepping.specs.declared.step.NodeRow.{NodeRow}
 
 -- bytes that read as a sheet, and a part of the state for each depth
 pub record OpenLent (code state : List ℕ) : Type 0 where
@@ -53,3 +54,10 @@ child_passed code e d state =
 pub record ElementOpened (code : List ℕ) (e : Element) (d : ℕ) (out state out₁ state₁ : List ℕ) : Type 0 where
   pub row : out₁ ≡ merged_row Crate (inherited_row Crate out) (selectors_declare (found_at code (child_passed code e d state).matched))
   pub part : state₁ ≡ opened (raised state (part_place code d)) (part_place code (suc d)) (child_passed code e d state).part
+
+-- ---- the same of a row as it is handed
+abbrev pub child_below_of : NodeRow → List ℕ → Element
+child_below_of row above = child_below row.node.now row.attributes.now row.text.now above
+
+abbrev pub child_element_of : NodeRow → List ℕ → ℕ → Element
+child_element_of row state parent = child_element row.node.now row.attributes.now row.text.now state parent

@@ -14,35 +14,39 @@ ghost use Rattle.stepping.specs.Passing.{SheetLent};
 
 use crate::merging::merge_found;
 use cascade::rows::StyleRow;
+use compiled::bytes::SheetBytes;
 use compiled::numbers::read_number;
 use hints::hints::hint_of;
 use hints::skipping::skip_failing;
-use sweeps::elements::Handed;
+use sweeps::elements::{Handed, Row};
 use visits::document::{first_styled, tell_document};
-use visits::passing::{NO_PLACE, pass_blocks};
-use visits::rows::Row;
+use visits::passing::pass_blocks;
 use visits::visiting::visit;
 
-// The selector at `p`, at a row: its block goes to the own part, and where it matches its styles are merged. Returns the place of the next selector. (`own` is
-// written while the row is read, and `p` is another at each turn, so the three are no struct.)
-fn visit_found(row: &Row<'_>, own: &mut [u8], p: usize, out: &mut StyleRow) -> usize
+// The selector at `place`, at a row: its block goes to the own part, and where it matches its styles are merged. Returns the place of the next selector. (Row and
+// own part are no struct: see visits/src/visiting.rt.)
+fn visit_found(row: &Row<'_>, own: &mut [u8], place: usize, out: &mut StyleRow) -> usize
+    requires few_bytes { length row.now.compiled.now ≤ compiled_limit }
     requires room { length row.now.above.now ≤ length own.old }
-    requires near { p ≤ compiled_limit }
-    ensures own_after { own.new ≡ block_set (visited row.now p) (next_from row.now p) p own.old }
-    ensures out_after { out.new ≡ merged_row Crate out.old (selectors_declare (found_at row.now.compiled.now (matched_here (visited row.now p) p))) }
-    ensures value { result ≡ next_from row.now p }
+    requires near { place ≤ compiled_limit }
+    ensures own_after { own.new ≡ block_set (visited row.now place) (next_from row.now place) place own.old }
+    ensures out_after { out.new ≡ merged_row Crate out.old (selectors_declare (found_at row.now.compiled.now (matched_here (visited row.now place) place))) }
+    ensures value { result ≡ next_from row.now place }
     ensures upper_bound { result < pair_limit }
 {
-    let answer = visit(row, own, p);
+    let answer = visit(row, own, place);
     if answer.matched {
-        merge_found(row.compiled, p, out);
+        let sheet = SheetBytes {
+            bytes: row.compiled,
+        };
+        merge_found(sheet, place, out);
     }
     answer.next
 }
 
-// At most `count` selectors from the one at `first` on, at an element. Those that surely fail are passed over by a hint, which is found once. (A call of its own: as a part of the whole
-// run its loop has too few registers, by a tenth of a run's time. The row is made here: the hint asks for the element, for which a `Row` has an `Option`. A
-// block says where the next one is, so that no slice of `own` holds `count` of them, here and in `pass_told`.)
+// At most `count` selectors from the one at `first` on, at an element. Those that surely fail are passed over by a hint, which is found once. (A call of its own:
+// as a part of the whole run its loop has too few registers, by a tenth of a run's time. The row is made here: the hint asks for the element, for which a `Row`
+// has an `Option`. A block says where the next one is, so that no slice of `own` holds `count` of them.)
 #[inline(never)]
 fn pass_found(
     compiled: &[u8],
@@ -66,16 +70,11 @@ fn pass_found(
         element: Some(element),
     };
     let hint = hint_of(element, count);
-    let mut p = first;
+    let mut place = first;
     let mut left = count;
-    // a pass over some is no step of a range
-    while left > 0 {
-        let skipped = skip_failing(&row, own, p, left, hint);
-        if skipped.left == 0 || skipped.place == NO_PLACE {
-            return;
-        }
-        p = visit_found(&row, own, skipped.place, out);
-        left = skipped.left - 1;
+    while let Some(skipped) = skip_failing(&row, own, place, left, hint) {
+        place = visit_found(&row, own, skipped.place, out);
+        left = skipped.behind;
     }
 }
 
@@ -95,14 +94,14 @@ pub fn pass_element(
     let Ok(count) = read_number(compiled, 0) else {
         return;
     };
-    let first = first_styled(compiled, count.next, count.value);
-    if first == NO_PLACE {
+    let Some(first) = first_styled(compiled, count.next, count.value) else {
         return;
-    }
+    };
     pass_found(compiled, above, own, first, count.value, element, out);
 }
 
-// At most `count` selectors from the one at `first` on, at the document, by what it is told.
+// At most `count` selectors from the one at `first` on, at the document, by what it is told. (A call of its own: in `pass_document` the row would be made of what
+// is lent at two lifetimes, which the borrow checker does not cover.)
 fn pass_told<'a>(compiled: &'a [u8], told: &'a [u8], own: &mut [u8], first: usize, count: u32)
     requires few_bytes { length compiled.now ≤ compiled_limit }
     requires room { length told.now ≤ length own.old }
@@ -127,6 +126,7 @@ pub fn pass_document(compiled: &[u8], own: &mut [u8], next: &mut [u8])
         return;
     };
     tell_document(compiled, next, count.next, count.value);
-    let first = first_styled(compiled, count.next, count.value);
-    pass_told(compiled, next, own, first, count.value);
+    if let Some(first) = first_styled(compiled, count.next, count.value) {
+        pass_told(compiled, next, own, first, count.value);
+    }
 }

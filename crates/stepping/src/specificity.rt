@@ -1,24 +1,13 @@
 // How specific a selector in compiled bytes is: what each of its components adds.
 ghost use Rattle.std.specs.Prelude.{◌≡◌, List, ℕ};
 ghost use Rattle.matching.specs.Specificity.{added};
-ghost use Rattle.compiled.specs.Component.{named_of, component_in};
+ghost use Rattle.compiled.specs.Component.{component_in};
 ghost use Rattle.stepping.specs.Reading.{weight_at, weights_at};
 
 use cascade::specificity::Specificity;
 use compiled::components::{MARK_SIZE, Written, read_component, short_size};
 use compiled::places::{Fault, Read};
-use syntax::rows::{ELEMENT, HASH};
-
-// What a component of one text adds, by its kind, a number of the bytes: the last arm is that of any other.
-fn name_weight(kind: u32) -> Specificity
-    ensures { (x : List ℕ) → result ≡ added (named_of kind x) }
-{
-    match kind {
-        ELEMENT => Specificity::new(0, 0, 1),
-        HASH => Specificity::new(1, 0, 0),
-        _ => Specificity::new(0, 1, 0),
-    }
-}
+use matching::components::name_weight;
 
 // What a component adds, by what its bytes say.
 fn written_weight(written: Written) -> Specificity
@@ -27,8 +16,7 @@ fn written_weight(written: Written) -> Specificity
     match written {
         Written::Mark(_) => Specificity::NONE,
         Written::Name(kind, _) => name_weight(kind),
-        Written::Numbers(_, _) => Specificity::new(0, 1, 0),
-        Written::Names(_, _) => Specificity::new(0, 1, 0),
+        Written::Numbers(_, _) | Written::Names(_, _) => Specificity::new(0, 1, 0),
     }
 }
 
@@ -36,11 +24,7 @@ fn written_weight(written: Written) -> Specificity
 fn read_long_weight(compiled: &[u8], at: usize) -> Result<Read<Specificity>, Fault>
     ensures { result ≡ weight_at compiled.now at }
 {
-    let component = read_component(compiled, at)?;
-    Ok(Read {
-        next: component.next,
-        value: written_weight(component.value),
-    })
+    Ok(read_component(compiled, at)?.map(written_weight))
 }
 
 // What the component at `at` adds. Of a short one, as most are, the size and the first byte tell it.
@@ -68,7 +52,7 @@ pub fn read_weights(compiled: &[u8], at: usize, count: u32) -> Result<Read<Speci
     let mut next = at;
     for _ in 0..count {
         let weight = read_weight(compiled, next)?;
-        value = value.add(weight.value);
+        value = value + weight.value;
         next = weight.next;
     }
     Ok(Read { next, value })

@@ -5,3 +5,4 @@ pub mod Called
 pub mod Room
 pub mod Merging
 pub mod Agreeing
+pub mod StyleRows

@@ -1,7 +1,7 @@
 -- The laws of declarations merged into a row, and of what attributes declare.
 use mathlib.Core.Path.{◌≡◌, refl, sym, ap, ◌∙◌}
 use mathlib.Core.Bool.{false}
-use mathlib.Core.List.{List, [], ◌∷◌, ◌++◌, map, append_assoc}
+use mathlib.Core.List.{List, [], ◌∷◌, ◌++◌, map, append_assoc, map-append}
 use Prim.Native.Nat.{ℕ}
 use lib.ListN.{length}
 use Rattle.combinators.specs.Choice.{pick}
@@ -64,7 +64,7 @@ module _ (c : Cascade) (row₀ : List ℕ) (all : List (Declared Value)) where
 -- ---- what attributes declare, one behind the other
 module _ {A : Type 0} where
   -- the colour attributes of two lists declare one behind the other
-  colours-append : (xs ys : List (AttributeStyle A)) → colour_attributes (xs ++ ys) ≡ colour_attributes xs ++ colour_attributes ys
+  pub colours-append : (xs ys : List (AttributeStyle A)) → colour_attributes (xs ++ ys) ≡ colour_attributes xs ++ colour_attributes ys
   unfolding colour_attributes
   colours-append [] ys = refl
   colours-append (x ∷ xs) ys = rw (colours-append xs ys) (sym (append_assoc (pick x.is_style [] (from_attribute false no_specificity x ∷ [])) (colour_attributes xs) (colour_attributes ys)))
@@ -74,11 +74,6 @@ module _ {A : Type 0} where
   unfolding style_attributes
   styles-append [] ys = refl
   styles-append (x ∷ xs) ys = rw (styles-append xs ys) (sym (append_assoc (pick x.is_style (from_attribute x.style.important inline_specificity x ∷ []) []) (style_attributes xs) (style_attributes ys)))
-
-  -- a function over two lists in a row is that over the first, and then over the second
-  map-append : {B : Type 0} (f : A → B) (xs ys : List A) → map f (xs ++ ys) ≡ map f xs ++ map f ys
-  map-append f [] ys = refl
-  map-append f (x ∷ xs) ys = rw (map-append f xs ys)
 
 module _ {A : Type 0} where
   -- what two lists of attributes declare before the author's rules is one behind the other

@@ -4,9 +4,9 @@ use mathlib.Core.Bool.{false}
 use mathlib.Core.List.{List, [], ◌∷◌}
 use Prim.Native.Nat.{ℕ, zero, suc, ◌+◌, ◌-◌, ◌*◌, ◌≤◌}
 use native.Mathlib.Omega.{arith}
-use lib.ListN.{length, drop, length-append, length-take}
-use Rattle.combinators.specs.Part.{part}
+use lib.ListN.{length, length-append}
 use Rattle.combinators.proofs.Rules.{pick-holds}
+use Rattle.combinators.proofs.Parts.{part-le}
 use Rattle.characters.specs.Literal.{text}
 use Rattle.syntax.specs.Declaration.{Colour}
 use Rattle.syntax.specs.Layout.{style_text_of, style_text, style_texts}
@@ -97,11 +97,6 @@ path-short settings [] = omega arith
 path-short settings (e ∷ up) = omega (arith, length-append (path_contents settings up) (inline_contents settings e), path-short settings up, inline-short settings e)
 
 -- ---- the attributes of an element of a page
--- a part is no longer than was asked for
-part-le : (t : List ℕ) (start size : ℕ) → length (part t start size) ≤ size
-unfolding part
-part-le t start size = omega (arith, length-take size (drop start t))
-
 module _ (attributes text : List ℕ) where
   -- as many attributes as were asked for
   pub attributes-counted : (k at : ℕ) → length (attributes_from attributes text k at) ≡ k

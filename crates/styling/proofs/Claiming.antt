@@ -42,7 +42,7 @@ unfolding padded
 padded-front xs n k e = take_at xs (replicate (n - length xs) 0) k e
 
 -- filled up with zeros to a length, a list is no shorter than it was
-padded-long : (xs : List ℕ) (n : ℕ) → length xs ≤ length (padded xs n)
+pub padded-long : (xs : List ℕ) (n : ℕ) → length xs ≤ length (padded xs n)
 unfolding padded
 padded-long xs n = omega (arith, length-append xs (replicate (n - length xs) 0))
 

@@ -1,6 +1,6 @@
 -- The cascade by those styles that decide is the cascade by all of them, down a path.
 use mathlib.Core.Path.{◌≡◌, refl, ap, sym, ◌∙◌}
-use mathlib.Core.List.{List, [], ◌∷◌, ◌++◌, map, foldl}
+use mathlib.Core.List.{List, [], ◌∷◌, ◌++◌, map, foldl, foldl-append}
 use Prim.Native.Nat.{ℕ, ◌+◌}
 use lib.ListN.{length}
 use Rattle.syntax.specs.Style.{agent_origin, user_origin, author_origin}
@@ -19,7 +19,6 @@ use Rattle.styles.proofs.Called.{cascaded-formed}
 use Rattle.styles.proofs.Merging.{declared-parts}
 use Rattle.rule_styles.specs.Deciding.{deciding_rule}
 use Rattle.rule_styles.proofs.DecidingSame.{rules-same}
-use Rattle.rule_styles.proofs.DecidingSlot.{fold-append}
 
 -- three sheets, by the styles that decide
 abbrev pub decided : Rules (StyledRule Value) → Rules (StyledRule Value)
@@ -32,10 +31,10 @@ module _ (c : Cascade) (rules : Rules (StyledRule Value)) where
   -- declarations in five parts
   parts : (s : ComputedStyle Value) (a u e w l : List (Declared Value)) → merged s (a ++ (u ++ (e ++ (w ++ l)))) ≡ merged (merged (merged (merged (merged s a) u) e) w) l
   parts s a u e w l =
-      fold-append (merge_by (update_by c)) s a (u ++ (e ++ (w ++ l)))
-      ∙ fold-append (merge_by (update_by c)) (merged s a) u (e ++ (w ++ l))
-      ∙ fold-append (merge_by (update_by c)) (merged (merged s a) u) e (w ++ l)
-      ∙ fold-append (merge_by (update_by c)) (merged (merged (merged s a) u) e) w l
+      foldl-append (merge_by (update_by c)) s a (u ++ (e ++ (w ++ l)))
+      ∙ foldl-append (merge_by (update_by c)) (merged s a) u (e ++ (w ++ l))
+      ∙ foldl-append (merge_by (update_by c)) (merged (merged s a) u) e (w ++ l)
+      ∙ foldl-append (merge_by (update_by c)) (merged (merged (merged s a) u) e) w l
 
   -- at one element, below any formed parent, the deciding styles of the rules cascade to the same style as all of them
   element-decided : (parent : ComputedStyle Value) → Formed parent → (xs : List (AttributeStyle Value)) (p : Path)

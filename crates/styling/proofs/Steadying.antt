@@ -8,7 +8,7 @@ use lib.Seq.{sets, sets-eq, length-sets, take_at, drop_at, drop-drop, length-tak
 use Rattle.combinators.proofs.Wiped.{sets-append}
 use Rattle.syntax.specs.Selector.{Selector, RuleSet}
 use Rattle.origins.specs.declared.reading.SheetRules.{SheetRules}
-use Rattle.origins.specs.declared.reading.SheetsRules.{SheetsRules}
+use Rattle.origins.specs.Reading.{SheetsRules}
 use Rattle.origins.proofs.SheetsKnown.{from_first, from_second, from-third, rows_held, texts_held, rows-length, zr, zt, rows_are, texts-are}
 use Rattle.page.specs.Path.{Path}
 use Rattle.matching.specs.Rows.{Rooted}
@@ -18,9 +18,9 @@ use Rattle.rule_styles.specs.Deciding.{deciding_rule}
 use Rattle.rule_styles.specs.Placing.{sheet_text, rules_selectors, kept_rules}
 use Rattle.path_styles.specs.Path.{kept_sheet, kept_sheets, SameKept, SheetsTops, Steady, PathRoom}
 use Rattle.path_styles.specs.Tops.{selectors_tops, sheet_selectors, sheets_selectors, SheetsTopsRoom, ready_places, ready_counts, ready_sheets}
-use Rattle.path_styles.specs.declared.tops.ReadySheets.{ReadySheets}
+use Rattle.path_styles.specs.Tops.{ReadySheets}
 use Rattle.rule_styles.specs.Held.{SheetsHeld, PathHeld, sheets_kept, styled_places}
-use Rattle.rule_styles.specs.declared.styled.StyledSheets.{StyledSheets}
+use Rattle.rule_styles.specs.Held.{StyledSheets}
 use Rattle.styling.proofs.DecidedCascade.{decided}
 use Rattle.path_styles.proofs.TopsLaws.{right-stored, tops-long, tops-append}
 use Rattle.rule_styles.proofs.KeptBack.{rules-kept}
@@ -44,7 +44,7 @@ take-stored l vs h = ap (take (length vs)) (sets-eq vs l 0 (omega arith)) ∙ ta
 
 -- one sheet, read back
 sheet-back : {rows texts : List ℕ} (tokens : List ℕ) {end : ℕ} (x : SheetRules) (rs : List RuleSet) (p q f : ℕ) (others : List ℕ) → SheetLies rows texts end x rs → drop p tokens ≡ kept_rules (placed_rules f rs) ++ others
-    → kept_sheet rows tokens texts end (record { rules = x; styles = p; tops = q }) ≡ map deciding_rule (placed_rules f rs)
+    → kept_sheet rows tokens texts end (record { styled = record { rules = x; styles = p }; tops = q }) ≡ map deciding_rule (placed_rules f rs)
 unfolding kept_sheet
 sheet-back {rows} {texts} tokens {end} x rs p q f others l e = rw (l.counted, l.rows_at, e) (rules-kept (sheet_text texts x.from end) rs 0 f l.behind others l.fit l.held)
 
@@ -89,7 +89,7 @@ module _ {s : SheetsRules} {rows tokens texts : List ℕ} (h : SheetsHeld s rows
 
   -- places, and how far they go
   pub record Places : Type 0 where
-    pub end_short : ready.end ≤ held.bytes h
+    pub end_short : ready.sheets.end ≤ held.bytes h
     pub rows_short : ready.rows ≤ 8 * held.bytes h
     pub behind-short : ready.behind ≤ 8 * held.bytes h
     pub fill-short : ready.fill ≤ held.bytes h
@@ -257,9 +257,9 @@ module _ {s : SheetsRules} {rows tokens texts : List ℕ} (h : SheetsHeld s rows
             let fa = held.fa h in
             let fu = held.fu h in
             rw (
-              sheet-back tokens' s.agent A 0 ready.agent.tops 0 ((K fa U ++ K fu W) ++ Z) (agent-lies-in h X Q rx tx) (ap (drop 0) kx ∙ from_first (K 0 A) (K fa U) (K fu W) Z),
-              sheet-back tokens' s.user U (held.pa h) ready.user.tops fa (K fu W ++ Z) (user-lies-in h X Q rx tx) (ap (drop (held.pa h)) kx ∙ from_second (K 0 A) (K fa U) (K fu W) Z (held.pa h) refl),
-              sheet-back tokens' s.author W (held.pu h) ready.author.tops fu Z (author-lies-in h X Q rx tx) (ap (drop (held.pu h)) kx ∙ from-third (K 0 A) (K fa U) (K fu W) Z (held.pu h) refl),
+              sheet-back tokens' s.agent A 0 ready.sheets.agent.tops 0 ((K fa U ++ K fu W) ++ Z) (agent-lies-in h X Q rx tx) (ap (drop 0) kx ∙ from_first (K 0 A) (K fa U) (K fu W) Z),
+              sheet-back tokens' s.user U (held.pa h) ready.sheets.user.tops fa (K fu W ++ Z) (user-lies-in h X Q rx tx) (ap (drop (held.pa h)) kx ∙ from_second (K 0 A) (K fa U) (K fu W) Z (held.pa h) refl),
+              sheet-back tokens' s.author W (held.pu h) ready.sheets.author.tops fu Z (author-lies-in h X Q rx tx) (ap (drop (held.pu h)) kx ∙ from-third (K 0 A) (K fa U) (K fu W) Z (held.pu h) refl),
             )
             refl
 

@@ -2,9 +2,10 @@
 use mathlib.Core.Path.{◌≡◌, refl, ap, sym, ◌∙◌}
 use mathlib.Core.Bool.{Bool, true, false}
 use Rattle.std.proofs.Common.{Option, Some, None, Result, Ok, Err}
+use Rattle.std.proofs.lemmas.List.{drop-replicate}
 use Rattle.std.specs.Result.{IsErrAnd}
 use mathlib.Core.List.{List, ◌++◌}
-use Prim.Native.Nat.{ℕ, zero, suc, ◌+◌, ◌-◌, ◌^◌, ◌≤◌, ◌<◌}
+use Prim.Native.Nat.{ℕ, suc, ◌+◌, ◌-◌, ◌^◌, ◌≤◌, ◌<◌}
 use native.Mathlib.Omega.{arith}
 use borrow.Author.Tests.{ltb-true, leb-true}
 use lib.Dec.{leb, ltb}
@@ -22,7 +23,7 @@ use Rattle.syntax.specs.Selector.{RuleSet}
 use Rattle.sheets.specs.SheetAnswer.{sheet_limit, padded}
 use Rattle.origins.specs.Checks.{any_too_long, all_valid, Lent}
 use Rattle.origins.specs.Reading.{Sheets, panicked, sheets_of, sheets_rows, sheets_texts, sheets_answer, SheetsRoom}
-use Rattle.origins.specs.declared.reading.SheetsRules.{SheetsRules}
+use Rattle.origins.specs.Reading.{SheetsRules}
 use Rattle.origins.specs.declared.reading.SheetPanic.{SheetPanic}
 use Rattle.origins.proofs.ChecksLaws.{none-long}
 use Rattle.origins.proofs.SheetsKnown.{zeros_of, room-cleared, panic-known}
@@ -90,12 +91,6 @@ told-panic p = refl
 pub left_by : {a a' : StyleAnswer} {o o' t t' y y' x x' b b' : List ℕ} → a ≡ a' → o ≡ o' → t ≡ t' → y ≡ y' → x ≡ x' → b ≡ b'
     → ◌≡◌ {A = StyleLeft} (record { answer = a; row = o; texts = t; rules = y; tokens = x; brackets = b }) (record { answer = a'; row = o'; texts = t'; rules = y'; tokens = x'; brackets = b' })
 left_by p q r s t u = rw (p, q, r, s, t, u) refl
-
--- zeros behind a place in zeros
-drop-zeros : (n k : ℕ) → drop {A = ℕ} n (replicate k 0) ≡ replicate (k - n) 0
-drop-zeros zero k = let e : k - 0 ≡ k = omega arith in rw e refl
-drop-zeros (suc n) zero = let e : 0 - suc n ≡ 0 = omega arith in rw e refl
-drop-zeros (suc n) (suc k) = let e : suc k - suc n ≡ k - n = omega arith in rw e (drop-zeros n k)
 
 module _ (c : Cascade) (settings : Settings) (p : Path) {agent user author rules₀ tokens₀ brackets₀ texts₀ : List ℕ} (o : Lent agent user author rules₀ tokens₀ brackets₀ texts₀) (out₀ : List ℕ)
     (l : CallLent (length agent + length user + length author) p out₀ rules₀ tokens₀ brackets₀ texts₀)
@@ -193,7 +188,7 @@ module _ (c : Cascade) (settings : Settings) (p : Path) {agent user author rules
           let row = call_row c R settings p in
           let store = call_store R settings p in
           let are = held.sheets-are lies in
-          let rest : drop style_row_width o₁ ≡ replicate (length out₀ - length row) 0 = ap (drop style_row_width) (co ∙ zeros_of out₀ out₀ refl) ∙ drop-zeros style_row_width (length out₀) ∙ ap (λ (i : ℕ). replicate (length out₀ - i) 0) (sym (call-row-long c R settings p)) in
+          let rest : drop style_row_width o₁ ≡ replicate (length out₀ - length row) 0 = ap (drop style_row_width) (co ∙ zeros_of out₀ out₀ refl) ∙ drop-replicate style_row_width (length out₀) 0 ∙ ap (λ (i : ℕ). replicate (length out₀ - i) 0) (sym (call-row-long c R settings p)) in
           left_by
           (ea ∙ ap (λ (i : ℕ). record { refusal = no_refusal; texts = i }) (en ∙ ap (λ (q : Rules RuleSet). length (call_store q settings p)) are))
           (eo ∙ ap (λ (q : Rules RuleSet). call_row c q settings p ++ drop style_row_width o₁) are ∙ ap (λ (z : List ℕ). row ++ z) rest)
@@ -376,14 +371,6 @@ module _ (c : Cascade) (settings : Settings) (s : SheetTexts) (g : Page) (row : 
       -- each of the three sheets is within its limit
       within : (length s.agent ≤ sheet_limit) × (length s.user ≤ sheet_limit) × (length s.author ≤ sheet_limit)
       within = none-long (length s.agent) (length s.user) (length s.author) (sym e ∙ f)
-
-      -- the lengths of the first two can be added
-      pub two-fit : length s.agent + length s.user < 2 ^ 64
-      two-fit = omega (arith, within.0, within.1)
-
-      -- the lengths of all three can be added
-      pub three-fit : length s.agent + length s.user + length s.author < 2 ^ 64
-      three-fit = omega (arith, within.0, within.1, within.2)
 
       -- all three together have at most three times the bytes that one sheet may have
       pub few_bytes : FewBytes (length s.agent + length s.user + length s.author)

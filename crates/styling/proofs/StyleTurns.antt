@@ -1,23 +1,22 @@
 -- Returns of the functions of a style call.
 use mathlib.Core.Path.{◌≡◌, refl, ap, sym, ◌∙◌}
-use mathlib.Core.Bool.{Bool, true, false}
+use mathlib.Core.Bool.{Bool}
 use mathlib.Core.List.{List, ◌++◌, append_assoc}
-use Prim.Native.Nat.{ℕ, ◌+◌, ◌-◌, ◌^◌, ◌≤◌, ◌<◌}
+use Prim.Native.Nat.{ℕ, ◌+◌, ◌-◌, ◌≤◌, ◌<◌}
 use native.Mathlib.Omega.{arith}
 use borrow.Author.Tests.{lt-ltb, le-ltb, le-leb, lt-leb}
 use lib.Dec.{leb, ltb, eqb}
 use lib.ListN.{length, take, drop, replicate, length-append, length-drop}
 use lib.Seq.{sets, sets-eq, length-sets, take_at, drop_at, take-add, length-take-le}
 use Rattle.combinators.specs.Choice.{and, is}
-use Rattle.combinators.specs.LeastLengths.{bracket_least, stores_suffice}
+use Rattle.combinators.specs.LeastLengths.{stores_suffice}
 use Rattle.combinators.specs.Part.{part}
 use Rattle.combinators.specs.Store.{cleared}
-use Rattle.combinators.proofs.Cleared.{cleared-is}
+use Rattle.combinators.proofs.Cleared.{cleared-is, cleared-throughout}
 use Rattle.syntax.specs.Selector.{Selector, RuleSet}
 use Rattle.syntax.specs.declared.styles.Value.{Value}
 use Rattle.sheets.specs.SheetAnswer.{padded}
-use Rattle.origins.specs.declared.reading.SheetsRules.{SheetsRules}
-use Rattle.origins.proofs.SheetsKnown.{zeros_of}
+use Rattle.origins.specs.Reading.{SheetsRules}
 use Rattle.cascade.specs.declared.slots.Cascade.{Cascade}
 use Rattle.cascade.specs.Row.{style_row_width, row_of}
 use Rattle.page.specs.Path.{Path}
@@ -33,8 +32,8 @@ use Rattle.rule_styles.specs.Placing.{rules_selectors}
 use Rattle.path_styles.specs.Tops.{selectors_tops, sheets_selectors, SheetsTopsRoom, ready_places, ready_counts, ready_sheets}
 use Rattle.path_styles.specs.Path.{kept_sheets, Steady, PathRoom}
 use Rattle.styling.specs.StyleAnswer.{is_element}
-use Rattle.rule_styles.specs.declared.styled.StyledSheets.{StyledSheets}
-use Rattle.path_styles.specs.declared.tops.ReadySheets.{ReadySheets}
+use Rattle.rule_styles.specs.Held.{StyledSheets}
+use Rattle.path_styles.specs.Tops.{ReadySheets}
 use Rattle.styling.proofs.DecidedCascade.{decided, path-decided}
 use Rattle.rule_styles.proofs.SheetsHeldLaws as held
 use Rattle.styling.proofs.Steadying as still
@@ -52,26 +51,11 @@ module _ (nodes : List ℕ) (row n : ℕ) (en : n ≡ node_count nodes) where
   element-beyond h = rw (← en, le-ltb row n h) refl
 
 -- ---- whether what is lent suffices
--- a test beside one that fails does not hold
-and-false : (a : Bool) → and a false ≡ false
-unfolding and
-and-false true = refl
-and-false false = refl
-
--- stores with fewer brackets than bytes do not suffice
-suffices-not : (n rules tokens brackets texts : ℕ) → brackets < n → stores_suffice n rules tokens brackets texts ≡ false
-unfolding stores_suffice and
-suffices-not n rules tokens brackets texts h = rw (lt-leb (bracket_least n) brackets h) (and-false (leb _ texts))
-
 module _ (n out rules tokens brackets texts : ℕ) where
   -- a row that is too short does not suffice, whatever the stores are
   pub short_row : out < style_row_width → leb style_row_width out ≡ and (leb style_row_width out) (stores_suffice n rules tokens brackets texts)
   unfolding and
   short_row h = rw (lt-leb style_row_width out h) refl
-
-  -- too few brackets do not suffice, whatever the row is
-  pub short-brackets : brackets < n → false ≡ and (leb style_row_width out) (stores_suffice n rules tokens brackets texts)
-  short-brackets h = rw (suffices-not n rules tokens brackets texts h) (sym (and-false (leb style_row_width out)))
 
   -- where the row is long enough, the stores decide
   by-stores : style_row_width ≤ out → (r : Bool) → r ≡ stores_suffice n rules tokens brackets texts → r ≡ and (leb style_row_width out) (stores_suffice n rules tokens brackets texts)
@@ -81,10 +65,6 @@ module _ (n out rules tokens brackets texts : ℕ) where
   -- by the count of the bytes
   pub by-count : style_row_width ≤ out → (m : ℕ) → m ≡ n → (r : Bool) → r ≡ stores_suffice m rules tokens brackets texts → r ≡ and (leb style_row_width out) (stores_suffice n rules tokens brackets texts)
   by-count h m e r f = by-stores h r (f ∙ ap (λ (k : ℕ). stores_suffice k rules tokens brackets texts) e)
-
-  -- more bytes than can be counted are more than the brackets
-  pub uncounted : ¬ (n < 2 ^ 64) → brackets < 2 ^ 64 → false ≡ and (leb style_row_width out) (stores_suffice n rules tokens brackets texts)
-  uncounted h b = short-brackets (omega (arith, h))
 
 -- ---- contents moved down, and zeros behind them
 -- the contents, moved down to the start and cleared behind, are the contents and zeros
@@ -169,8 +149,8 @@ module _ {s : SheetsRules} {rows tokens texts : List ℕ} (h : SheetsHeld s rows
       store_is = ap (λ (q : Rules RuleSet). sheets_contents q ++ path_contents settings p) (held.sheets-are h)
 
       -- the texts of the sheets end where they ended when they were read
-      end_is : w.end ≡ s.end
-      end_is = ap (λ (z : ReadySheets). z.end) w-is ∙ (unfold styled_places ready_places ready_counts in refl)
+      end_is : w.sheets.end ≡ s.end
+      end_is = ap (λ (z : ReadySheets). z.sheets.end) w-is ∙ (unfold styled_places ready_places ready_counts in refl)
 
       -- the fill before the path is the length of the sheets' contents
       fill_is : w.fill ≡ length (sheets_contents read)
@@ -181,11 +161,11 @@ module _ {s : SheetsRules} {rows tokens texts : List ℕ} (h : SheetsHeld s rows
       filled = omega (arith, er, fill_is, ap length store_is, length-append (sheets_contents read) (path_contents settings p))
 
       -- they lie within the store
-      pub contents-in : (brackets : List ℕ) → PathHeld h brackets p → (l : List ℕ) → length l ≡ length x → w.end + r ≤ length l
+      pub contents-in : (brackets : List ℕ) → PathHeld h brackets p → (l : List ℕ) → length l ≡ length x → w.sheets.end + r ≤ length l
       contents-in brackets q l e = omega (arith, e, er, path-short settings p, (now-room brackets p q).for-texts)
 
       -- the part of the store behind the texts of the sheets, up to that fill, is the texts of the call
-      pub texts-called : (brackets : List ℕ) → PathHeld h brackets p → (l : List ℕ) → length l ≡ length x → take (w.end + r) l ≡ take (w.end + w.fill) x ++ path_contents settings p → part l w.end r ≡ store
+      pub texts-called : (brackets : List ℕ) → PathHeld h brackets p → (l : List ℕ) → length l ≡ length x → take (w.sheets.end + r) l ≡ take (w.sheets.end + w.fill) x ++ path_contents settings p → part l w.sheets.end r ≡ store
       unfolding part
       texts-called brackets q l n e =
           let C = sheets_contents read in
@@ -193,19 +173,15 @@ module _ {s : SheetsRules} {rows tokens texts : List ℕ} (h : SheetsHeld s rows
           let room = (now-room brackets p q).for-texts in
           let long : length x ≡ length texts = ap length x-is ∙ length-sets texts s.end C in
           let fits : s.end + length C ≤ length texts = omega (arith, room, long, end_is, fill_is) in
-          let a : length (take s.end texts) ≡ w.end = length-take-le s.end texts (omega arith) ∙ sym end_is in
-          let b : length (take w.end l) ≡ w.end = length-take-le w.end l (omega (arith, contents-in brackets q l n)) in
-          let front : take (w.end + w.fill) x ≡ take s.end texts ++ C =
-          ap (take (w.end + w.fill)) (x-is ∙ sets-eq C texts s.end fits)
-          ∙ take_at (take s.end texts ++ C) (drop (s.end + length C) texts) (w.end + w.fill) (omega (arith, length-append (take s.end texts) C, a, fill_is)) in
-          let whole : take (w.end + r) l ≡ take s.end texts ++ (C ++ P) = e ∙ ap (λ (f : List ℕ). f ++ P) front ∙ append_assoc (take s.end texts) C P in
-          behind (take w.end l) (take r (drop w.end l)) (take s.end texts) (C ++ P) (b ∙ sym a) (sym (take-add w.end r l) ∙ whole) ∙ sym store_is
+          let a : length (take s.end texts) ≡ w.sheets.end = length-take-le s.end texts (omega arith) ∙ sym end_is in
+          let b : length (take w.sheets.end l) ≡ w.sheets.end = length-take-le w.sheets.end l (omega (arith, contents-in brackets q l n)) in
+          let front : take (w.sheets.end + w.fill) x ≡ take s.end texts ++ C =
+          ap (take (w.sheets.end + w.fill)) (x-is ∙ sets-eq C texts s.end fits)
+          ∙ take_at (take s.end texts ++ C) (drop (s.end + length C) texts) (w.sheets.end + w.fill) (omega (arith, length-append (take s.end texts) C, a, fill_is)) in
+          let whole : take (w.sheets.end + r) l ≡ take s.end texts ++ (C ++ P) = e ∙ ap (λ (f : List ℕ). f ++ P) front ∙ append_assoc (take s.end texts) C P in
+          behind (take w.sheets.end l) (take r (drop w.sheets.end l)) (take s.end texts) (C ++ P) (b ∙ sym a) (sym (take-add w.sheets.end r l) ∙ whole) ∙ sym store_is
 
 -- ---- stores cleared throughout, which kept their length
--- a store cleared throughout is as many zeros as it was long before
-pub cleared-throughout : (l m z : List ℕ) → length l ≡ length m → z ≡ cleared 0 l → z ≡ replicate (length m) 0
-cleared-throughout l m z e h = h ∙ zeros_of l m e
-
 -- ---- all that is left of sheets that were read
 module _ {s : SheetsRules} {rows tokens texts : List ℕ} (h : SheetsHeld s rows tokens texts) (v : StyledSheets) (t x : List ℕ)
     (ev : v ≡ styled_places s (sheets_from rows texts s)) (et : t ≡ sets tokens 0 (sheets_kept (sheets_from rows texts s))) (ex : x ≡ sets texts s.end (sheets_contents (sheets_from rows texts s))) where
@@ -215,8 +191,8 @@ module _ {s : SheetsRules} {rows tokens texts : List ℕ} (h : SheetsHeld s rows
     pub read_left : (c : Cascade) (settings : Settings) (p : Path) (brackets : List ℕ) → PathHeld h brackets p
         → (out ys : List ℕ) → ys ≡ row_of (cascaded c (placed_from (kept_sheets rows y x w) w.fill settings p))
         → (r : ℕ) → r ≡ w.fill + length (path_contents settings p)
-        → (l : List ℕ) → length l ≡ length x → length x ≡ length texts → take (w.end + r) l ≡ take (w.end + w.fill) x ++ path_contents settings p
-        → (z : List ℕ) → z ≡ padded (part l w.end r) (length l)
+        → (l : List ℕ) → length l ≡ length x → length x ≡ length texts → take (w.sheets.end + r) l ≡ take (w.sheets.end + w.fill) x ++ path_contents settings p
+        → (z : List ℕ) → z ≡ padded (part l w.sheets.end r) (length l)
         → (rows₁ tokens₁ brackets₁ rows₂ tokens₂ brackets₂ : List ℕ) → length rows₁ ≡ length rows → rows₂ ≡ cleared 0 rows₁ → length tokens₁ ≡ length tokens → tokens₂ ≡ cleared 0 tokens₁ → length brackets₁ ≡ length brackets → brackets₂ ≡ cleared 0 brackets₁
         → (ys ++ drop style_row_width out ≡ call_row c (sheets_from rows texts s) settings p ++ drop style_row_width out)
         × ((r ≡ length (call_store (sheets_from rows texts s) settings p))

@@ -19,6 +19,7 @@ use Rattle.combinators.specs.declared.lent.Stores.{Stores}
 use Rattle.styles.specs.declared.settings.Settings.{Settings}
 use Rattle.page.specs.Lent.{Page}
 use Rattle.styles.specs.Lent.{SheetTexts}
+use Rattle.combinators.specs.declared.lent.SheetTexts as code
 use Rattle.styles.specs.Said.{Rules}
 use Rattle.styles.specs.StyleCall.{call_row, call_store}
 
@@ -113,3 +114,10 @@ style_of c settings s g asked row texts rules₀ tokens brackets =
     (pick (and (leb style_row_width (length row)) (stores_suffice (call_bytes s g) (length rules₀) (length tokens) (length brackets) (length texts)))
     (pick (all_valid s.agent s.user s.author) asks (refuses (refused not_utf8)))
     (refuses (refused short_store)))
+
+-- ---- the same of what is lent: a row and the stores
+abbrev pub styled_left_of : code.SheetTexts → Cascade → Settings → Path → List ℕ → Stores → StyleLeft
+styled_left_of s c settings p row a = styled_left row a.texts.now a.rules.now a.tokens.now a.brackets.now c settings p (sheets_of s.agent.now s.user.now s.author.now)
+
+abbrev pub style_of_lent : Cascade → Settings → SheetTexts → Page → ℕ → List ℕ → Stores → StyleLeft
+style_of_lent c settings s g asked row a = style_of c settings s g asked row a.texts.now a.rules.now a.tokens.now a.brackets.now

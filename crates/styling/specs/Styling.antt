@@ -1,9 +1,12 @@
 -- What the parts of a style call ask for.
 use Rattle.std.specs.Prelude.{ℕ, ◌+◌, ◌*◌, ◌≤◌, List, length}
 use Rattle.combinators.specs.LeastLengths.{Least}
+use Rattle.combinators.specs.declared.lent.Stores.{Stores}
+use Rattle.combinators.specs.declared.lent.SheetTexts as code
 use Rattle.sheets.specs.SheetAnswer.{sheet_limit}
 use Rattle.cascade.specs.Row.{style_row_width}
-use Rattle.origins.specs.declared.reading.SheetsRules.{SheetsRules}
+use Rattle.origins.specs.Checks.{Lent}
+use Rattle.origins.specs.Reading.{SheetsRules}
 use Rattle.page.specs.Accepted.{text_limit}
 use Rattle.page.specs.Path.{Path}
 use Rattle.styles.specs.Room.{values_along, attributes_along}
@@ -39,3 +42,16 @@ pub record AskedLent (s : SheetTexts) (g : Page) (out rules tokens brackets text
   pub author-within : length s.author ≤ sheet_limit
   pub row : style_row_width ≤ length out
   pub least : Least (call_bytes s g) (length rules) (length tokens) (length brackets) (length texts)
+
+-- ---- the same of what is lent
+abbrev pub LentOf : code.SheetTexts → Stores → Type 0
+LentOf s a = Lent s.agent.now s.user.now s.author.now a.rules.now a.tokens.now a.brackets.now a.texts.now
+
+abbrev pub ReadRoomOf : SheetsRules → Path → List ℕ → Stores → Type 0
+ReadRoomOf s p out a = ReadRoom s p out a.rules.now a.tokens.now a.brackets.now a.texts.now
+
+abbrev pub CallLentOf : code.SheetTexts → Path → List ℕ → Stores → Type 0
+CallLentOf s p out a = CallLent (length s.agent.now + length s.user.now + length s.author.now) p out a.rules.now a.tokens.now a.brackets.now a.texts.now
+
+abbrev pub AskedLentOf : SheetTexts → Page → List ℕ → Stores → Type 0
+AskedLentOf s g out a = AskedLent s g out a.rules.now a.tokens.now a.brackets.now a.texts.now

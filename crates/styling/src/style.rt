@@ -10,32 +10,31 @@ ghost use Rattle.origins.specs.Checks.{Lent};
 ghost use Rattle.origins.specs.Reading.{sheets_of};
 ghost use Rattle.cascade.specs.declared.slots.Cascade.TheVariants.{Crate, Book};
 ghost use Rattle.cascade.specs.Row.{style_row_width};
-ghost use Rattle.page.specs.Rows.{attribute_width, number_bound};
+ghost use Rattle.page.specs.Rows.{number_bound};
 ghost use Rattle.combinators.specs.Lent.{SameStores};
 ghost use Rattle.page.specs.Lent.{page_in, path_in};
 ghost use Rattle.styles.specs.Lent.{sheets_in};
 ghost use Rattle.styles.specs.StyleCall.{call_row, call_store};
 ghost use Rattle.rule_styles.specs.Held.{sheets_from, SheetsHeld};
-ghost use Rattle.styling.specs.StyleAnswer.{is_element, numbers_of, left_in, styled_left, asked_left, style_of, style_refusal};
+ghost use Rattle.styling.specs.StyleAnswer.{call_bytes, is_element, numbers_of, left_in, styled_left, styled_left_of, asked_left, style_of_lent, style_refusal};
 ghost use Rattle.styling.specs.Fronts.{FrontLent};
-ghost use Rattle.styling.specs.Styling.{FewBytes, ContentsIn, ReadRoom, CallLent, AskedLent};
+ghost use Rattle.styling.specs.Styling.{FewBytes, ContentsIn, LentOf, ReadRoomOf, CallLent, CallLentOf, AskedLentOf};
 
 use crate::front::{clear_behind, path_room};
 use cascade::rows::STYLE_ROW_WIDTH;
 use cascade::slots::Cascade;
-use combinators::least::{NUMBER_MORE, NUMBER_WIDTH, TEXT_MORE, TEXT_WIDTH, stores_suffice};
+use combinators::least::{NUMBER_MORE, NUMBER_WIDTH, TEXT_MORE, TEXT_WIDTH};
 use combinators::lent::{SheetTexts, Stores};
 use combinators::refusals::{
     NO_ELEMENT, NOT_UTF8, PANIC, Refusal, SHORT_STORE, TOO_LONG, refused, refused_in,
 };
-use combinators::stores::fill_from;
 use declarations::texts::move_down;
 use matching::elements::Element;
 use origins::checks::{all_valid, any_too_long};
 use origins::reading::{SheetPanic, SheetsRules, read_sheets};
 use page::check::{PageError, check_page};
 use page::lent::Page;
-use page::rows::{ATTRIBUTE_WIDTH, ELEMENT, kind_of, node_count};
+use page::rows::{ELEMENT, kind_of, node_count};
 use path_styles::path::Styling;
 use path_styles::tops::find_tops;
 use rule_styles::styled::style_sheets;
@@ -63,6 +62,16 @@ impl From<PageError> for StyleError {
     }
 }
 
+impl From<SheetPanic> for StyleError {
+    ghost use Rattle.styling.specs.declared.style.StyleError.{StyleError};
+
+    ghost from_gives = { λ panic error. error ≡ StyleError.Panic panic };
+
+    fn from(panic: SheetPanic) -> StyleError {
+        StyleError::Panic(panic)
+    }
+}
+
 impl From<StyleError> for Refusal {
     ghost from_gives = { λ error refusal. refusal ≡ style_refusal error };
 
@@ -86,26 +95,14 @@ pub fn is_element(nodes: &[u32], row: usize) -> bool
     row < node_count(nodes) && kind_of(nodes, row) == ELEMENT
 }
 
-// Whether what is lent suffices for sheets of so many bytes together, for so many numbers of attributes and for a text of so many bytes. The last
-// two may be of any length; where they cannot be added up, no brackets suffice, which need a byte for each.
-fn lent_suffices(
-    sheets: usize,
-    attributes: usize,
-    text: usize,
-    out: usize,
-    rules: usize,
-    tokens: usize,
-    brackets: usize,
-    texts: usize,
-) -> bool
-    requires { FewBytes sheets }
-    ensures { result ≡ and (leb style_row_width out) (stores_suffice (sheets + 2 * (attributes / attribute_width) + text) rules tokens brackets texts) }
+// Whether what is lent suffices for sheets and a page.
+fn lent_suffices(sheets: SheetTexts<'_>, page: Page<'_>, out: &[u32], stores: &Stores<'_>) -> bool
+    requires { FewBytes (length sheets.agent.now + length sheets.user.now + length sheets.author.now) }
+    ensures { result
+        ≡ and (leb style_row_width (length out.now))
+        (stores_suffice (call_bytes (sheets_in sheets.entry) (page_in page.entry)) (length stores.now.rules.now) (length stores.now.tokens.now) (length stores.now.brackets.now) (length stores.now.texts.now)) }
 {
-    let beside = sheets + 2 * (attributes / ATTRIBUTE_WIDTH);
-    let Some(bytes) = beside.checked_add(text) else {
-        return false;
-    };
-    out >= STYLE_ROW_WIDTH && stores_suffice(bytes, rules, tokens, brackets, texts)
+    out.len() >= STYLE_ROW_WIDTH && page.fits(sheets.bytes(), stores)
 }
 
 // Moves the contents down over the texts of the rules; zeros behind them.
@@ -114,10 +111,10 @@ fn keep_contents(texts: &mut [u8], end: usize, fill: usize)
     ensures { texts.new ≡ padded (part texts.old end fill) (length texts.old) }
 {
     move_down(texts, end, 0, fill);
-    fill_from(texts, fill, 0);
+    texts[fill..].fill(0);
 }
 
-// Zeros throughout all buffers.
+// Zeros throughout all buffers. Here and below each store has its clause, since what it is cleared to differs: zeros behind a front, or throughout.
 fn clear_all(out: &mut [u32], stores: &mut Stores<'_>)
     ensures same { SameStores stores.old stores.new }
     ensures out_after { out.new ≡ cleared 0 out.old }
@@ -126,11 +123,11 @@ fn clear_all(out: &mut [u32], stores: &mut Stores<'_>)
     ensures tokens_after { stores.new.tokens.now ≡ cleared 0 stores.old.tokens.now }
     ensures brackets_after { stores.new.brackets.now ≡ cleared 0 stores.old.brackets.now }
 {
-    fill_from(out, 0, 0);
+    out.fill(0);
     stores.clear();
 }
 
-// By what an element is styled: a cascade, the settings, and the texts of three sheets.
+// By what elements are styled: a cascade, the settings, and the texts of three sheets.
 #[derive(Clone, Copy)]
 struct StyleCall<'a> {
     cascade: Cascade,
@@ -138,22 +135,23 @@ struct StyleCall<'a> {
     sheets: SheetTexts<'a>,
 }
 
-impl StyleCall<'_> {
+// The element that a call is for. As a row of an accepted page it has a number of 32 bits.
+#[derive(Clone, Copy)]
+struct ElementCall<'s, 'p> {
+    call: StyleCall<'s>,
+    element: Element<'p>,
+    ghost row_lt_number_bound: { element.row < number_bound },
+}
+
+impl ElementCall<'_, '_> {
     // Styles an element by sheets that were read; the bytes of its texts. Row and stores stay apart, here and below, since `style_parts` is lent the whole row
     // beside parts of the stores.
-    fn style_read(
-        &self,
-        sheets: SheetsRules,
-        element: Element<'_>,
-        out: &mut [u32],
-        stores: &mut Stores<'_>,
-    ) -> usize
-        requires row_lt_number_bound { element.row < number_bound }
-        requires read_room { ReadRoom sheets (path_in element.page element.row) out.old stores.old.rules.now stores.old.tokens.now stores.old.brackets.now stores.old.texts.now }
+    fn style_read(&self, sheets: SheetsRules, out: &mut [u32], stores: &mut Stores<'_>) -> usize
+        requires read_room { ReadRoomOf sheets (path_in self.now.element.page self.now.element.row) out.old stores.old }
         ensures same { SameStores stores.old stores.new }
-        ensures out_after { out.new ≡ call_row self.now.cascade (sheets_from stores.old.rules.now stores.old.texts.now sheets) self.now.settings (path_in element.entry.page element.entry.row) ++ drop style_row_width out.old }
-        ensures value { result ≡ length (call_store (sheets_from stores.old.rules.now stores.old.texts.now sheets) self.now.settings (path_in element.entry.page element.entry.row)) }
-        ensures texts_after { stores.new.texts.now ≡ padded (call_store (sheets_from stores.old.rules.now stores.old.texts.now sheets) self.now.settings (path_in element.entry.page element.entry.row)) (length stores.old.texts.now) }
+        ensures out_after { out.new ≡ call_row self.now.call.cascade (sheets_from stores.old.rules.now stores.old.texts.now sheets) self.now.call.settings (path_in self.now.element.page self.now.element.row) ++ drop style_row_width out.old }
+        ensures value { result ≡ length (call_store (sheets_from stores.old.rules.now stores.old.texts.now sheets) self.now.call.settings (path_in self.now.element.page self.now.element.row)) }
+        ensures texts_after { stores.new.texts.now ≡ padded (call_store (sheets_from stores.old.rules.now stores.old.texts.now sheets) self.now.call.settings (path_in self.now.element.page self.now.element.row)) (length stores.old.texts.now) }
         ensures rules_after { stores.new.rules.now ≡ replicate (length stores.old.rules.now) 0 }
         ensures tokens_after { stores.new.tokens.now ≡ replicate (length stores.old.tokens.now) 0 }
         ensures brackets_after { stores.new.brackets.now ≡ replicate (length stores.old.brackets.now) 0 }
@@ -162,55 +160,46 @@ impl StyleCall<'_> {
         let tokens = &mut *stores.tokens;
         let texts = &mut *stores.texts;
         let styled = style_sheets(rules, sheets, tokens, texts);
-        let ready = find_tops(styled, rules, texts, element, tokens);
+        let ready = find_tops(styled, rules, texts, self.element, tokens);
         let row = out.first_chunk_mut().unwrap();
         let styling = Styling {
-            cascade: self.cascade,
-            settings: self.settings,
-            sheets: ready,
+            cascade: self.call.cascade,
+            settings: self.call.settings,
+            kept: ready,
         };
-        let fill = styling.style_path(element, row, stores);
-        keep_contents(stores.texts, ready.end, fill);
+        let fill = styling.style_path(self.element, row, stores);
+        keep_contents(stores.texts, ready.sheets.end, fill);
         stores.clear_work();
         fill
     }
 
-    // Styles an element by sheets for which the stores suffice, whatever the buffers hold.
-    fn style_texts(
-        &self,
-        element: Element<'_>,
-        out: &mut [u32],
-        stores: &mut Stores<'_>,
-    ) -> Result<usize, StyleError>
-        requires row_lt_number_bound { element.row < number_bound }
-        requires lent { Lent self.now.sheets.agent.now self.now.sheets.user.now self.now.sheets.author.now stores.old.rules.now stores.old.tokens.now stores.old.brackets.now stores.old.texts.now }
-        requires call_lent { CallLent (length self.now.sheets.agent.now + length self.now.sheets.user.now + length self.now.sheets.author.now) (path_in element.page element.row) out.old stores.old.rules.now stores.old.tokens.now stores.old.brackets.now stores.old.texts.now }
+    // Styles an element by sheets for which the stores suffice, whatever the buffers hold. `lent` and `call_lent`, here and below, join the sheets and the element with the
+    // row and the stores, which are cut and written in between: a field of all of them would be shown anew at each cut.
+    fn style_texts(&self, out: &mut [u32], stores: &mut Stores<'_>) -> Result<usize, StyleError>
+        requires lent { LentOf self.now.call.sheets stores.old }
+        requires call_lent { CallLentOf self.now.call.sheets (path_in self.now.element.page self.now.element.row) out.old stores.old }
         ensures same { SameStores stores.old stores.new }
         ensures left { left_in (numbers_of result) out.new stores.new
-            ≡ styled_left out.old stores.old.texts.now stores.old.rules.now stores.old.tokens.now stores.old.brackets.now self.now.cascade self.now.settings (path_in element.entry.page element.entry.row) (sheets_of self.now.sheets.agent.now self.now.sheets.user.now self.now.sheets.author.now) }
+            ≡ styled_left_of self.now.call.sheets self.now.call.cascade self.now.call.settings (path_in self.now.element.page self.now.element.row) out.old stores.old }
     {
         clear_all(out, stores);
-        match read_sheets(self.sheets, stores) {
-            Ok(read) => Ok(self.style_read(read, element, out, stores)),
-            Err(panic) => Err(StyleError::Panic(panic)),
-        }
+        let read = read_sheets(self.call.sheets, stores)?;
+        Ok(self.style_read(read, out, stores))
     }
 
     // The same in parts of stores, which come one by one: of parts of a struct's fields the borrow checker makes no struct.
     fn style_parts(
         &self,
-        element: Element<'_>,
         out: &mut [u32],
         rules: &mut [u32],
         tokens: &mut [u32],
         brackets: &mut [u8],
         texts: &mut [u8],
     ) -> Result<usize, StyleError>
-        requires row_lt_number_bound { element.row < number_bound }
-        requires lent { Lent self.now.sheets.agent.now self.now.sheets.user.now self.now.sheets.author.now rules.old tokens.old brackets.old texts.old }
-        requires call_lent { CallLent (length self.now.sheets.agent.now + length self.now.sheets.user.now + length self.now.sheets.author.now) (path_in element.page element.row) out.old rules.old tokens.old brackets.old texts.old }
+        requires lent { Lent self.now.call.sheets.agent.now self.now.call.sheets.user.now self.now.call.sheets.author.now rules.old tokens.old brackets.old texts.old }
+        requires call_lent { CallLent (length self.now.call.sheets.agent.now + length self.now.call.sheets.user.now + length self.now.call.sheets.author.now) (path_in self.now.element.page self.now.element.row) out.old rules.old tokens.old brackets.old texts.old }
         ensures { record { answer = numbers_of result; row = out.new; texts = texts.new; rules = rules.new; tokens = tokens.new; brackets = brackets.new }
-            ≡ styled_left out.old texts.old rules.old tokens.old brackets.old self.now.cascade self.now.settings (path_in element.entry.page element.entry.row) (sheets_of self.now.sheets.agent.now self.now.sheets.user.now self.now.sheets.author.now) }
+            ≡ styled_left out.old texts.old rules.old tokens.old brackets.old self.now.call.cascade self.now.call.settings (path_in self.now.element.page self.now.element.row) (sheets_of self.now.call.sheets.agent.now self.now.call.sheets.user.now self.now.call.sheets.author.now) }
     {
         let mut stores = Stores {
             rules,
@@ -218,28 +207,25 @@ impl StyleCall<'_> {
             brackets,
             texts,
         };
-        self.style_texts(element, out, &mut stores)
+        self.style_texts(out, &mut stores)
     }
 
     // Styles an element in the fronts of stores that suffice for so many bytes; zeros behind the fronts.
     fn style_front(
         &self,
-        element: Element<'_>,
         out: &mut [u32],
         stores: &mut Stores<'_>,
         room: usize,
     ) -> Result<usize, StyleError>
-        requires row_lt_number_bound { element.row < number_bound }
-        requires front_lent { FrontLent self.now.sheets.agent.now self.now.sheets.user.now self.now.sheets.author.now (path_in element.page element.row) room out.old stores.old.rules.now stores.old.tokens.now stores.old.brackets.now stores.old.texts.now }
+        requires front_lent { FrontLent self.now.call.sheets.agent.now self.now.call.sheets.user.now self.now.call.sheets.author.now (path_in self.now.element.page self.now.element.row) room out.old stores.old.rules.now stores.old.tokens.now stores.old.brackets.now stores.old.texts.now }
         ensures same { SameStores stores.old stores.new }
         ensures left { left_in (numbers_of result) out.new stores.new
-            ≡ styled_left out.old stores.old.texts.now stores.old.rules.now stores.old.tokens.now stores.old.brackets.now self.now.cascade self.now.settings (path_in element.entry.page element.entry.row) (sheets_of self.now.sheets.agent.now self.now.sheets.user.now self.now.sheets.author.now) }
+            ≡ styled_left_of self.now.call.sheets self.now.call.cascade self.now.call.settings (path_in self.now.element.page self.now.element.row) out.old stores.old }
     {
         let bytes = TEXT_WIDTH * room + TEXT_MORE;
         let numbers = NUMBER_WIDTH * room + NUMBER_MORE;
         clear_behind(stores, bytes, numbers, room);
         self.style_parts(
-            element,
             out,
             &mut stores.rules[..numbers],
             &mut stores.tokens[..numbers],
@@ -250,37 +236,25 @@ impl StyleCall<'_> {
 
     // Styles an element in as much of the stores as it asks for, or in the whole of them, which always suffices: so nothing is to be known of what it asks for
     // but that it is enough.
-    fn style_in_front(
-        &self,
-        element: Element<'_>,
-        out: &mut [u32],
-        stores: &mut Stores<'_>,
-    ) -> Result<usize, StyleError>
-        requires row_lt_number_bound { element.row < number_bound }
-        requires lent { Lent self.now.sheets.agent.now self.now.sheets.user.now self.now.sheets.author.now stores.old.rules.now stores.old.tokens.now stores.old.brackets.now stores.old.texts.now }
-        requires call_lent { CallLent (length self.now.sheets.agent.now + length self.now.sheets.user.now + length self.now.sheets.author.now) (path_in element.page element.row) out.old stores.old.rules.now stores.old.tokens.now stores.old.brackets.now stores.old.texts.now }
+    fn style_in_front(&self, out: &mut [u32], stores: &mut Stores<'_>) -> Result<usize, StyleError>
+        requires lent { LentOf self.now.call.sheets stores.old }
+        requires call_lent { CallLentOf self.now.call.sheets (path_in self.now.element.page self.now.element.row) out.old stores.old }
         ensures same { SameStores stores.old stores.new }
         ensures left { left_in (numbers_of result) out.new stores.new
-            ≡ styled_left out.old stores.old.texts.now stores.old.rules.now stores.old.tokens.now stores.old.brackets.now self.now.cascade self.now.settings (path_in element.entry.page element.entry.row) (sheets_of self.now.sheets.agent.now self.now.sheets.user.now self.now.sheets.author.now) }
+            ≡ styled_left_of self.now.call.sheets self.now.call.cascade self.now.call.settings (path_in self.now.element.page self.now.element.row) out.old stores.old }
     {
-        let sheets = self.sheets;
-        let bytes = sheets.agent.len() + sheets.user.len() + sheets.author.len();
-        let page = element.page;
-        let room = bytes + path_room(page.nodes, page.attributes, element.row);
-        if stores_suffice(
-            room,
-            stores.rules.len(),
-            stores.tokens.len(),
-            stores.brackets.len(),
-            stores.texts.len(),
-        ) {
-            self.style_front(element, out, stores, room)
+        let room = self.call.sheets.bytes() + path_room(self.element);
+        if stores.suffice(room) {
+            self.style_front(out, stores, room)
         } else {
-            self.style_texts(element, out, stores)
+            self.style_texts(out, stores)
         }
     }
+}
 
-    // Styles an element of a page that is accepted or not, by sheets for which the stores suffice.
+impl StyleCall<'_> {
+    // Styles an element of a page that is accepted or not, by sheets for which the stores suffice. Page and row stay apart here and in those that call
+    // this: only here the row turns out to be an `Element`.
     fn style_asked(
         &self,
         page: Page<'_>,
@@ -288,7 +262,7 @@ impl StyleCall<'_> {
         out: &mut [u32],
         stores: &mut Stores<'_>,
     ) -> Result<usize, StyleError>
-        requires { AskedLent (sheets_in self.now.sheets) (page_in page) out.old stores.old.rules.now stores.old.tokens.now stores.old.brackets.now stores.old.texts.now }
+        requires { AskedLentOf (sheets_in self.now.sheets) (page_in page) out.old stores.old }
         ensures same { SameStores stores.old stores.new }
         ensures left { left_in (numbers_of result) out.new stores.new
             ≡ asked_left out.old stores.old.texts.now stores.old.rules.now stores.old.tokens.now stores.old.brackets.now self.now.cascade self.now.settings (page_in page.entry) row (sheets_of self.now.sheets.agent.now self.now.sheets.user.now self.now.sheets.author.now) }
@@ -298,10 +272,14 @@ impl StyleCall<'_> {
             return Err(StyleError::NoElement);
         }
         let element = Element { page, row };
-        self.style_in_front(element, out, stores)
+        let asked = ElementCall {
+            call: *self,
+            element,
+        };
+        asked.style_in_front(out, stores)
     }
 
-    // The style of an element in either cascade.
+    // The style of an element in either cascade. The tests are those of `compile` but for what is lent, and their errors another type.
     fn style_by(
         &self,
         page: Page<'_>,
@@ -311,25 +289,15 @@ impl StyleCall<'_> {
     ) -> Result<usize, StyleError>
         ensures same { SameStores stores.old stores.new }
         ensures left { left_in (numbers_of result) out.new stores.new
-            ≡ style_of self.now.cascade self.now.settings (sheets_in self.now.sheets) (page_in page.entry) row out.old stores.old.texts.now stores.old.rules.now stores.old.tokens.now stores.old.brackets.now }
+            ≡ style_of_lent self.now.cascade self.now.settings (sheets_in self.now.sheets) (page_in page.entry) row out.old stores.old }
     {
-        let sheets = self.sheets;
-        if any_too_long(sheets.agent.len(), sheets.user.len(), sheets.author.len()) {
+        if any_too_long(self.sheets) {
             return Err(StyleError::TooLong);
         }
-        if !lent_suffices(
-            sheets.agent.len() + sheets.user.len() + sheets.author.len(),
-            page.attributes.len(),
-            page.text.len(),
-            out.len(),
-            stores.rules.len(),
-            stores.tokens.len(),
-            stores.brackets.len(),
-            stores.texts.len(),
-        ) {
+        if !lent_suffices(self.sheets, page, out, stores) {
             return Err(StyleError::ShortStore);
         }
-        if !all_valid(sheets) {
+        if !all_valid(self.sheets) {
             return Err(StyleError::NotUtf8);
         }
         self.style_asked(page, row, out, stores)
@@ -347,7 +315,7 @@ pub fn style(
 ) -> Result<usize, StyleError>
     ensures same { SameStores stores.old stores.new }
     ensures left { left_in (numbers_of result) out.new stores.new
-        ≡ style_of Crate settings (sheets_in sheets.entry) (page_in page.entry) row out.old stores.old.texts.now stores.old.rules.now stores.old.tokens.now stores.old.brackets.now }
+        ≡ style_of_lent Crate settings (sheets_in sheets.entry) (page_in page.entry) row out.old stores.old }
 {
     let call = StyleCall {
         cascade: Cascade::Crate,
@@ -368,7 +336,7 @@ pub fn style_book(
 ) -> Result<usize, StyleError>
     ensures same { SameStores stores.old stores.new }
     ensures left { left_in (numbers_of result) out.new stores.new
-        ≡ style_of Book settings (sheets_in sheets.entry) (page_in page.entry) row out.old stores.old.texts.now stores.old.rules.now stores.old.tokens.now stores.old.brackets.now }
+        ≡ style_of_lent Book settings (sheets_in sheets.entry) (page_in page.entry) row out.old stores.old }
 {
     let call = StyleCall {
         cascade: Cascade::Book,

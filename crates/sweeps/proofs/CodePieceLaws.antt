@@ -8,17 +8,15 @@ use lib.ListN.{get_or}
 use Rattle.combinators.specs.Choice.{pick, and, is}
 use Rattle.combinators.specs.Part.{part}
 use Rattle.combinators.specs.Word.{same_text}
-use Rattle.combinators.proofs.Rules.{pick-holds, and_right, is-no}
+use Rattle.combinators.proofs.Rules.{pick-holds, and_right, is-no, and_yes}
 use Rattle.syntax.specs.RuleLayout.{star_kind, class_kind, element_kind, hash_kind, child_kind}
 use Rattle.syntax.specs.Selector.{Component, star, child, descendant, nth, attribute_equal}
 use Rattle.syntax.specs.Signed.{signed_of}
-use Rattle.page.specs.Path.{Element, Path}
-use Rattle.page.specs.PathOf.{attributes_from}
-use Rattle.page.specs.Rows.{attribute_rows}
+use Rattle.page.specs.Path.{Attribute, Element, Path}
 use Rattle.matching.specs.Matches.{any_attribute, is_class, is_id, is_named, first_is, has_class, has_id, has_attribute, attribute_is, name_is, here, step}
 use Rattle.matching.specs.Nth.{nth_matches}
-use Rattle.matching.proofs.PassLaws.{and_yes}
 use Rattle.std.proofs.Common.{Option, Some, None, Result, Ok, Err}
+use Rattle.std.specs.Result.{result_ok}
 use Rattle.compiled.specs.Decoded.{read, on_decoded, mapped}
 use Rattle.compiled.specs.Text.{text_in}
 use Rattle.compiled.specs.Component.{written_at, mark_of, named_of, component_in, component_at}
@@ -30,7 +28,7 @@ use Rattle.compiled.specs.declared.components.Written.{Written}
 use Rattle.compiled.specs.declared.components.Written.TheVariants as written
 use Rattle.compiled.proofs.Answers.{answer_read, answer-fault}
 use Rattle.compiled.proofs.Following.{mapped-read}
-use Rattle.compiled.proofs.Walking.{at_component, at-fault}
+use Rattle.compiled.proofs.Walking.{at_component, at-fault, component-written}
 use Rattle.segments.specs.Segments.{test, piece, tested}
 use Rattle.segments.specs.Sweep.{on_piece, piece_at}
 use Rattle.std.specs.Borrow.{Bor}
@@ -39,6 +37,17 @@ use Rattle.sweeps.specs.declared.elements.Handed.{Handed}
 use Rattle.sweeps.specs.declared.pieces.Met.{Met}
 use Rattle.sweeps.specs.declared.pieces.NameAt.{NameAt}
 use Rattle.sweeps.specs.declared.pieces.Met.TheVariants as met
+
+-- ---- an answer without its fault
+-- what is left was answered
+pub kept : {A : Type 0} (r : Result A Fault) (o : Option A) → o ≡ result_ok r → (x : A) → o ≡ Some x → r ≡ Ok x
+kept (Ok y) o e x q = cc
+kept (Err f) o e x q = absurd (cc)
+
+-- where nothing is, a fault was
+pub dropped : {A : Type 0} (r : Result A Fault) (o : Option A) → o ≡ result_ok r → o ≡ None → (P : Type 0) → ((f : Fault) → r ≡ Err f → P) → P
+dropped (Ok y) o e q P g = absurd (cc)
+dropped (Err f) o e q P g = g f refl
 
 -- ---- the returns of `name_passes`
 module _ (e : Handed) (x : List ℕ) (kind : ℕ) where
@@ -52,20 +61,20 @@ module _ (e : Handed) (x : List ℕ) (kind : ℕ) where
   name-asked k r p = rw k (p ∙ sym (and_yes _))
 
   -- of a class it is asked whether some attribute of the row has it
-  pub class-asked : kind ≡ class_kind → (r : Bool) → r ≡ any_attribute (is_class x) (attributes_from e.attributes.now e.text.now (attribute_rows e.attributes.now) 0) → Passes r
-  unfolding tested handed handed_element named_of step here has_class pick is
-  class-asked k r p = rw k (p ∙ sym (and_yes _))
+  pub class-asked : kind ≡ class_kind → (a : List Attribute) → a ≡ (handed e).attributes → (r : Bool) → r ≡ any_attribute (is_class x) a → Passes r
+  unfolding tested named_of step here has_class pick is
+  class-asked k a q r p = rw k (p ∙ ap (any_attribute (is_class x)) q ∙ sym (and_yes _))
 
   -- of an id it is asked whether some attribute of the row is it
-  pub id-asked : kind ≡ hash_kind → (r : Bool) → r ≡ any_attribute (is_id x) (attributes_from e.attributes.now e.text.now (attribute_rows e.attributes.now) 0) → Passes r
-  unfolding tested handed handed_element named_of step here has_id pick is
-  id-asked k r p = rw k (p ∙ sym (and_yes _))
+  pub id-asked : kind ≡ hash_kind → (a : List Attribute) → a ≡ (handed e).attributes → (r : Bool) → r ≡ any_attribute (is_id x) a → Passes r
+  unfolding tested named_of step here has_id pick is
+  id-asked k a q r p = rw k (p ∙ ap (any_attribute (is_id x)) q ∙ sym (and_yes _))
 
   -- of any other kind it is asked whether some attribute has that name
   pub attribute-asked : ¬ (kind ≡ element_kind) → ¬ (kind ≡ class_kind) → ¬ (kind ≡ hash_kind)
-      → (r : Bool) → r ≡ any_attribute (is_named x) (attributes_from e.attributes.now e.text.now (attribute_rows e.attributes.now) 0) → Passes r
-  unfolding tested handed handed_element named_of step here has_attribute pick
-  attribute-asked no-element no-class no-hash r p = rw (is-no kind class_kind no-class, is-no kind element_kind no-element, is-no kind hash_kind no-hash) (p ∙ sym (and_yes _))
+      → (a : List Attribute) → a ≡ (handed e).attributes → (r : Bool) → r ≡ any_attribute (is_named x) a → Passes r
+  unfolding tested named_of step here has_attribute pick
+  attribute-asked no-element no-class no-hash a q r p = rw (is-no kind class_kind no-class, is-no kind element_kind no-element, is-no kind hash_kind no-hash) (p ∙ ap (any_attribute (is_named x)) q ∙ sym (and_yes _))
 
 -- ---- tests
 -- a component is a test
@@ -198,21 +207,16 @@ module _ (code : List ℕ) (y : Element) (at : ℕ) (r : Result (Read Written) F
 
 -- ---- those of `pass_met`, of a short component
 module _ (code : List ℕ) (at size : ℕ) (short : ShortSize code at size) where
-  -- what is read of it
-  short-read : (n : ℕ) (w : Written) → written_at code at ≡ read n w → component_at code at ≡ read n (component_in code w)
-  unfolding component_at
-  short-read n w e = mapped-read (component_in code) (written_at code at) n w e
-
   -- a text is passed over
   pub short-passed : (ok : Bool) → ¬ (size ≡ 1) → Some (met.Test (at + size) false) ≡ met_at code [] ok at
   short-passed ok h =
       let more : 1 < size = let z = short.some in omega arith in
-      document-met code ok at (at + size) _ (short-read _ _ (short.named more)) (λ k q. absurd (cc))
+      document-met code ok at (at + size) _ (component-written code at _ _ (short.named more)) (λ k q. absurd (cc))
 
   -- a short component that is its kind alone is met as star, child step or descendant step
   pub short-mark : (ok : Bool) → size ≡ 1 → (kind : ℕ) → kind ≡ get_or code at 0 → (q : Met) → q ≡ mark_met (at + 1) kind ok → Some q ≡ met_at code [] ok at
   short-mark ok h kind e q p =
-      mark-met code [] ok at (at + 1) _ (short-read _ _ (short.alone h)) kind (ap written.Mark (sym e)) q p
+      mark-met code [] ok at (at + 1) _ (component-written code at _ _ (short.alone h)) kind (ap written.Mark (sym e)) q p
 
 -- ---- those of `name_at`
 module _ (code : List ℕ) (at : ℕ) where

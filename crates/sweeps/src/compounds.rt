@@ -1,11 +1,12 @@
-// Compounds and segments of a selector in compiled bytes. Nothing is asked of the bytes or of the places: a fault ends the walk. The walks are handed the whole bytes and a place,
-// since the places that a part keeps count from the start of the bytes. (One `match` over what is met and its pattern was tried: where arms join, the proof is not told what the pattern says.)
+// Compounds and segments of a selector in compiled bytes. Nothing is asked of the bytes or of the places: a fault ends the walk. The walks are handed the whole
+// bytes and a place, since the places that a part keeps count from the start of the bytes. (One `match` over what is met and its pattern was tried, and in
+// `tests_pass` one `let Some(Met::Test(behind, true)) = .. else`: where the ways that fail meet, the proof is not told what the pattern says.)
 ghost use Rattle.std.specs.Prelude.{◌≡◌, ◌≤◌};
 ghost use Rattle.segments.specs.Sweep.{tests_pass, compound_at};
 ghost use Rattle.segments.specs.Before.{beginning, segment_before};
 ghost use Rattle.sweeps.specs.Met.{row_alone};
 
-use crate::elements::Handed;
+use crate::elements::Row;
 use crate::pieces::{Met, pass_met, read_met};
 
 // Whether a compound ends here, and the place behind the step that it stands at.
@@ -23,8 +24,8 @@ pub struct Segment {
     pub tests: usize,
 }
 
-// A segment of which nothing is counted yet. The fields are its own: other structs with zeros in them share that shape alone.
-fn beginning(start: usize) -> Segment
+// A segment of which nothing is counted, or begun, yet. The fields are its own: other structs with zeros in them share that shape alone.
+pub fn beginning(start: usize) -> Segment
     ensures { result ≡ record { start = start; steps = 0; tests = 0 } }
 {
     Segment {
@@ -35,12 +36,12 @@ fn beginning(start: usize) -> Segment
 }
 
 // Whether `count` tests from `at` on pass. A loop, no `all`: a test begins where the one before ended, as it was read.
-pub fn tests_pass(compiled: &[u8], at: usize, count: usize, element: Option<&Handed<'_>>) -> bool
-    ensures { result ≡ tests_pass compiled.now (row_alone element.entry) count at }
+pub fn tests_pass(row: &Row<'_>, at: usize, count: usize) -> bool
+    ensures { result ≡ tests_pass row.now.compiled.now (row_alone row.now.element) count at }
 {
     let mut next = at;
     for _ in 0..count {
-        let Some(met) = read_met(compiled, next, true, element) else {
+        let Some(met) = read_met(row, next, true) else {
             return false;
         };
         let Met::Test(behind, passes) = met else {
@@ -56,19 +57,13 @@ pub fn tests_pass(compiled: &[u8], at: usize, count: usize, element: Option<&Han
 
 // The compound from `at` on, of at most `limit` components; `may` says whether it may end here. An arm returns: a step ends the compound, with the place that
 // it holds.
-pub fn compound_at(
-    compiled: &[u8],
-    at: usize,
-    limit: usize,
-    may: bool,
-    element: Option<&Handed<'_>>,
-) -> Compound
-    ensures { record { ends = result.ends; place = result.place } ≡ compound_at compiled.now (row_alone element.entry) limit may at }
+pub fn compound_at(row: &Row<'_>, at: usize, limit: usize, may: bool) -> Compound
+    ensures { record { ends = result.ends; place = result.place } ≡ compound_at row.now.compiled.now (row_alone row.now.element) limit may at }
 {
     let mut place = at;
     let mut ends = may;
     for _ in 0..limit {
-        let Some(met) = read_met(compiled, place, ends, element) else {
+        let Some(met) = read_met(row, place, ends) else {
             return Compound { ends: false, place };
         };
         match met {

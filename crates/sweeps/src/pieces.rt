@@ -1,23 +1,19 @@
 // One component in compiled bytes, at one row of a page.
-ghost use Rattle.std.specs.Prelude.{◌≡◌, true, ◌∷◌, [], ◌≤◌};
-ghost use Rattle.syntax.specs.Signed.{signed_of};
-ghost use Rattle.matching.specs.Nth.{nth_matches};
+ghost use Rattle.std.specs.Prelude.{◌≡◌, true, ◌∷◌, []};
 ghost use Rattle.compiled.specs.Component.{named_of};
 ghost use Rattle.segments.specs.Segments.{tested};
-ghost use Rattle.sweeps.specs.Place.{place_limit};
 ghost use Rattle.sweeps.specs.Met.{handed, row_alone, mark_met, met_at, NamedAt, Nameless};
 
-use crate::elements::Handed;
-use combinators::texts::{part_of, same_text};
+use crate::elements::{Handed, Row};
+use combinators::texts::part_of;
 use compiled::components::{MARK_SIZE, TO_TEXT, Written, read_component, short_size};
 use compiled::texts::Span;
-use matching::elements::Attributes;
-use matching::nth::{nth, signed_of};
-use page::rows::ATTRIBUTE_WIDTH;
+use matching::nth::nth_passes;
 use syntax::rows::{CHILD, CLASS, ELEMENT, HASH, STAR};
 
-// What a component is for a row, each with the place behind it: a test, with whether the tests up to it pass; a child step; a descendant step. Each holds
-// something: for bytes at fault there is the `None` of an `Option`.
+// What a component is for a row, each with the place behind it: a test, with whether the tests up to it pass; a child step; a descendant step. For bytes at
+// fault there is the `None` of an `Option`. (The place is in each variant: a `Read` of a kind would be taken apart by each of the three loops before its
+// `match`.)
 #[derive(Clone, Copy, PartialEq, Eq)]
 pub enum Met {
     Test(usize, bool),
@@ -25,7 +21,7 @@ pub enum Met {
     Descendant(usize),
 }
 
-// A component of one text: the place behind it, its kind, and where its text lies.
+// A component of one text: the place behind it, its kind, and where its text lies. (No `Read`: kind and text would be a pair without names.)
 #[derive(Clone, Copy, PartialEq, Eq)]
 pub struct NameAt {
     pub next: usize,
@@ -33,33 +29,17 @@ pub struct NameAt {
     pub text: Span,
 }
 
-// Whether an element passes a component of one text, which is told with its kind. Kinds are numbers of the bytes: a `match` on one ends with an arm for any
-// other, here and in `mark_met`.
+// Whether an element passes a component of one text, which is told with its kind. Kinds are numbers of the bytes, here and in `mark_met`: `read_component` has
+// asked which one it is, but of a short component it is the byte itself, of which an enum would first be made by a `match` of these arms, once more.
 fn name_passes(kind: u32, asked: &[u8], element: &Handed<'_>) -> bool
     ensures { result ≡ tested (handed element.now ∷ []) (named_of kind asked.now) }
 {
-    let attributes = Attributes {
-        rows: element.attributes,
-        text: element.text,
-        at: 0,
-        count: element.attributes.len() / ATTRIBUTE_WIDTH,
-    };
     match kind {
-        ELEMENT => same_text(element.name, asked),
-        CLASS => attributes.has_class(asked),
-        HASH => attributes.has_id(asked),
-        _ => attributes.has_attribute(asked),
+        ELEMENT => element.name == asked,
+        CLASS => element.attributes().has_class(asked),
+        HASH => element.attributes().has_id(asked),
+        _ => element.attributes().has_attribute(asked),
     }
-}
-
-// Whether an nth-child of two numbers holds of a place.
-fn nth_passes(first: u32, second: u32, place: usize) -> bool
-    requires { place ≤ place_limit }
-    ensures { result ≡ nth_matches (signed_of first) (signed_of second) place }
-{
-    let a = signed_of(first);
-    let b = signed_of(second);
-    nth(a, b, place)
 }
 
 // A component that is its kind alone.
@@ -77,9 +57,7 @@ fn mark_met(next: usize, kind: u32, ok: bool) -> Met
 fn pass_long(compiled: &[u8], at: usize, ok: bool) -> Option<Met>
     ensures { result ≡ met_at compiled.now [] ok at }
 {
-    let Ok(component) = read_component(compiled, at) else {
-        return None;
-    };
+    let component = read_component(compiled, at).ok()?;
     match component.value {
         Written::Mark(kind) => Some(mark_met(component.next, kind, ok)),
         _ => Some(Met::Test(component.next, false)),
@@ -114,9 +92,7 @@ fn name_at(compiled: &[u8], at: usize) -> Option<NameAt>
             },
         });
     }
-    let Ok(component) = read_component(compiled, at) else {
-        return None;
-    };
+    let component = read_component(compiled, at).ok()?;
     match component.value {
         Written::Name(kind, text) => Some(NameAt {
             next: component.next,
@@ -132,9 +108,7 @@ fn test_other(compiled: &[u8], at: usize, element: &Handed<'_>) -> Option<Met>
     requires { Nameless compiled.now at }
     ensures { result ≡ met_at compiled.now (handed element.now ∷ []) true at }
 {
-    let Ok(component) = read_component(compiled, at) else {
-        return None;
-    };
+    let component = read_component(compiled, at).ok()?;
     let next = component.next;
     match component.value {
         Written::Mark(kind) => Some(mark_met(next, kind, true)),
@@ -145,13 +119,7 @@ fn test_other(compiled: &[u8], at: usize, element: &Handed<'_>) -> Option<Met>
         Written::Names(first, second) => {
             let word = part_of(compiled, first.start, first.size);
             let value = part_of(compiled, second.start, second.size);
-            let attributes = Attributes {
-                rows: element.attributes,
-                text: element.text,
-                at: 0,
-                count: element.attributes.len() / ATTRIBUTE_WIDTH,
-            };
-            let passes = attributes.attribute_is(word, value);
+            let passes = element.attributes().attribute_is(word, value);
             Some(Met::Test(next, passes))
         }
     }
@@ -171,12 +139,12 @@ fn test_met(compiled: &[u8], at: usize, element: &Handed<'_>) -> Option<Met>
     }
 }
 
-// The component at `at` for an element, or for the document. Where the tests so far have failed, a test need not be carried out.
-pub fn read_met(compiled: &[u8], at: usize, ok: bool, element: Option<&Handed<'_>>) -> Option<Met>
-    ensures { result ≡ met_at compiled.now (row_alone element.entry) ok at }
+// The component at `at` for the element of a row, or for the document. Where the tests so far have failed, a test need not be carried out.
+pub fn read_met(row: &Row<'_>, at: usize, ok: bool) -> Option<Met>
+    ensures { result ≡ met_at row.now.compiled.now (row_alone row.now.element) ok at }
 {
-    match element {
-        Some(element) if ok => test_met(compiled, at, element),
-        _ => pass_met(compiled, at, ok),
+    match row.element {
+        Some(element) if ok => test_met(row.compiled, at, element),
+        _ => pass_met(row.compiled, at, ok),
     }
 }

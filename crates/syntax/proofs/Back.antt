@@ -6,6 +6,7 @@ use Prim.Native.Nat.{ℕ, ◌+◌, ◌*◌, ◌/◌, ◌%◌, ◌≤◌, ◌<◌
 use native.Mathlib.Omega.{arith}
 use lib.ListN.{length, drop}
 use lib.Seq.{sets}
+use mir.Val.{bool_byte}
 use Rattle.combinators.specs.Choice.{pick, is}
 use Rattle.combinators.specs.All.{All}
 use Rattle.syntax.specs.Declaration.{Colour, Overflow, visible, hidden, scroll, auto, WhiteSpace, normal, pre, pre_wrap, Decl, color, background_color, height, max_height, overflow, overflow_y, display, white_space, content, unknown, Declaration}
@@ -22,6 +23,12 @@ pub flag-back : (b : Bool) → flag_of (flag b) ≡ b
 unfolding flag flag_of is
 flag-back true = refl
 flag-back false = refl
+
+-- the library's number of a flag is that of a row
+pub flag-byte : (b : Bool) → bool_byte b ≡ flag b
+unfolding flag
+flag-byte true = refl
+flag-byte false = refl
 
 -- an overflow is read back from its number
 overflow-back : (o : Overflow) → overflow_of (overflow_number o) ≡ o

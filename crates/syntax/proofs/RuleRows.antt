@@ -16,7 +16,7 @@ use Rattle.syntax.proofs.SignedBack.{signed_back}
 use Rattle.syntax.proofs.Streams.{Held, held-left, held-right, held-part, many-back, sets-drop, sets-held}
 
 -- the number of a pseudo element
-pseudo-back : (p : PseudoElement) → pseudo_from (pseudo_number p) ≡ p
+pub pseudo-back : (p : PseudoElement) → pseudo_from (pseudo_number p) ≡ p
 unfolding pseudo_from pseudo_number pick is
 pseudo-back none = refl
 pseudo-back before = refl

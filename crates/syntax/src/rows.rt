@@ -42,7 +42,7 @@ pub const FLAG_FALSE: u32 = 0;
 
 pub const FLAG_TRUE: u32 = 1;
 
-// The number of a flag.
+// The number of a flag: `u32::from`, in the word of the definitions, so that no caller has to turn the library's word into it.
 #[tactic(auto, unfolding(crate::specs::Layout::flag))]
 pub fn flag_of(b: bool) -> u32
     ensures { result ≡ flag b }
@@ -144,8 +144,6 @@ pub const PSEUDO_AFTER: u32 = 2;
 
 // Numbers before the selectors of a rule: its first byte, how many selectors it has, and how many declarations, which stand behind them.
 pub const RULE_HEAD: usize = 3;
-
-pub const RULE_START: usize = 0;
 
 pub const RULE_SELECTORS: usize = 1;
 

@@ -1,9 +1,10 @@
 // A style in numbers, as rows, compiled bytes and slots have it.
 ghost use Rattle.std.specs.Prelude.{◌≡◌, drop};
-ghost use Rattle.syntax.specs.Layout.{numbers_at};
+ghost use Rattle.syntax.specs.Layout.{numbers_at, row_of_numbers};
 
 use crate::rows::{
-    FLAG_TRUE, STYLE_IMPORTANT, STYLE_NUMBER, STYLE_SECOND, STYLE_SLOT, STYLE_START,
+    FLAG_TRUE, STYLE_IMPORTANT, STYLE_NUMBER, STYLE_SECOND, STYLE_SLOT, STYLE_START, STYLE_WIDTH,
+    flag_of,
 };
 use combinators::stores::number_at;
 
@@ -24,7 +25,25 @@ pub struct StyleNumbers {
     pub value: Value,
 }
 
-// The style whose row starts at `at`, whatever numbers stand there.
+impl StyleNumbers {
+    // Its row.
+    #[tactic(auto, unfolding(crate::specs::Layout::row_of_numbers, crate::specs::Layout::value_numbers))]
+    pub fn row(self) -> [u32; STYLE_WIDTH]
+        ensures { result ≡ row_of_numbers self }
+    {
+        let value = self.value;
+        [
+            self.slot,
+            flag_of(self.important),
+            value.number,
+            value.second,
+            value.start,
+        ]
+    }
+}
+
+// The style whose row starts at `at`, whatever numbers stand there. It is told a place, 0 where the row is cut already: who is handed a place in lent
+// rows, and asked for no room there, may stand behind their end, where all numbers are 0.
 pub fn style_at(rows: &[u32], at: usize) -> StyleNumbers
     ensures { result ≡ numbers_at (drop at rows.now) }
 {

@@ -1,26 +1,20 @@
 // Components, and what stands before the components of a selector and before the selectors of a rule, written to lent rows. Counts are
-// known last, so the writer of a selector or a rule passes over its head and writes it at the end. A writer is told numbers one by one: the structs of
+// known last, so the writer of a selector or a rule passes over its head and writes it at the end. A head is told number by number: the structs of
 // what was read are of crates above this one.
 ghost use Rattle.std.specs.Prelude.{◌≡◌, [], ◌∷◌, ◌^◌, ◌<◌};
 ghost use Rattle.std.proofs.lemmas.List.Edits.{sets};
 ghost use Rattle.syntax.specs.Writing.{ComponentFits, RuleHeadFits};
 
+use combinators::columns::Columns;
 use combinators::stores::emit_all;
 
 // Writes the row of a component whose texts start at `fill` in the text store, from `place` on.
-pub fn put_component(
-    kind: u32,
-    first: usize,
-    second: usize,
-    fill: usize,
-    rules: &mut [u32],
-    place: usize,
-)
-    requires { ComponentFits first second fill }
-    ensures { rules.new ≡ sets rules.old place (kind ∷ fill ∷ first ∷ second ∷ []) }
+pub fn put_component(row: Columns, fill: usize, rules: &mut [u32], place: usize)
+    requires { ComponentFits row.first row.second fill }
+    ensures { rules.new ≡ sets rules.old place (row.kind ∷ fill ∷ row.first ∷ row.second ∷ []) }
 {
     emit_all(
-        &[kind, fill as u32, first as u32, second as u32],
+        &[row.kind, fill as u32, row.first as u32, row.second as u32],
         rules,
         place,
     );

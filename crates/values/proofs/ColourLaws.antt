@@ -313,9 +313,8 @@ module _ (s : List ℕ) where
 -- ---- `rgb_colour`
 
 -- a number that is read is a byte
-pub byte_le : (s : List ℕ) (x : Option ℕ) (v : ℕ) → x ≡ number_answer (parse_u8 s) → x ≡ Some v → v ≤ 255
-unfolding parse_u8
-byte_le s x v e h = read-le is_digit 10 hex_digit 255 (without_plus s) v (number-found x _ e v h)
+pub byte_le : (p : ℕ → Bool) (base : ℕ) (t : List ℕ) (x : Option ℕ) (v : ℕ) → x ≡ number_answer (digits_in p base hex_digit 255 t) → x ≡ Some v → v ≤ 255
+byte_le p base t x v e h = read-le p base hex_digit 255 t v (number-found x _ e v h)
 
 module _ (r g b : List ℕ) (x : Option ℕ) (ex : x ≡ number_answer (parse_u8 r)) where
   -- the first is no number

@@ -13,7 +13,8 @@ use Rattle.lexer.specs.Token.{Token, text_of}
 use Rattle.syntax.specs.Declaration.{Colour}
 use Rattle.syntax.proofs.Back.{OfBytes}
 use Rattle.values.specs.Words.{Entry, Found, found, missing, lookup, on_found}
-use Rattle.values.specs.Colour.{rgb, colours, parse_u8, parse_hex, three_digits, six_digits, hash_colour, three_numbers, rgb_colour, one_token, colour_of, behind_comma, background_of}
+use Rattle.lexer.specs.Number.{is_digit}
+use Rattle.values.specs.Colour.{without_plus, rgb, colours, parse_u8, parse_hex, three_digits, six_digits, hash_colour, three_numbers, rgb_colour, one_token, colour_of, behind_comma, background_of}
 use Rattle.values.specs.ColourAnswer.{number_answer}
 use Rattle.values.proofs.ColourLaws.{byte_le}
 use Rattle.values.proofs.WordLaws.{found-holds, or-holds}
@@ -101,8 +102,8 @@ hash-bytes s =
 
 -- a number that is read is a byte
 byte-lt : (s : List ℕ) (v : ℕ) → parse_u8 s ≡ found v → v < 256
-unfolding number_answer on_found
-byte-lt s v e = omega (arith, byte_le s (number_answer (parse_u8 s)) v refl (ap number_answer e))
+unfolding number_answer on_found parse_u8
+byte-lt s v e = omega (arith, byte_le is_digit 10 (without_plus s) (number_answer (parse_u8 s)) v refl (ap number_answer e))
 
 -- a colour of three numbers is made of bytes
 numbers-bytes : (r g b : List ℕ) → Bytes (three_numbers r g b)

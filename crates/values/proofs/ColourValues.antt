@@ -1,6 +1,6 @@
 -- Colours of token rows: `parse_color` and `parse_background_color`.
 use Prim.Native.Nat.{ℕ, zero, suc, ◌+◌, ◌-◌, ◌*◌, ◌<◌, ◌≤◌}
-use mathlib.Core.Path.{◌≡◌, refl, sym, ap, ◌∙◌}
+use mathlib.Core.Path.{◌≡◌, refl, sym, ap, subst, ◌∙◌}
 use mathlib.Core.Bool.{Bool, true, false}
 use mathlib.Core.List.{List, [], ◌∷◌}
 use native.Mathlib.Nat.{zero-add}
@@ -24,10 +24,15 @@ use Rattle.values.specs.Words.{Found, missing, lookup, is_kind}
 use Rattle.values.specs.Colour.{colours, hash_colour, three_numbers, rgb_colour, one_token, colour_of, behind_comma, background_of}
 use Rattle.values.specs.ColourAnswer.{colour_answer}
 use Rattle.values.specs.ColourRows.{kind_at, rgb_count, rgb_name, number_before, rgb_kinds, rgb_here, last_part}
-use Rattle.values.specs.View.{read_token, token_here, first_text, tokens_at}
-use Rattle.std.specs.Prelude.{Option, None}
+use Rattle.values.specs.View.{read_token, token_here, first_text, tokens_at, token_count}
+use Rattle.std.specs.Prelude.{Option, None, Some, unwrap_or, MatchOption, IfSome, IsSomeAnd}
+use denote.Ref.{Bor}
+use denote.Param.Members.{Mut}
+use Rattle.std.specs.Fn.{CalledAt}
+use Rattle.std.specs.Iterator.Runs.{SomeRun, Run, CallKeepsClosure, NoItemPasses, EndsAtFirstPassing, ItemsCountDown}
+use Rattle.std.proofs.lemmas.Iterator.Adapters.{option_map_id}
 use Rattle.values.proofs.ColourLaws.{no-colour}
-use Rattle.values.proofs.TokenViews.{Kind, ident-text, function-text, hash-text, number-text, comma-kind, close-round-kind, here-kind, kind-told, here-text, tokens-here, tokens_none}
+use Rattle.values.proofs.TokenViews.{Kind, ident-text, function-text, hash-text, number-text, comma-kind, close-round-kind, here-kind, kind-told, here-text, tokens-here, tokens_none, count-rest}
 
 -- ---- tokens by their number
 
@@ -345,14 +350,72 @@ pub last-next : (rows : List ℕ) (i : ℕ) (r : Bool) → r ≡ kind_at rows (i
 unfolding last_part
 last-next rows i r e = rw (add-one i, e)
 
+-- ---- `behind_comma`: the commas among n tokens, from the last on
+module _ (rows : List ℕ) (n : ℕ) where
+  -- whether the i-th is one
+  abbrev comma : ℕ → Bool
+  comma i = kind_at rows (i * token_width) comma_kind
+
+  -- with none from the i-th on, the last part is that of the tokens before it
+  none-from : (k i : ℕ) → i + k ≡ n → ((j : ℕ) → i ≤ j → j < n → comma j ≡ false) → last_part rows n ≡ last_part rows i
+  none-from zero i e q = let z : n ≡ i = omega arith in ap (last_part rows) z
+  none-from (suc k) i e q =
+      none-from k (i + 1) (omega arith) (λ j a b. q j (omega arith) b) ∙ last-next rows i false (sym (q i (omega arith) (omega arith))) ∙ sym (pick-false _ _ _ _ refl refl)
+
+  -- without one the list begins at 0
+  last-none : ((j : ℕ) → j < n → comma j ≡ false) → 0 ≡ last_part rows n
+  unfolding last_part
+  last-none q = sym (none-from n 0 (omega arith) (λ j a b. q j b))
+
+  -- and else behind the last
+  last-comma : (i : ℕ) → i < n → comma i ≡ true → ((j : ℕ) → i < j → j < n → comma j ≡ false) → i + 1 ≡ last_part rows n
+  last-comma i h c q =
+      sym (none-from (n - (i + 1)) (i + 1) (omega arith) (λ j a b. q j (omega arith) b) ∙ last-next rows i true (sym c) ∙ sym (pick_true _ _ _ _ refl refl))
+
+  -- the token at which the calls from the last on stopped
+  pub run-last : {S F : Type 0} {steps : S → Option ℕ → S → Type 0} (s : S) (g : Mut F (Bor ℕ × Unit {0}) Bool) (f : F)
+      → ((p : Run steps) → p.from ≡ s → ItemsCountDown p 0 n)
+      → CallKeepsClosure g f → ((x : ℕ) (b : Bool) (q : F) → CalledAt g f x b q → b ≡ comma x)
+      → (r : Option ℕ) → SomeRun steps s (λ u. MatchOption r ((u.whole ≡ true) × NoItemPasses u g f) (EndsAtFirstPassing u g f))
+      → MatchOption r (0 ≡ last_part rows n) (λ i. (i + 1 ≡ last_part rows n) × (i < n))
+  run-last {F = F} s g f down keeps k r (p, e, m) = go r m
+    where
+      d : ItemsCountDown p 0 n
+      d = down p e
+
+      -- the i-th call is for the i-th token from the end
+      at-is : (i : ℕ) → i < p.len → p.at i ≡ Some (n - 1 - i)
+      at-is i h = sym (option_map_id _) ∙ d.3 i h
+
+      -- so the j-th token's is the call n - 1 - j
+      at-token : (j : ℕ) → j < n → n - 1 - j < p.len → p.at (n - 1 - j) ≡ Some j
+      at-token j h l = let z : n - 1 - (n - 1 - j) ≡ j = omega arith in at-is (n - 1 - j) l ∙ ap Some z
+
+      go : (r : Option ℕ) → MatchOption r ((p.whole ≡ true) × NoItemPasses p g f) (EndsAtFirstPassing p g f) → MatchOption r (0 ≡ last_part rows n) (λ i. (i + 1 ≡ last_part rows n) × (i < n))
+      go None c = last-none (λ j h. sym (k j false f (subst (λ o. IfSome o (λ x. CalledAt g f x false f)) (at-token j h (omega (arith, d.1 c.0))) (c.1 keeps (n - 1 - j)))))
+      go (Some x) c =
+          let t = c.3 keeps in
+          let i : x ≡ n - 1 - c.0 = ap (λ o. unwrap_or o 0) (sym c.2 ∙ at-is c.0 (omega (arith, c.1))) in
+          let h : x < n = omega (arith, i, d.0, c.1) in (
+            last-comma x h (sym (k x true f t.0)) (λ j a b. sym (k j false f (subst (λ o. IsSomeAnd o (λ y. CalledAt g f y false f)) (at-token j b (omega (arith, c.1, i))) (t.1 (n - 1 - j) (omega (arith, i)))))),
+            h,
+          )
+
+  -- so the number that is made of it is that of the last part
+  pub run-told : {Q : ℕ → Type 0} (r : Option ℕ) (v : ℕ) → ((i : ℕ) → Q i → v ≡ i + 1) → MatchOption r (v ≡ 0) Q
+      → MatchOption r (0 ≡ last_part rows n) (λ i. (i + 1 ≡ last_part rows n) × (i < n)) → (v ≡ last_part rows n) × (v ≤ n)
+  run-told None v k a b = (a ∙ b, omega arith)
+  run-told (Some i) v k a b = (k i a ∙ b.0, omega (arith, k i a, b.1))
+
 -- ---- `parse_background_color`: the colour behind the last comma
-module _ (rows store : List ℕ) (n i : ℕ) (h : i ≤ n) where
+module _ (rows store : List ℕ) (i : ℕ) (h : i ≤ token_count rows) where
   -- the colour of the rows that are lent is that of what stands behind the last comma
-  pub background : i ≡ last_part rows n → (x : Option ℕ)
-      → x ≡ colour_answer (colour_of (tokens_at (take (length rows - i * token_width) (drop (i * token_width) rows)) store (n - i)))
-      → x ≡ colour_answer (background_of (tokens_at rows store n))
+  pub background : i ≡ last_part rows (token_count rows) → (x : Option ℕ)
+      → (let t = take (length rows - i * token_width) (drop (i * token_width) rows) in x ≡ colour_answer (colour_of (tokens_at t store (token_count t))))
+      → x ≡ colour_answer (background_of (tokens_at rows store (token_count rows)))
   unfolding background_of
   background e x ex =
+      let n = token_count rows in
       let all = tokens_at rows store n in
-      let p = ap (λ l. tokens_at l store (n - i)) (rest rows (i * token_width)) ∙ tokens-rest rows store i n h in
+      let p = ap (λ l. tokens_at l store (token_count l)) (rest rows (i * token_width)) ∙ ap (tokens_at (drop (i * token_width) rows) store) (count-rest rows i h) ∙ tokens-rest rows store i n h in
       ex ∙ ap (λ ks. colour_answer (colour_of ks)) (p ∙ ap (λ j. drop j all) e ∙ last-part rows store n)

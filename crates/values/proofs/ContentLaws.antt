@@ -45,7 +45,7 @@ module _ (rows store : List ℕ) where
     pub fits : n + length (texts_many text_of (left count i)) < 2 ^ 64
 
   -- before the first token the content is empty, and all tokens are left
-  pub joining-begin : (count : ℕ) → ContentRoom rows store count → Joining count 0 0
+  pub joining-begin : (count : ℕ) → ContentRoom (tokens_at rows store count) → Joining count 0 0
   joining-begin count c =
       let e : count - 0 ≡ count = omega arith in
       record { same = rw e (behind-none _); fits = rw e (omega (arith, c.fits)) }

@@ -8,14 +8,17 @@ use Rattle.combinators.proofs.Rules.{pick-holds}
 use Rattle.lexer.specs.Token.{Token, text_of}
 use Rattle.lexer.specs.TokenRow.{string_kind}
 use Rattle.syntax.specs.Declaration.{Decl, color, background_color, height, max_height, overflow, overflow_y, display, white_space, content, unknown}
-use Rattle.syntax.specs.Layout.{overflow_number, white_space_number, colour_number, decl_text}
+use Rattle.syntax.specs.Layout.{colour_number, decl_text}
 use Rattle.syntax.specs.Stream.{texts_many}
 use Rattle.syntax.proofs.Back.{DeclFits}
 use Rattle.values.specs.Words.{Entry, Found, found, missing, lookup, on_found, row_at, is_kind}
 use Rattle.values.specs.Colour.{colour_of, background_of}
 use Rattle.values.specs.ColourAnswer.{colour_answer}
 use Rattle.values.specs.Property.{height_of, overflow_of, display_of, white_space_of, content_of, properties, decl_of}
-use Rattle.values.specs.ValueAnswer.{height_answer, overflow_answer, content_answer}
+use Rattle.values.specs.ValueAnswer.{height_answer, content_answer}
+use Rattle.values.specs.KeywordAnswer.{overflow_word, white_space_word, overflow_answer}
+use Rattle.values.specs.declared.keywords.Overflow as declared_overflow
+use Rattle.values.specs.declared.keywords.WhiteSpace as declared_white_space
 use Rattle.values.specs.DeclAnswer.{decl_answer, text_length, place_of, decl_at}
 use Rattle.values.specs.declared.properties.Decl as declared
 use Rattle.values.specs.declared.properties.Decl.TheVariants as code
@@ -48,8 +51,8 @@ module _ (name : List ℕ) where
   unfolding decl_at row_at on_found place_of decl_answer
   display-made ks b e = ap code.Display e
 
-  -- a white space, by the number of its word
-  pub white-space-made : (ks : List Token) (n : ℕ) → n ≡ white_space_number (white_space_of ks) → code.WhiteSpace n ≡ decl_answer (decl_at (place_of property.WhiteSpace) name ks)
+  -- a white space, by its word
+  pub white-space-made : (ks : List Token) (n : declared_white_space.WhiteSpace) → n ≡ white_space_word (white_space_of ks) → code.WhiteSpace n ≡ decl_answer (decl_at (place_of property.WhiteSpace) name ks)
   unfolding decl_at row_at on_found place_of decl_answer
   white-space-made ks n e = ap code.WhiteSpace e
 
@@ -85,16 +88,16 @@ module _ (name : List ℕ) where
     max-height-made a e m = made max_height (λ z. z) code.MaxHeight (λ c. refl) (height_of ks) a e r m
 
     -- an overflow
-    pub overflow-made : (a : Option ℕ) → a ≡ overflow_answer (overflow_of ks) → MatchOption a (r ≡ None) (λ v. IsSomeAnd r (λ d. d ≡ code.Overflow v))
+    pub overflow-made : (a : Option declared_overflow.Overflow) → a ≡ overflow_answer (overflow_of ks) → MatchOption a (r ≡ None) (λ v. IsSomeAnd r (λ d. d ≡ code.Overflow v))
         → or_unknown r ≡ decl_answer (decl_at (place_of property.Overflow) name ks)
     unfolding decl_at row_at on_found place_of decl_answer overflow_answer
-    overflow-made a e m = made overflow overflow_number code.Overflow (λ c. refl) (overflow_of ks) a e r m
+    overflow-made a e m = made overflow overflow_word code.Overflow (λ c. refl) (overflow_of ks) a e r m
 
     -- an overflow
-    pub overflow-y-made : (a : Option ℕ) → a ≡ overflow_answer (overflow_of ks) → MatchOption a (r ≡ None) (λ v. IsSomeAnd r (λ d. d ≡ code.OverflowY v))
+    pub overflow-y-made : (a : Option declared_overflow.Overflow) → a ≡ overflow_answer (overflow_of ks) → MatchOption a (r ≡ None) (λ v. IsSomeAnd r (λ d. d ≡ code.OverflowY v))
         → or_unknown r ≡ decl_answer (decl_at (place_of property.OverflowY) name ks)
     unfolding decl_at row_at on_found place_of decl_answer overflow_answer
-    overflow-y-made a e m = made overflow_y overflow_number code.OverflowY (λ c. refl) (overflow_of ks) a e r m
+    overflow-y-made a e m = made overflow_y overflow_word code.OverflowY (λ c. refl) (overflow_of ks) a e r m
 
     -- a content
     pub content-made : (a : Option ℕ) → a ≡ content_answer (content_of ks) → MatchOption a (r ≡ None) (λ v. IsSomeAnd r (λ d. d ≡ code.Content v))

@@ -1,21 +1,24 @@
 -- Keywords: what the first name of a value that a table has stands for.
-use Prim.Native.Nat.{ℕ, ◌+◌, ◌*◌, ◌-◌, ◌≤◌, ◌<◌}
-use mathlib.Core.Path.{◌≡◌, refl, sym, ap, ◌∙◌}
+use Prim.Native.Nat.{ℕ, zero, suc, ◌+◌, ◌*◌, ◌-◌, ◌≤◌, ◌<◌}
+use mathlib.Core.Path.{◌≡◌, refl, sym, ap, subst, ◌∙◌}
 use mathlib.Core.Bool.{Bool, true, false}
 use mathlib.Core.List.{List, [], ◌∷◌}
-use Rattle.std.specs.Prelude.{Option, Some, None, is_some, unwrap_or}
+use Rattle.std.specs.Prelude.{Option, Some, None, is_some, unwrap_or, MatchOption, IfSome, IsSomeAnd}
 use native.Mathlib.Omega.{arith}
 use lib.ListN.{get_or, drop}
+use denote.Param.Members.{Mut, Called}
+use Rattle.std.proofs.lemmas.Iterator.Adapters.{option_map_id}
+use Rattle.std.specs.Iterator.Runs.{SomeRun, Run, CallKeepsClosure, AllItemsGive, IsFirstToGive, ItemsCountUp}
 use Rattle.combinators.specs.Choice.{pick, is}
 use Rattle.combinators.proofs.Rules.{pick_true, pick-false, told}
 use Rattle.lexer.specs.Token.{Token, text_of}
 use Rattle.lexer.specs.TokenRow.{token_width, kind_column, ident_kind}
 use Rattle.syntax.specs.Declaration.{WhiteSpace, normal}
-use Rattle.syntax.specs.Layout.{overflow_number, white_space_number}
 use Rattle.values.specs.Words.{Entry, Found, found, missing, lookup, on_found, is_kind}
 use Rattle.values.specs.View.{token_here, first_text, tokens_at}
 use Rattle.values.specs.Property.{first_word, overflows, overflow_of, displays, display_of, white_spaces, white_space_of}
-use Rattle.values.specs.ValueAnswer.{overflow_answer}
+use Rattle.values.specs.KeywordAnswer.{overflow_word, white_space_word, overflow_answer}
+use Rattle.values.specs.declared.keywords.WhiteSpace as declared_white_space
 use Rattle.values.proofs.TokenViews.{ident-text, kind-told, here-text, next-token, no-token}
 use Rattle.values.proofs.WordLaws.{mapped, found_as, on-found-as, lookup-mapped}
 
@@ -54,48 +57,77 @@ module _ {A : Type 0} (table : List (Entry A)) where
       unfolding first_word on_found
       name-none p = ap (λ (f : Found A). on_found f Some None) (pick-false _ _ _ _ (named false p) refl)
 
-    -- ---- `first_word`: the tokens before the i-th stand for nothing
-    pub record Finding (n i : ℕ) : Type 0 where
-      pub same : first_word table (tokens_at rows store n) ≡ first_word table (tokens_at (drop (i * token_width) rows) store (n - i))
+    -- ---- `first_word`: what the i-th token stands for
+    abbrev word : ℕ → Option A
+    word i = on_found (first_word table (token_here rows store (i * token_width) ∷ [])) Some None
 
-    -- before the first token all are left
-    pub finding-begin : (n : ℕ) → Finding n 0
-    finding-begin n = let e : n - 0 ≡ n = omega arith in record { same = rw e }
+    module _ (n : ℕ) where
+      -- what the tokens from the i-th on stand for
+      abbrev from : ℕ → Found A
+      from i = first_word table (tokens_at (drop (i * token_width) rows) store (n - i))
 
-    module _ (n i : ℕ) (c : Finding n i) where
-      -- behind the last nothing was found
-      pub finding-done : n ≤ i → None ≡ on_found (first_word table (tokens_at rows store n)) Some None
+      -- that of the i-th, or else that of those behind it
+      turn : (i : ℕ) → i < n → from i ≡ on_found (first_word table (token_here rows store (i * token_width) ∷ [])) (λ a. found a) (from (i + 1))
+      turn i h = ap (first_word table) (next-token rows store n i h) ∙ first-or _ _
+
+      -- a token that stands for nothing is passed
+      passed : (i : ℕ) → i < n → word i ≡ None → from i ≡ from (i + 1)
+      unfolding on_found
+      passed i h e = turn i h ∙ go _ _ e
+        where
+          go : (x m : Found A) → on_found x Some None ≡ None → on_found x (λ a. found a) m ≡ m
+          go (found a) m p = absurd (let z : true ≡ false = ap is_some p in cc)
+          go missing m p = refl
+
+      -- so all before the i-th are passed
+      all-passed : (i : ℕ) → i ≤ n → ((k : ℕ) → k < i → word k ≡ None) → first_word table (tokens_at rows store n) ≡ from i
+      all-passed zero h e = let d : n - 0 ≡ n = omega arith in rw d
+      all-passed (suc i) h e =
+          let d : i + 1 ≡ suc i = omega arith in
+          all-passed i (omega arith) (λ k l. e k (omega arith)) ∙ passed i (omega arith) (e i (omega arith)) ∙ ap from d
+
+      -- where none stands for anything, nothing is found
+      pub none-found : ((k : ℕ) → k < n → word k ≡ None) → None ≡ on_found (first_word table (tokens_at rows store n)) Some None
       unfolding first_word on_found
-      finding-done h = sym (ap (λ f. on_found f Some None) (c.same ∙ ap (first_word table) (no-token rows store n i h)))
+      none-found e = sym (ap (λ f. on_found f Some None) (all-passed n (omega arith) e ∙ ap (first_word table) (no-token rows store n n (omega arith))))
 
-      module _ (h : i < n) (r : Option A) (er : r ≡ on_found (first_word table (token_here rows store (i * token_width) ∷ [])) Some None) where
-        abbrev one : Found A
-        one = first_word table (token_here rows store (i * token_width) ∷ [])
+      -- what the first stands for that stands for anything is found
+      pub first-found : (i : ℕ) → i < n → (a : A) → word i ≡ Some a → ((k : ℕ) → k < i → word k ≡ None)
+          → Some a ≡ on_found (first_word table (tokens_at rows store n)) Some None
+      unfolding on_found
+      first-found i h a p e = sym p ∙ go _ _ p ∙ sym (ap (λ f. on_found f Some None) (all-passed i (omega arith) e ∙ turn i h))
+        where
+          go : (x m : Found A) → on_found x Some None ≡ Some a → on_found x Some None ≡ on_found (on_found x (λ a. found a) m) Some None
+          go (found b) m q = refl
+          go missing m q = absurd (let z : false ≡ true = ap is_some q in cc)
 
-        abbrev more : Found A
-        more = first_word table (tokens_at (drop ((i + 1) * token_width) rows) store (n - (i + 1)))
+      -- the word at which the calls over the tokens' numbers stopped
+      pub run-found : {S F : Type 0} {steps : S → Option ℕ → S → Type 0} (s : S) (g : Mut F (ℕ × Unit {0}) (Option A)) (f : F)
+          → ((p : Run steps) → p.from ≡ s → ItemsCountUp p 0 n)
+          → ((i : ℕ) (r : Option A) (q : F) → Called g f (i, tt) r q → (q ≡ f) × (r ≡ word i))
+          → (r : Option A)
+          → SomeRun steps s (λ p. MatchOption r ((p.whole ≡ true) × AllItemsGive p g f None) (λ y. (i : ℕ) × (i < p.len) × (p.len ≡ i + 1) × IsFirstToGive p g f (Some y) None i))
+          → r ≡ on_found (first_word table (tokens_at rows store n)) Some None
+      run-found {F} s g f u k r (p, e, m) = go r m
+        where
+          keeps : CallKeepsClosure g f
+          keeps x r q c = (k x.0 r q c).0
 
-        -- this token's, or else that of those behind it
-        turn : first_word table (tokens_at rows store n) ≡ on_found one (λ a. found a) more
-        turn = c.same ∙ ap (first_word table) (next-token rows store n i h) ∙ first-or _ _
+          up : ItemsCountUp p 0 n
+          up = u p e
 
-        -- the token stands for something
-        pub finding-hit : is_some r ≡ true → r ≡ on_found (first_word table (tokens_at rows store n)) Some None
-        unfolding on_found
-        finding-hit p = go one more er ∙ sym (ap (λ f. on_found f Some None) turn)
-          where
-            go : (x m : Found A) → r ≡ on_found x Some None → r ≡ on_found (on_found x (λ a. found a) m) Some None
-            go (found a) m e = e
-            go missing m e = absurd (let z : false ≡ true = sym (ap is_some e) ∙ p in cc)
+          at-is : (i : ℕ) → i < p.len → p.at i ≡ Some i
+          at-is i h = let z : 0 + i ≡ i = omega arith in sym (option_map_id _) ∙ up.3 i h ∙ ap Some z
 
-        -- it stands for nothing
-        pub finding-more : is_some r ≡ false → Finding n (i + 1)
-        unfolding on_found
-        finding-more p = record { same = turn ∙ go one more er }
-          where
-            go : (x m : Found A) → r ≡ on_found x Some None → on_found x (λ a. found a) m ≡ m
-            go (found a) m e = absurd (let z : true ≡ false = sym (ap is_some e) ∙ p in cc)
-            go missing m e = refl
+          go : (r : Option A) → MatchOption r ((p.whole ≡ true) × AllItemsGive p g f None) (λ y. (i : ℕ) × (i < p.len) × (p.len ≡ i + 1) × IsFirstToGive p g f (Some y) None i)
+              → r ≡ on_found (first_word table (tokens_at rows store n)) Some None
+          go None c =
+              none-found (λ j h. sym (k j None f (subst (λ o. IfSome o (λ x. Called g f (x, tt {0}) None f)) (at-is j (omega (arith, up.1 c.0))) (c.1 keeps j))).1)
+          go (Some y) c =
+              let t = c.3 keeps in
+              first-found c.0 (omega (arith, c.1, up.0)) y
+              (sym (k c.0 (Some y) f (subst (λ o. IsSomeAnd o (λ x. Called g f (x, tt {0}) (Some y) f)) (at-is c.0 c.1) t.0)).1)
+              (λ j h. sym (k j None f (subst (λ o. IsSomeAnd o (λ x. Called g f (x, tt {0}) None f)) (at-is j (omega (arith, c.1))) (t.1 j h))).1)
 
 -- ---- the code's tables
 -- the first word of a table stands for f of what it stands for
@@ -110,9 +142,9 @@ first-mapped f es (k ∷ ks) = rw (lookup-mapped f (text_of k) es, first-mapped 
     go false x m = unfold pick in refl
 
 -- a value names an overflow
-pub overflow-told : (ks : List Token) → on_found (first_word (mapped overflow_number overflows) ks) Some None ≡ overflow_answer (overflow_of ks)
+pub overflow-told : (ks : List Token) → on_found (first_word (mapped overflow_word overflows) ks) Some None ≡ overflow_answer (overflow_of ks)
 unfolding overflow_answer overflow_of
-overflow-told ks = ap (λ f. on_found f Some None) (first-mapped overflow_number overflows ks) ∙ on-found-as overflow_number (first_word overflows ks) Some None
+overflow-told ks = ap (λ f. on_found f Some None) (first-mapped overflow_word overflows ks) ∙ on-found-as overflow_word (first_word overflows ks) Some None
 
 -- a value names `none`, or does not
 pub display-told : (ks : List Token) (r : Option Bool) → r ≡ on_found (first_word displays ks) Some None → unwrap_or r false ≡ display_of ks
@@ -124,12 +156,12 @@ display-told ks r e = go (first_word displays ks) e
     go missing e = unfold on_found in ap (λ o. unwrap_or o false) e
 
 -- a value names a white space, or it is `normal`
-pub white-space-told : (ks : List Token) (r : Option ℕ) → r ≡ on_found (first_word (mapped white_space_number white_spaces) ks) Some None
-    → unwrap_or r (white_space_number normal) ≡ white_space_number (white_space_of ks)
+pub white-space-told : (ks : List Token) (r : Option declared_white_space.WhiteSpace) → r ≡ on_found (first_word (mapped white_space_word white_spaces) ks) Some None
+    → unwrap_or r (white_space_word normal) ≡ white_space_word (white_space_of ks)
 unfolding white_space_of
-white-space-told ks r e = go (first_word white_spaces ks) (e ∙ ap (λ f. on_found f Some None) (first-mapped white_space_number white_spaces ks))
+white-space-told ks r e = go (first_word white_spaces ks) (e ∙ ap (λ f. on_found f Some None) (first-mapped white_space_word white_spaces ks))
   where
-    go : (x : Found WhiteSpace) → r ≡ on_found (found_as white_space_number x) Some None
-        → unwrap_or r (white_space_number normal) ≡ white_space_number (on_found x (λ a. a) normal)
-    go (found a) e = unfold found_as on_found in ap (λ o. unwrap_or o (white_space_number normal)) e
-    go missing e = unfold found_as on_found in ap (λ o. unwrap_or o (white_space_number normal)) e
+    go : (x : Found WhiteSpace) → r ≡ on_found (found_as white_space_word x) Some None
+        → unwrap_or r (white_space_word normal) ≡ white_space_word (on_found x (λ a. a) normal)
+    go (found a) e = unfold found_as on_found in ap (λ o. unwrap_or o (white_space_word normal)) e
+    go missing e = unfold found_as on_found in ap (λ o. unwrap_or o (white_space_word normal)) e

@@ -5,19 +5,19 @@ use mathlib.Core.Bool.{Bool, true, false}
 use Prim.Native.Nat.{ℕ, zero, suc, ◌+◌, ◌-◌, ◌<◌, ◌≤◌}
 use native.Mathlib.Numerals.{add-one}
 use native.Mathlib.Omega.{arith}
-use lib.ListN.{length, get_or, set, length-append}
+use lib.ListN.{length, get_or, set}
 use lib.Seq.{get_or-set_same, get_or-set_other}
 use types.Run.{OneOf, miss}
 use denote.Enum.Declared.{tag_of}
 use Rattle.combinators.specs.Ascii.{right_curly_bracket}
 use Rattle.combinators.specs.Choice.{pick}
 use Rattle.combinators.proofs.Rules.{pick_true, pick-false, is-yes, is-no}
-use Rattle.lexer.specs.Token.{Token, ident, function, hash, string, bad_string, delim, number, dimension, percentage, cdo, cdc, colon, semicolon, comma, open_square, close_square, open_round, close_round, open_brace, close_brace, coded, text_of}
+use Rattle.lexer.specs.Token.{Token, ident, function, hash, string, bad_string, delim, number, dimension, percentage, cdo, cdc, colon, semicolon, comma, open_square, close_square, open_round, close_round, open_brace, close_brace, coded, text_of, length_by}
 use Rattle.lexer.specs.contracts.tokens.Token.{the_type}
 use Rattle.lexer.specs.declared.tokens.Token as lexer
 use Rattle.lexer.specs.declared.tokens.Token.TheVariants as code
 use Rattle.values.specs.Value.{Bracket, opens, closes, ends, none, bracket_by, bracket_of, next, closing, ending, step_of}
-use Rattle.values.specs.Layout.{length_by, meant, awaited, pushed, depth, step_to, deep, ending_by, Moved}
+use Rattle.values.specs.Layout.{meant, awaited, pushed, depth, step_to, deep, ending_by, Moved}
 use Rattle.values.specs.declared.statements.Bracket as declared-bracket
 use Rattle.values.specs.declared.statements.Bracket.TheVariants.{Opens, Closes, Ends, NoBracket}
 use Rattle.values.specs.declared.statements.Step as declared-step
@@ -79,30 +79,6 @@ without-text code.OpenRound h = refl
 without-text code.CloseRound h = refl
 without-text code.OpenBrace h = refl
 without-text code.CloseBrace h = refl
-
--- a token as the code has it has as many bytes of text
-pub length-coded : (k : Token) → length_by (coded k) ≡ length (text_of k)
-unfolding length_by text_of coded
-length-coded (ident b) = refl
-length-coded (function b) = refl
-length-coded (hash b) = refl
-length-coded (string b) = refl
-length-coded (bad_string b) = refl
-length-coded (delim c) = refl
-length-coded (number b) = refl
-length-coded (dimension b u) = sym (length-append b u)
-length-coded (percentage b) = refl
-length-coded cdo = refl
-length-coded cdc = refl
-length-coded colon = refl
-length-coded semicolon = refl
-length-coded comma = refl
-length-coded open_square = refl
-length-coded close_square = refl
-length-coded open_round = refl
-length-coded close_round = refl
-length-coded open_brace = refl
-length-coded close_brace = refl
 
 -- a token at which the statement does not go on has no text
 pub no_text : (include : Bool) (cs : List ℕ) (k : Token) → ((ds : List ℕ) → ¬ (step_of include (bracket_of k) cs ≡ next ds)) → text_of k ≡ []

@@ -2,12 +2,12 @@
 use mathlib.Core.Path.{◌≡◌, refl, sym, ap, ◌∙◌}
 use mathlib.Core.Bool.{Bool, true, false}
 use mathlib.Core.List.{List, [], ◌∷◌}
-use Prim.Native.Nat.{ℕ, suc, ◌+◌, ◌-◌, ◌*◌, ◌<◌, ◌≤◌}
+use Prim.Native.Nat.{ℕ, zero, suc, ◌+◌, ◌-◌, ◌*◌, ◌<◌, ◌≤◌}
 use native.Mathlib.Omega.{arith}
 use lib.Dec.{eqb}
-use lib.ListN.{get_or, drop}
+use lib.ListN.{length, get_or, take, drop, length-drop}
 use lib.Pointwise.{pointwise}
-use lib.Seq.{get_or-drop, drop-drop, take-append_seam, drop-append_seam}
+use lib.Seq.{get_or-drop, get_or-take, length-take-le, drop-drop, take-append_seam, drop-append_seam}
 use Rattle.combinators.specs.Choice.{pick, is}
 use Rattle.combinators.specs.Word.{same_text}
 use Rattle.combinators.specs.Part.{part}
@@ -19,7 +19,7 @@ use Rattle.lexer.specs.declared.tokens.Token.TheVariants as code
 use Rattle.syntax.specs.Stream.{read_many}
 use Rattle.values.specs.Words.{kind_of, token_first, number_of, unit_of, is_kind, is_word, is_delim}
 use Rattle.values.proofs.WordLaws.{same_bytes}
-use Rattle.values.specs.View.{token_with, read_token, token_here, first_text, second_text, tokens_at}
+use Rattle.values.specs.View.{token_with, read_token, token_here, first_text, second_text, tokens_at, token_count}
 
 -- ---- kinds
 -- a token has its kind also with its texts
@@ -237,3 +237,38 @@ next-token rows store n i h =
 -- behind the last there are none
 pub no-token : (rows store : List ℕ) (n i : ℕ) → n ≤ i → tokens_at (drop (i * token_width) rows) store (n - i) ≡ []
 no-token rows store n i h = let left : n - i ≡ 0 = omega arith in rw left (tokens_none _ store)
+
+-- the rows of as many tokens as are counted are there
+pub counted : (rows : List ℕ) → token_count rows * token_width ≤ length rows
+unfolding token_count
+counted rows = omega arith
+
+-- behind the rows of the first i tokens there are i fewer
+pub count-rest : (rows : List ℕ) (i : ℕ) → i ≤ token_count rows → token_count (drop (i * token_width) rows) ≡ token_count rows - i
+unfolding token_count
+count-rest rows i h = omega (arith, length-drop (i * token_width) rows)
+
+-- ---- rows cut to those of so many tokens
+-- they hold so many
+pub count-cut : (rows : List ℕ) (n : ℕ) → token_width * n ≤ length rows → token_count (take (token_width * n) rows) ≡ n
+unfolding token_count
+count-cut rows n h = omega (arith, length-take-le (token_width * n) rows h)
+
+-- a token before the cut is the same
+here-cut : (rows store : List ℕ) (m p : ℕ) → p + token_width ≤ m → token_here (take m rows) store p ≡ token_here rows store p
+here-cut rows store m p h =
+    here (take m rows) store p
+    ∙ rw
+    (get_or-take m rows (p + kind_column) 0 (omega arith), get_or-take m rows (p + start_column) 0 (omega arith), get_or-take m rows (p + first_column) 0 (omega arith), get_or-take m rows (p + second_column) 0 (omega arith))
+    (sym (here rows store p))
+
+-- so are all from p on
+from-cut : (rows store : List ℕ) (n p m : ℕ) → p + token_width * n ≤ m → tokens_at (drop p (take m rows)) store n ≡ tokens_at (drop p rows) store n
+from-cut rows store zero p m h = tokens_none _ store ∙ sym (tokens_none _ store)
+from-cut rows store (suc n) p m h =
+    tokens-here (take m rows) store p n ∙ rw (here-cut rows store m p (omega arith), from-cut rows store n (p + token_width) m (omega arith)) (sym (tokens-here rows store p n))
+
+-- and so all of them
+pub tokens-cut : (rows store : List ℕ) (n : ℕ) → token_width * n ≤ length rows
+    → tokens_at (take (token_width * n) rows) store (token_count (take (token_width * n) rows)) ≡ tokens_at rows store n
+tokens-cut rows store n h = rw (count-cut rows n h) (from-cut rows store n 0 (token_width * n) (omega arith))

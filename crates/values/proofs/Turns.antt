@@ -16,30 +16,30 @@ use Rattle.combinators.specs.Store.{Store, emits}
 use Rattle.combinators.proofs.Rules.{pick_true, pick-false, pick-holds, is-yes, is-no, and_both, and_left}
 use Rattle.combinators.proofs.Emitted.{emits_none, emits-append, emits-bytes}
 use Rattle.combinators.proofs.Wiped.{sets-append}
-use Rattle.lexer.specs.Token.{Token, token_of, coded, text_of, token_text, lexed_answer}
+use Rattle.lexer.specs.Token.{Token, token_of, coded, text_of, token_text, lexed_answer, length_by}
 use Rattle.lexer.specs.TokenRow.{row_of, token_row}
 use Rattle.lexer.specs.Whitespace.{skip_whitespace}
 use Rattle.lexer.specs.declared.tokens.Token as lexer
 use Rattle.lexer.specs.declared.tokens.Lexed.{Lexed}
 use Rattle.lexer.proofs.Bounds.{Bound, short, lone, Fits}
 use Rattle.lexer.proofs.Comments.{skip-le}
-use Rattle.lexer.proofs.TokenBounds.{token-fits}
+use Rattle.lexer.proofs.TokenBounds.{token-fits, length-coded}
 use Rattle.syntax.specs.Stream.{rows_many, texts_many}
 use Rattle.values.specs.Value.{Placed, bracket_by, bracket_of, Step, next, before, behind, wrong, step_of, Statement, stop, cons, on_step, scan, statement_of}
-use Rattle.values.specs.Layout.{length_by, awaited, pushed, depth, step_to, deep, Moved, rows_of, texts_of, brackets_after, Left, left, statement_answer, Room, taken_by, count_by, text_by, slack, Bounds}
+use Rattle.values.specs.Layout.{awaited, pushed, depth, step_to, deep, Moved, rows_of, texts_of, brackets_after, Left, left, statement_answer, Room, taken_by, count_by, text_by, slack, Bounds}
 use Rattle.values.specs.declared.statements.Step as declared-step
 use Rattle.values.specs.declared.statements.Step.TheVariants.{Next, Before, Behind, Wrong}
 use Rattle.std.specs.Prelude.{Option, Some, None, Result, Ok, Err}
 use Rattle.combinators.proofs.Lists.{rest}
 use Rattle.values.specs.declared.statements.Statement as declared
 use Rattle.values.specs.declared.statements.Unbalanced.{Unbalanced}
-use Rattle.values.proofs.Nesting.{length-coded, no_text, unpushed, depth_le}
+use Rattle.values.proofs.Nesting.{no_text, unpushed, depth_le}
 
 -- ---- what is left of a statement leaves, where n tokens with t bytes of text were read and d brackets are awaited
 unfoldable pub leaves : Statement → Store ℕ → ℕ → List ℕ → ℕ → List ℕ → ℕ → ℕ → Left
 leaves r o n b d st fill t =
     record {
-      answer = pick r.balanced (Ok (record { taken = r.taken; count = n + length r.tokens; text = t + length (texts_of r.tokens) })) (Err (record { taken = r.taken; count = n + length r.tokens; text = t + length (texts_of r.tokens) }));
+      answer = pick r.balanced (Ok (record { taken = r.taken; count = n + length r.tokens; text = t + length (texts_of r.tokens) })) (Err (record { 0 = record { taken = r.taken; count = n + length r.tokens; text = t + length (texts_of r.tokens) } }));
       rows = (emits o (rows_of (fill + t) r.tokens)).bytes;
       brackets = brackets_after r.tokens b d;
       store = sets st (fill + t) (texts_of r.tokens);
@@ -60,7 +60,7 @@ module _ (o : Store ℕ) (n : ℕ) (b : List ℕ) (d : ℕ) (st : List ℕ) (fil
   leaves-stop at = rw (add-zero n, add-zero t, emits_none o)
 
   -- a statement that ends here with a wrong bracket leaves the stores as they are, and says so
-  leaves-wrong : (at : ℕ) → leaves (stop at false) o n b d st fill t ≡ record { answer = Err (record { taken = at; count = n; text = t }); rows = o.bytes; brackets = b; store = st }
+  leaves-wrong : (at : ℕ) → leaves (stop at false) o n b d st fill t ≡ record { answer = Err (record { 0 = record { taken = at; count = n; text = t } }); rows = o.bytes; brackets = b; store = st }
   unfolding leaves stop pick rows_many texts_many brackets_after
   leaves-wrong at = rw (add-zero n, add-zero t, emits_none o)
 
@@ -362,7 +362,7 @@ module _ {s : List ℕ} {include : Bool} {rows₀ brackets₀ store₀ : List �
           )
 
       -- the return at a wrong bracket: the statement ends before it, unbalanced
-      pub ends-wrong : {b : List ℕ} → Moved include (bracket_by k) brackets d b Wrong → Ends (Err (record { taken = taken; count = count; text = text })) rows b z
+      pub ends-wrong : {b : List ℕ} → Moved include (bracket_by k) brackets d b Wrong → Ends (Err (record { 0 = record { taken = taken; count = count; text = text } })) rows b z
       unfolding step_to taken_by count_by text_by
       ends-wrong {b} v =
           let h = step_is b Wrong v in

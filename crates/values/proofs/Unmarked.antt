@@ -5,12 +5,12 @@ use mathlib.Core.List.{List, [], ◌∷◌, ◌++◌, append_assoc, append-nil}
 use Prim.Native.Nat.{ℕ, zero, suc, ◌+◌, ◌-◌, ◌≤◌, ◌<◌}
 use native.Mathlib.Omega.{arith}
 use lib.ListN.{length, take, drop, replicate, set, length-replicate}
-use lib.Seq.{sets, take-nil, take-set-le}
+use lib.Seq.{sets, take-nil}
 use Rattle.combinators.specs.Choice.{pick}
 use Rattle.combinators.specs.Store.{filled_part, wiped}
 use Rattle.combinators.specs.Part.{part}
 use Rattle.combinators.proofs.Rules.{pick-holds}
-use Rattle.combinators.proofs.Wiped.{sets-apart, wiped-over, wiped-add}
+use Rattle.combinators.proofs.Wiped.{sets-apart, wiped-over, wiped-add, take-sets}
 use Rattle.lexer.specs.Token.{Token, text_of}
 use Rattle.lexer.specs.TokenRow.{token_width}
 use Rattle.syntax.specs.Stream.{texts_many}
@@ -104,11 +104,6 @@ wiped-inner l f n m xs h =
     in
     wiped-add f n m _ ∙ ap (wiped (f + n) m) p ∙ wiped-over (wiped f n l) (f + n) m xs h ∙ sym (wiped-add f n m l)
 
--- what is stored from j on leaves all that lies before it
-take-apart : (l : List ℕ) (n : ℕ) (xs : List ℕ) (j : ℕ) → n ≤ j → take n (sets l j xs) ≡ take n l
-take-apart l n [] j h = refl
-take-apart l n (x ∷ xs) j h = take-apart (set l j x) n xs (suc j) (omega arith) ∙ take-set-le n l j x h
-
 -- n bytes from f on are what lies behind f of the first f + n
 part-take : (f n : ℕ) (l : List ℕ) → take n (drop f l) ≡ drop f (take (f + n) l)
 part-take zero n l = let e : 0 + n ≡ n = omega arith in rw e
@@ -118,7 +113,7 @@ part-take (suc f) n (x ∷ l) = let e : suc f + n ≡ suc (f + n) = omega arith 
 -- what is stored behind a part leaves the part as it was
 pub part_apart : (l : List ℕ) (f n : ℕ) (xs : List ℕ) → part (sets l (f + n) xs) f n ≡ part l f n
 unfolding part
-part_apart l f n xs = part-take f n (sets l (f + n) xs) ∙ ap (drop f) (take-apart l (f + n) xs (f + n) (omega arith)) ∙ sym (part-take f n l)
+part_apart l f n xs = part-take f n (sets l (f + n) xs) ∙ ap (drop f) (take-sets l (f + n) xs (f + n) (omega arith)) ∙ sym (part-take f n l)
 
 -- zeros over as many brackets as there are tokens
 set-wiped : (b : List ℕ) (d n c : ℕ) → d < n → wiped 0 n (set b d c) ≡ wiped 0 n b

@@ -2,14 +2,15 @@
 use mathlib.Core.Path.{◌≡◌, refl, sym, ap, ◌∙◌}
 use mathlib.Core.Bool.{Bool, true, false}
 use mathlib.Core.List.{List}
-use Prim.Native.Nat.{ℕ, ◌+◌, ◌^◌, ◌≤◌, ◌<◌}
+use Prim.Native.Nat.{ℕ, ◌+◌, ◌*◌, ◌^◌, ◌≤◌, ◌<◌}
 use native.Mathlib.Omega.{arith}
 use lib.ListN.{length}
 use lib.Seq.{length-sets}
 use Rattle.combinators.specs.Choice.{pick}
 use Rattle.values.specs.Value.{Statement, statement_of, tokens_of, is_important}
 use Rattle.values.specs.Layout.{rows_of, texts_of, Left, left, statement_answer, value_answer, value_left, Room}
-use Rattle.values.specs.View.{Counted, tokens_at}
+use Rattle.lexer.specs.TokenRow.{token_width}
+use Rattle.values.specs.View.{tokens_at}
 use Rattle.std.specs.Prelude.{Result, Ok, Err}
 use Rattle.values.specs.declared.statements.Statement as declared
 use Rattle.values.specs.declared.statements.Unbalanced.{Unbalanced}
@@ -28,30 +29,30 @@ pub whole : (r : Statement) (n : declared.Statement) → Ok n ≡ statement_answ
 unfolding statement_answer
 whole r n = go r.balanced refl
   where
-    go : (v : Bool) → r.balanced ≡ v → ◌≡◌ {A = Result declared.Statement Unbalanced} (Ok n) (pick v (Ok (record { taken = r.taken; count = length r.tokens; text = length (texts_of r.tokens) })) (Err (record { taken = r.taken; count = length r.tokens; text = length (texts_of r.tokens) }))) → Whole r n
+    go : (v : Bool) → r.balanced ≡ v → ◌≡◌ {A = Result declared.Statement Unbalanced} (Ok n) (pick v (Ok (record { taken = r.taken; count = length r.tokens; text = length (texts_of r.tokens) })) (Err (record { 0 = record { taken = r.taken; count = length r.tokens; text = length (texts_of r.tokens) } }))) → Whole r n
     go true b e = unfold pick in let q : n ≡ record { taken = r.taken; count = length r.tokens; text = length (texts_of r.tokens) } = cc in record { balanced = b; taken = ap (λ (m : declared.Statement). m.taken) q; count = ap (λ (m : declared.Statement). m.count) q; text = ap (λ (m : declared.Statement). m.text) q }
     go false b e = unfold pick in absurd (cc)
 
 -- an answer without one comes of a wrong bracket alone, and has its numbers
 pub record Broken (r : Statement) (n : Unbalanced) : Type 0 where
   pub balanced : r.balanced ≡ false
-  pub taken : n.taken ≡ r.taken
-  pub count : n.count ≡ length r.tokens
-  pub text : n.text ≡ length (texts_of r.tokens)
+  pub taken : n.0.taken ≡ r.taken
+  pub count : n.0.count ≡ length r.tokens
+  pub text : n.0.text ≡ length (texts_of r.tokens)
 
 pub broken : (r : Statement) (n : Unbalanced) → Err n ≡ statement_answer r → Broken r n
 unfolding statement_answer
 broken r n = go r.balanced refl
   where
-    go : (v : Bool) → r.balanced ≡ v → ◌≡◌ {A = Result declared.Statement Unbalanced} (Err n) (pick v (Ok (record { taken = r.taken; count = length r.tokens; text = length (texts_of r.tokens) })) (Err (record { taken = r.taken; count = length r.tokens; text = length (texts_of r.tokens) }))) → Broken r n
+    go : (v : Bool) → r.balanced ≡ v → ◌≡◌ {A = Result declared.Statement Unbalanced} (Err n) (pick v (Ok (record { taken = r.taken; count = length r.tokens; text = length (texts_of r.tokens) })) (Err (record { 0 = record { taken = r.taken; count = length r.tokens; text = length (texts_of r.tokens) } }))) → Broken r n
     go true b e = unfold pick in absurd (cc)
-    go false b e = unfold pick in let q : n ≡ record { taken = r.taken; count = length r.tokens; text = length (texts_of r.tokens) } = cc in record { balanced = b; taken = ap (λ (m : Unbalanced). m.taken) q; count = ap (λ (m : Unbalanced). m.count) q; text = ap (λ (m : Unbalanced). m.text) q }
+    go false b e = unfold pick in let q : n ≡ record { 0 = record { taken = r.taken; count = length r.tokens; text = length (texts_of r.tokens) } } = cc in record { balanced = b; taken = ap (λ (m : Unbalanced). m.0.taken) q; count = ap (λ (m : Unbalanced). m.0.count) q; text = ap (λ (m : Unbalanced). m.0.text) q }
 
 -- the answer of a value
 value-whole : (r : Statement) (n : declared.Statement) → Whole r n → (i : Bool) → i ≡ is_important (tokens_of r.tokens)
-    → Ok (record { taken = n.taken; count = n.count; text = n.text; important = i }) ≡ value_answer r
+    → Ok (record { statement = n; important = i }) ≡ value_answer r
 unfolding value_answer pick
-value-whole r n h i e = rw (h.balanced, h.taken, h.count, h.text, e)
+value-whole r n h i e = rw (h.balanced, e, ← h.taken, ← h.count, ← h.text)
 
 -- where a bracket is wrong, no value is answered, with the numbers of what stands before it
 value-broken : (r : Statement) (n : Unbalanced) → Broken r n → Err n ≡ value_answer r
@@ -104,12 +105,12 @@ module _ (include : Bool) (s rows brackets store : List ℕ) (fill : ℕ) (room 
       numbers = whole r n (sym ea ∙ said)
 
       -- the rows hold the tokens
-      pub value-counted : Counted x n.count
+      pub value-counted : token_width * n.count ≤ length x
       unfolding left
       value-counted =
           let h = statement-sized include s in
           let l = ap length same_rows ∙ length-sets rows 0 (rows_of fill r.tokens) in
-          record { inside = omega (arith, numbers.count, h.counted, h.within, room.for-tokens) }
+          omega (arith, l, numbers.count, h.counted, h.within, room.for-tokens)
 
       -- the rows read back as the tokens of the value
       back : tokens_at x z n.count ≡ tokens_of r.tokens
@@ -119,7 +120,7 @@ module _ (include : Bool) (s rows brackets store : List ℕ) (fill : ℕ) (room 
 
       -- the return where the brackets are right: a value, with the mark that its last tokens say
       pub value-left : {i : Bool} → i ≡ is_important (tokens_at x z n.count)
-          → record { answer = Ok (record { taken = n.taken; count = n.count; text = n.text; important = i }); rows = x; brackets = b; store = z } ≡ value_left r rows brackets store fill
+          → record { answer = Ok (record { statement = n; important = i }); rows = x; brackets = b; store = z } ≡ value_left r rows brackets store fill
       value-left {i} ei = left_as _ (value-whole r n numbers i (ei ∙ ap is_important back))
 
     -- the return where a bracket was wrong: no value

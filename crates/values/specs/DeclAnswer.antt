@@ -2,9 +2,10 @@
 use Rattle.std.specs.Prelude.{ℕ, List, length}
 use Rattle.lexer.specs.Token.{Token}
 use Rattle.syntax.specs.Declaration.{Decl, color, background_color, height, max_height, overflow, overflow_y, display, white_space, content, unknown}
-use Rattle.syntax.specs.Layout.{overflow_number, white_space_number, colour_number}
+use Rattle.syntax.specs.Layout.{colour_number}
 use Rattle.values.specs.Words.{on_found, row_at}
 use Rattle.values.specs.Property.{properties}
+use Rattle.values.specs.KeywordAnswer.{overflow_word, white_space_word}
 use Rattle.values.specs.declared.properties.Decl as declared
 use Rattle.values.specs.declared.properties.Decl.TheVariants as code
 use Rattle.values.specs.declared.properties.Property.{Property}
@@ -15,10 +16,10 @@ decl_answer (color c) = code.Color (colour_number c)
 decl_answer (background_color c) = code.BackgroundColor (colour_number c)
 decl_answer (height z) = code.Height z
 decl_answer (max_height z) = code.MaxHeight z
-decl_answer (overflow o) = code.Overflow (overflow_number o)
-decl_answer (overflow_y o) = code.OverflowY (overflow_number o)
+decl_answer (overflow o) = code.Overflow (overflow_word o)
+decl_answer (overflow_y o) = code.OverflowY (overflow_word o)
 decl_answer (display n) = code.Display n
-decl_answer (white_space w) = code.WhiteSpace (white_space_number w)
+decl_answer (white_space w) = code.WhiteSpace (white_space_word w)
 decl_answer (content t) = code.Content (length t)
 decl_answer (unknown t) = code.Unknown (length t)
 

@@ -6,8 +6,6 @@ use Rattle.combinators.specs.Choice.{pick, and, is}
 use Rattle.combinators.specs.declared.lent.Stores.{Stores}
 use Rattle.lexer.specs.Token.{function, number, close_round, coded, text_of}
 use Rattle.lexer.specs.TokenRow.{token_width, function_kind, number_kind, close_round_kind, columns_of, word, row_of, token_row}
-use Rattle.lexer.specs.declared.tokens.Token as lexer
-use Rattle.lexer.specs.declared.tokens.Token.TheVariants as code
 use Rattle.syntax.specs.Stream.{rows_many, texts_many}
 use Rattle.values.specs.Value.{Placed, Bracket, opens, closes, ends, none, bracket_by, bracket_of, Step, next, before, behind, wrong, step_of, Statement, tokens_of, is_important}
 use Rattle.values.specs.declared.statements.Bracket as declared-bracket
@@ -18,29 +16,7 @@ use Rattle.values.specs.declared.statements.Statement as declared-statement
 use Rattle.values.specs.declared.statements.Unbalanced.{Unbalanced}
 use Rattle.values.specs.declared.statements.Value as declared-value
 
--- ---- a token as the code has it: the bytes of its texts
-unfoldable pub length_by : lexer.Token → ℕ
-length_by (code.Ident n) = n
-length_by (code.Function n) = n
-length_by (code.Hash n) = n
-length_by (code.String n) = n
-length_by (code.BadString n) = n
-length_by (code.Delim c) = 0
-length_by (code.Number n) = n
-length_by (code.Dimension n m) = n + m
-length_by (code.Percentage n) = n
-length_by code.CDO = 0
-length_by code.CDC = 0
-length_by code.Colon = 0
-length_by code.Semicolon = 0
-length_by code.Comma = 0
-length_by code.OpenSquare = 0
-length_by code.CloseSquare = 0
-length_by code.OpenRound = 0
-length_by code.CloseRound = 0
-length_by code.OpenBrace = 0
-length_by code.CloseBrace = 0
-
+-- ---- what a token does to the brackets, as the code has it
 unfoldable pub meant : declared-bracket.Bracket → Bracket
 meant (Opens c) = opens c
 meant (Closes c) = closes c
@@ -118,7 +94,7 @@ unfoldable pub statement_answer : Statement → Result declared-statement.Statem
 statement_answer r =
     pick r.balanced
     (Ok (record { taken = r.taken; count = length r.tokens; text = length (texts_of r.tokens) }))
-    (Err (record { taken = r.taken; count = length r.tokens; text = length (texts_of r.tokens) }))
+    (Err (record { 0 = record { taken = r.taken; count = length r.tokens; text = length (texts_of r.tokens) } }))
 
 -- the answer, and the three stores
 pub record Left : Type 0 where
@@ -144,8 +120,12 @@ left r rows brackets store fill =
 unfoldable pub value_answer : Statement → Result declared-value.Value Unbalanced
 value_answer r =
     pick r.balanced
-    (Ok (record { taken = r.taken; count = length r.tokens; text = length (texts_of r.tokens); important = is_important (tokens_of r.tokens) }))
-    (Err (record { taken = r.taken; count = length r.tokens; text = length (texts_of r.tokens) }))
+    (Ok (record { statement = record { taken = r.taken; count = length r.tokens; text = length (texts_of r.tokens) }; important = is_important (tokens_of r.tokens) }))
+    (Err (record { 0 = record { taken = r.taken; count = length r.tokens; text = length (texts_of r.tokens) } }))
+
+-- how many tokens a value has without the two of its mark
+abbrev pub unmarked : declared-value.Value → ℕ
+unmarked v = pick v.important (v.statement.count - 2) v.statement.count
 
 pub record ValueLeft : Type 0 where
   pub answer : Result declared-value.Value Unbalanced
@@ -191,15 +171,15 @@ pub record Room (n fill : ℕ) (tokens brackets store : List ℕ) : Type 0 where
 -- the numbers of an answer
 unfoldable pub taken_by : Result declared-statement.Statement Unbalanced → ℕ
 taken_by (Ok r) = r.taken
-taken_by (Err r) = r.taken
+taken_by (Err r) = r.0.taken
 
 unfoldable pub count_by : Result declared-statement.Statement Unbalanced → ℕ
 count_by (Ok r) = r.count
-count_by (Err r) = r.count
+count_by (Err r) = r.0.count
 
 unfoldable pub text_by : Result declared-statement.Statement Unbalanced → ℕ
 text_by (Ok r) = r.text
-text_by (Err r) = r.text
+text_by (Err r) = r.0.text
 
 -- how many bytes longer the texts of n bytes can be: two where they end the text with a backslash
 unfoldable pub slack : List ℕ → ℕ → ℕ

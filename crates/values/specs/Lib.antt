@@ -5,6 +5,7 @@ pub mod View
 pub mod Colour
 pub mod ColourAnswer
 pub mod Property
+pub mod KeywordAnswer
 pub mod ValueAnswer
 pub mod DeclAnswer
 pub mod ColourRows

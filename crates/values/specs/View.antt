@@ -1,5 +1,5 @@
 -- Tokens read back from their rows, with their texts cut from the store.
-use Rattle.std.specs.Prelude.{ℕ, ◌+◌, ◌*◌, ◌≤◌, List, [], ◌∷◌, ◌≡◌, refl, length, get_or, drop}
+use Rattle.std.specs.Prelude.{ℕ, ◌+◌, ◌/◌, List, [], ◌∷◌, ◌≡◌, refl, length, get_or, drop}
 use Rattle.combinators.specs.Choice.{pick, is}
 use Rattle.combinators.specs.Part.{part}
 use Rattle.lexer.specs.Token.{Token, ident, function, hash, string, bad_string, delim, number, dimension, percentage, cdo, cdc, colon, semicolon, comma, open_square, close_square, open_round, close_round, open_brace, close_brace}
@@ -50,9 +50,9 @@ second_text rows store p = part store (get_or rows (p + start_column) 0 + get_or
 unfoldable pub tokens_at : List ℕ → List ℕ → ℕ → List Token
 tokens_at rows store n = (read_many (read_token store) n rows).value
 
--- rows that hold n tokens
-pub record Counted (rows : List ℕ) (n : ℕ) : Type 0 where
-  pub inside : token_width * n ≤ length rows
+-- how many tokens rows hold, which are cut to whole rows
+unfoldable pub token_count : List ℕ → ℕ
+token_count rows = length rows / token_width
 
 -- the two tokens of "7px/", whose texts lie behind the byte 9
 case : tokens_at (dimension_kind ∷ 0 ∷ 1 ∷ 1 ∷ 2 ∷ delim_kind ∷ 3 ∷ 4 ∷ 0x2f ∷ 0 ∷ 1 ∷ []) (9 ∷ 0x37 ∷ 0x70 ∷ 0x78 ∷ 9 ∷ []) 2

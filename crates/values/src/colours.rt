@@ -30,14 +30,15 @@ const COLOURS: [(&str, u32); 17] = [
     ("yellow", 0xffff00),
 ];
 
-// Bases and limits of numbers; they number no kinds.
+// Bases of numbers; they number no kinds.
 pub const DECIMAL: u32 = 10;
 
 const HEXADECIMAL: u32 = 16;
 
-pub const MAXIMUM_BYTE: u32 = 255;
+// The digits of a colour behind '#': one for each of red, green and blue, or two.
+const SHORT_DIGITS: usize = 3;
 
-const MAXIMUM_U32: u32 = 0xffffffff;
+const LONG_DIGITS: usize = 6;
 
 // The colour that the name `s` stands for.
 pub fn named_colour(s: &[u8]) -> Option<u32>
@@ -60,16 +61,15 @@ pub fn digits_in(t: &[u8], base: u32, most: u32) -> Option<u32>
     if t.is_empty() {
         return None;
     }
-    let mut value = 0;
+    let mut value: u32 = 0;
     for b in t {
         if !is_digit_in(base, *b) {
             return None;
         }
-        let more = u64::from(value) * u64::from(base) + u64::from(hex_digit_of(*b));
-        if more > u64::from(most) {
+        value = value.checked_mul(base)?.checked_add(hex_digit_of(*b))?;
+        if value > most {
             return None;
         }
-        value = more as u32;
     }
     Some(value)
 }
@@ -81,11 +81,19 @@ fn parse_in(s: &[u8], base: u32, most: u32) -> Option<u32>
     digits_in(s.strip_prefix(b"+").unwrap_or(s), base, most)
 }
 
-// A decimal number up to 255.
-fn parse_u8(s: &[u8]) -> Option<u32>
+// The same up to 255.
+fn byte_in(s: &[u8], base: u32) -> Option<u8>
+    ensures { result ≡ number_answer (digits_in (is_digit_in base) base hex_digit 255 (without_plus s.now)) }
+{
+    let number = parse_in(s, base, u8::MAX as u32)?;
+    Some(number as u8)
+}
+
+// A decimal number up to 255. This and the next two are `byte_in` and `parse_in` in one base each, by the names of the definitions.
+fn parse_u8(s: &[u8]) -> Option<u8>
     ensures { result ≡ number_answer (parse_u8 s.now) }
 {
-    parse_in(s, DECIMAL, MAXIMUM_BYTE)
+    byte_in(s, DECIMAL)
 }
 
 // A hexadecimal number up to `most`.
@@ -93,6 +101,13 @@ pub fn parse_hex(s: &[u8], most: u32) -> Option<u32>
     ensures { result ≡ number_answer (parse_hex most s.now) }
 {
     parse_in(s, HEXADECIMAL, most)
+}
+
+// A hexadecimal number up to 255.
+pub fn parse_hex_u8(s: &[u8]) -> Option<u8>
+    ensures { result ≡ number_answer (parse_hex 255 s.now) }
+{
+    byte_in(s, HEXADECIMAL)
 }
 
 // The colour as one number.
@@ -116,20 +131,18 @@ fn three_digits(v: u32) -> u32
 fn six_digits(v: u32) -> u32
     ensures { result ≡ colour_number (six_digits v) }
 {
-    let red = (v / 65536 % 256) as u8;
-    let green = (v / 256 % 256) as u8;
-    let blue = (v % 256) as u8;
+    let [_, red, green, blue] = v.to_be_bytes();
     colour_number(red, green, blue)
 }
 
-// The colour whose 3 or 6 hex digits stand behind '#'. A '+' may stand in place of the first.
+// The colour whose hex digits stand behind '#'. A '+' may stand in place of the first.
 pub fn hash_colour(s: &[u8]) -> Option<u32>
     ensures { result ≡ colour_answer (hash_colour s.now) }
 {
-    let v = parse_hex(s, MAXIMUM_U32)?;
+    let v = parse_hex(s, u32::MAX)?;
     match s.len() {
-        3 => Some(three_digits(v)),
-        6 => Some(six_digits(v)),
+        SHORT_DIGITS => Some(three_digits(v)),
+        LONG_DIGITS => Some(six_digits(v)),
         _ => None,
     }
 }
@@ -141,5 +154,5 @@ pub fn rgb_colour(red: &[u8], green: &[u8], blue: &[u8]) -> Option<u32>
     let red = parse_u8(red)?;
     let green = parse_u8(green)?;
     let blue = parse_u8(blue)?;
-    Some(colour_number(red as u8, green as u8, blue as u8))
+    Some(colour_number(red, green, blue))
 }

@@ -6,9 +6,8 @@ ghost use Rattle.values.specs.View.{first_text, second_text};
 ghost use Rattle.values.specs.Tokens.{value_tokens};
 ghost use Rattle.values.specs.ValueAnswer.{height_answer};
 
-use crate::tokens::{Tokens, is_kind, place_at, text_at};
+use crate::tokens::Tokens;
 use crate::words::any_of;
-use combinators::stores::number_at;
 use combinators::texts::part_of;
 use decimal::rounds_to_zero;
 use lexer::numbers::{parse_integer, parse_sign};
@@ -41,17 +40,15 @@ fn number_is_zero(n: &[u8]) -> bool
 fn token_is_zero(tokens: Tokens) -> bool
     ensures { result ≡ number_zero (first_text tokens.entry.rows.now tokens.entry.store.now 0) }
 {
-    number_is_zero(text_at(tokens.rows, 0, tokens.store))
+    number_is_zero(tokens.text(0))
 }
 
 // Whether the unit of the first token, a dimension, is one of a length's. It lies behind the number.
 fn has_unit(tokens: Tokens) -> bool
     ensures { result ≡ any_of (second_text tokens.entry.rows.now tokens.entry.store.now 0) units }
 {
-    let Tokens { rows, store, .. } = tokens;
-    let start = number_at(rows, 0, TOKEN_START) as usize;
-    let first = number_at(rows, 0, TOKEN_FIRST) as usize;
-    let unit = part_of(store, start + first, place_at(rows, 0, TOKEN_SECOND));
+    let start = tokens.place(0, TOKEN_START) + tokens.place(0, TOKEN_FIRST);
+    let unit = part_of(tokens.store, start, tokens.place(0, TOKEN_SECOND));
     any_of(unit, &UNITS)
 }
 
@@ -59,11 +56,11 @@ fn has_unit(tokens: Tokens) -> bool
 pub fn parse_height(tokens: Tokens) -> Option<bool>
     ensures { result ≡ height_answer (height_of (value_tokens tokens.entry)) }
 {
-    if tokens.count != 1 {
+    if tokens.count() != 1 {
         None
-    } else if is_kind(tokens.rows, 0, DIMENSION) {
+    } else if tokens.is_kind(0, DIMENSION) {
         has_unit(tokens).then_some(token_is_zero(tokens))
-    } else if is_kind(tokens.rows, 0, NUMBER) {
+    } else if tokens.is_kind(0, NUMBER) {
         token_is_zero(tokens).then_some(true)
     } else {
         None

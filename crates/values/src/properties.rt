@@ -9,7 +9,7 @@ ghost use Rattle.values.specs.declared.properties.Decl.TheVariants.{Unknown};
 use crate::colour_values::{parse_background_color, parse_color};
 use crate::contents::parse_content;
 use crate::heights::parse_height;
-use crate::keywords::{parse_display, parse_overflow, parse_white_space};
+use crate::keywords::{Overflow, WhiteSpace, parse_display, parse_overflow, parse_white_space};
 use crate::tokens::Tokens;
 use crate::words::lookup;
 
@@ -21,10 +21,10 @@ pub enum Decl {
     BackgroundColor(u32),
     Height(bool),
     MaxHeight(bool),
-    Overflow(u32),
-    OverflowY(u32),
+    Overflow(Overflow),
+    OverflowY(Overflow),
     Display(bool),
-    WhiteSpace(u32),
+    WhiteSpace(WhiteSpace),
     Content(usize),
     Unknown(usize),
 }
@@ -71,9 +71,10 @@ const PROPERTIES: [(&str, Property); 10] = [
     ("content", Property::Content),
 ];
 
-// The declaration of a known property with the value of these tokens, where it reads the value.
+// The declaration of a known property with the value of these tokens, where it reads the value. No table of readers: they answer three types, and
+// two of them always read.
 fn decl_at(property: Property, tokens: Tokens) -> Option<Decl>
-    requires { ContentRoom tokens.rows.now tokens.store.now tokens.count }
+    requires { ContentRoom (value_tokens tokens) }
     ensures { (name : List ℕ) → unwrap_or result (Unknown (length name))
         ≡ decl_answer (decl_at (place_of property) name (value_tokens tokens.entry)) }
 {
@@ -93,7 +94,7 @@ fn decl_at(property: Property, tokens: Tokens) -> Option<Decl>
 
 // The declaration of the property `name` with the value of these tokens.
 pub fn decl_of(name: &[u8], tokens: Tokens) -> Decl
-    requires { ContentRoom tokens.rows.now tokens.store.now tokens.count }
+    requires { ContentRoom (value_tokens tokens) }
     ensures { result ≡ decl_answer (decl_of name.now (value_tokens tokens.entry)) }
 {
     let unknown = Decl::Unknown(name.len());

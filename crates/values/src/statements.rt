@@ -1,13 +1,16 @@
 // Statements: tokens read to the end of a statement, into rows and a store of texts. `fill` stands beside the stores: only texts go on behind others.
-ghost use Rattle.std.specs.Prelude.{◌≡◌, false, ◌-◌, ◌^◌, ◌≤◌, ◌<◌, length};
+ghost use Rattle.std.specs.Prelude.{◌≡◌, false, ◌-◌, ◌*◌, ◌^◌, ◌≤◌, ◌<◌, length};
 ghost use Rattle.combinators.specs.Lent.{SameStores};
 ghost use Rattle.values.specs.Value.{is_important, bracket_by, closing, statement_of};
-ghost use Rattle.values.specs.Layout.{length_by, meant, awaited, step_to, deep, ending_by, Moved, Room, left, leaving, Bounds, value_left, leaving_value};
+ghost use Rattle.lexer.specs.Token.{length_by};
+ghost use Rattle.lexer.specs.TokenRow.{token_width};
+ghost use Rattle.values.specs.Layout.{meant, awaited, step_to, deep, ending_by, Moved, Room, left, leaving, Bounds, unmarked, value_left, leaving_value};
+ghost use Rattle.values.specs.View.{tokens_at};
 ghost use Rattle.values.specs.Tokens.{value_tokens};
 
-use crate::tokens::{Tokens, is_delim, is_word};
+use crate::tokens::Tokens;
 use combinators::lent::Stores;
-use lexer::rows::{TOKEN_WIDTH, put_token};
+use lexer::rows::put_token;
 use lexer::tokens::{Lexed, Token, parse_token};
 
 // The bytes taken, the tokens and the bytes of text of a statement.
@@ -18,21 +21,40 @@ pub struct Statement {
     pub text: usize,
 }
 
-// The same of what stands before a closing bracket that is wrong.
+// What stands before a closing bracket that is wrong.
 #[derive(Clone, Copy)]
-pub struct Unbalanced {
-    pub taken: usize,
-    pub count: usize,
-    pub text: usize,
-}
+pub struct Unbalanced(pub Statement);
 
-// A value: the bytes taken, its tokens and their bytes of text, and whether it ends in the mark `!important`.
+// A value: its statement, and whether that ends in the mark `!important`.
 #[derive(Clone, Copy)]
 pub struct Value {
-    pub taken: usize,
-    pub count: usize,
-    pub text: usize,
+    pub statement: Statement,
     pub important: bool,
+}
+
+// The tokens of the mark: an exclamation mark, and the name.
+const MARK_TOKENS: usize = 2;
+
+impl Value {
+    // How many tokens it has without the mark.
+    #[tactic(auto, unfolding(combinators::specs::Choice::pick))]
+    fn count(self) -> usize
+        ensures { result ≡ unmarked self }
+    {
+        if self.important {
+            self.statement.count.saturating_sub(MARK_TOKENS)
+        } else {
+            self.statement.count
+        }
+    }
+
+    // Its tokens without the mark, from the rows and the store that it was read into.
+    pub fn tokens<'a>(self, rows: &'a [u32], store: &'a [u8]) -> Tokens<'a>
+        requires { token_width * unmarked self ≤ length rows.now }
+        ensures { value_tokens result ≡ tokens_at rows.now store.now (unmarked self) }
+    {
+        Tokens::first(rows, self.count(), store)
+    }
 }
 
 // What a token does to the brackets, by the byte that is awaited.
@@ -51,25 +73,6 @@ pub enum Step {
     Before,
     Behind,
     Wrong,
-}
-
-// The bytes of a token's texts.
-#[tactic(auto, unfolding(crate::specs::Layout::length_by))]
-fn text_length(k: Token) -> usize
-    requires { length_by k < 2 ^ 64 }
-    ensures { result ≡ length_by k }
-{
-    match k {
-        Token::Ident(n)
-        | Token::Function(n)
-        | Token::Hash(n)
-        | Token::String(n)
-        | Token::BadString(n)
-        | Token::Number(n)
-        | Token::Percentage(n) => n,
-        Token::Dimension(n, m) => n + m,
-        _ => 0,
-    }
 }
 
 #[tactic(auto, unfolding(crate::specs::Layout::meant, crate::specs::Value::bracket_by))]
@@ -168,10 +171,10 @@ pub fn parse_to_end_of_statement(
     ) {
         let byte = taken + start;
         let at = fill + text;
-        let length = text_length(token);
+        let length = token.text_length();
         match step_at(token, include_semicolon, stores.brackets, depth) {
-            Step::Before => return Ok(Statement { taken, count, text }),
-            Step::Wrong => return Err(Unbalanced { taken, count, text }),
+            Step::Before => break,
+            Step::Wrong => return Err(Unbalanced(Statement { taken, count, text })),
             Step::Behind => {
                 put_token(token, byte, at, stores.tokens, place);
                 return Ok(Statement {
@@ -196,10 +199,10 @@ pub fn parse_to_end_of_statement(
 fn is_important(tokens: Tokens) -> bool
     ensures { result ≡ is_important (value_tokens tokens.entry) }
 {
-    let Tokens { rows, count, store } = tokens;
-    count >= 2
-        && is_delim(rows, (count - 2) * TOKEN_WIDTH, b'!')
-        && is_word(rows, (count - 1) * TOKEN_WIDTH, store, "important")
+    let count = tokens.count();
+    count >= MARK_TOKENS
+        && tokens.is_delim(count - MARK_TOKENS, b'!')
+        && tokens.is_word(count - 1, "important")
 }
 
 // Reads a value, and leaves its tokens and texts as `parse_to_end_of_statement` does.
@@ -210,14 +213,12 @@ pub fn parse_value(s: &[u8], stores: &mut Stores<'_>, fill: usize) -> Result<Val
     ensures work_after { leaving_value result stores.new
         ≡ value_left (statement_of false s.now) stores.old.tokens.now stores.old.brackets.now stores.old.texts.now fill }
 {
-    let Statement { taken, count, text } = parse_to_end_of_statement(s, false, stores, fill)?;
-    let rows = &mut *stores.tokens;
-    let store = &mut *stores.texts;
-    let important = is_important(Tokens { rows, count, store });
+    let statement = parse_to_end_of_statement(s, false, stores, fill)?;
+    let tokens = &mut *stores.tokens;
+    let texts = &mut *stores.texts;
+    let important = is_important(Tokens::first(tokens, statement.count, texts));
     Ok(Value {
-        taken,
-        count,
-        text,
+        statement,
         important,
     })
 }

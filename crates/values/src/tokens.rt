@@ -1,58 +1,89 @@
 // What token rows say.
-ghost use Rattle.std.specs.Prelude.{◌≡◌, ◌+◌, List, ℕ, get_or};
+ghost use Rattle.std.specs.Prelude.{◌≡◌, ◌+◌, ◌*◌, ◌^◌, ◌<◌, ◌≤◌, List, ℕ, length, get_or};
 ghost use Rattle.combinators.specs.Choice.{is};
-ghost use Rattle.lexer.specs.TokenRow.{kind_column};
+ghost use Rattle.lexer.specs.TokenRow.{token_width, kind_column};
 ghost use Rattle.values.specs.Words.{is_delim, is_word};
-ghost use Rattle.values.specs.View.{token_here, first_text, Counted};
+ghost use Rattle.values.specs.View.{token_here, tokens_at, first_text, token_count};
+ghost use Rattle.values.specs.Tokens.{value_tokens};
 
 use combinators::stores::number_at;
 use combinators::texts::part_of;
-use lexer::rows::{DELIM, IDENT, TOKEN_FIRST, TOKEN_KIND, TOKEN_START};
+use lexer::rows::{DELIM, IDENT, TOKEN_FIRST, TOKEN_KIND, TOKEN_START, TOKEN_WIDTH};
 
-// The tokens of a value: the first `count` of the rows, and the store of their texts.
+// The tokens of a value: their rows, and the store of their texts. What stands behind the last whole row is no token. Numbers and no rows of five:
+// the definitions read a list of numbers, from any place in it.
 #[derive(Clone, Copy)]
 pub struct Tokens<'a> {
     pub rows: &'a [u32],
-    pub count: usize,
     pub store: &'a [u8],
-    pub ghost counted: { Counted rows.now count },
 }
 
-// Whether the token whose row starts at `at` is of a kind.
-pub fn is_kind(rows: &[u32], at: usize, kind: u32) -> bool
-    ensures { result ≡ is (get_or rows.now (at + kind_column) 0) kind }
-{
-    number_at(rows, at, TOKEN_KIND) == kind
-}
+// A token is told by its number. Behind the rows all numbers are 0.
+impl<'a> Tokens<'a> {
+    // The first `count` tokens of lent rows, which go on behind them.
+    pub fn first(rows: &'a [u32], count: usize, store: &'a [u8]) -> Tokens<'a>
+        requires { token_width * count ≤ length rows.now }
+        ensures { value_tokens result ≡ tokens_at rows.now store.now count }
+    {
+        Tokens {
+            rows: &rows[..TOKEN_WIDTH * count],
+            store,
+        }
+    }
 
-// The number in a column of the row that starts at `at`.
-pub fn place_at(rows: &[u32], at: usize, column: usize) -> usize
-    ensures { result ≡ get_or rows.now (at + column) 0 }
-{
-    number_at(rows, at, column) as usize
-}
+    // How many there are.
+    #[tactic(auto, unfolding(crate::specs::View::token_count))]
+    pub fn count(self) -> usize
+        ensures { result ≡ token_count self.entry.rows.now }
+    {
+        self.rows.len() / TOKEN_WIDTH
+    }
 
-// The text that the row at `at` names.
-pub fn text_at<'a>(rows: &[u32], at: usize, store: &'a [u8]) -> &'a [u8]
-    ensures { result.now ≡ first_text rows.now store.now at }
-{
-    part_of(
-        store,
-        place_at(rows, at, TOKEN_START),
-        place_at(rows, at, TOKEN_FIRST),
-    )
-}
+    // The number in a column of a token's row.
+    fn number(self, i: usize, column: usize) -> u32
+        ensures { result ≡ get_or self.entry.rows.now (i * token_width + column) 0 }
+    {
+        number_at(self.rows, i.saturating_mul(TOKEN_WIDTH), column)
+    }
 
-// Whether the token whose row starts at `at` is the delimiter `byte`.
-pub fn is_delim(rows: &[u32], at: usize, byte: u8) -> bool
-    ensures { (store : List ℕ) → result ≡ is_delim byte (token_here rows.now store at) }
-{
-    is_kind(rows, at, DELIM) && place_at(rows, at, TOKEN_FIRST) == usize::from(byte)
-}
+    // The same as a place or a length.
+    pub fn place(self, i: usize, column: usize) -> usize
+        ensures value { result ≡ get_or self.entry.rows.now (i * token_width + column) 0 }
+        ensures upper_bound { result < 2 ^ 32 }
+    {
+        self.number(i, column) as usize
+    }
 
-// Whether the token whose row starts at `at` is the name `word`.
-pub fn is_word(rows: &[u32], at: usize, store: &[u8], word: &str) -> bool
-    ensures { result ≡ is_word word.now (token_here rows.now store.now at) }
-{
-    is_kind(rows, at, IDENT) && text_at(rows, at, store) == word.as_bytes()
+    // Whether a token is of a kind.
+    #[tactic(auto, unfolding(combinators::specs::Choice::is))]
+    pub fn is_kind(self, i: usize, kind: u32) -> bool
+        ensures { result ≡ is (get_or self.entry.rows.now (i * token_width + kind_column) 0) kind }
+    {
+        self.number(i, TOKEN_KIND) == kind
+    }
+
+    // The text of a token.
+    pub fn text(self, i: usize) -> &'a [u8]
+        ensures { result.now ≡ first_text self.entry.rows.now self.entry.store.now (i * token_width) }
+    {
+        part_of(
+            self.store,
+            self.place(i, TOKEN_START),
+            self.place(i, TOKEN_FIRST),
+        )
+    }
+
+    // Whether a token is the delimiter `byte`.
+    pub fn is_delim(self, i: usize, byte: u8) -> bool
+        ensures { (store : List ℕ) → result ≡ is_delim byte (token_here self.entry.rows.now store (i * token_width)) }
+    {
+        self.is_kind(i, DELIM) && self.place(i, TOKEN_FIRST) == usize::from(byte)
+    }
+
+    // Whether a token is the name `word`.
+    pub fn is_word(self, i: usize, word: &str) -> bool
+        ensures { result ≡ is_word word.now (token_here self.entry.rows.now self.entry.store.now (i * token_width)) }
+    {
+        self.is_kind(i, IDENT) && self.text(i) == word.as_bytes()
+    }
 }

@@ -12,7 +12,8 @@ use Rattle.compiled.specs.Component.{component_at}
 use Rattle.compiled.specs.Decoded.{read, on_decoded, counted}
 use Rattle.compiled.specs.Number.{number_at}
 use Rattle.compiled.specs.Sheet.{CompiledSelector, head_at, selector_at, decode}
-use Rattle.std.proofs.Common.{Result, Ok, Err}
+use Rattle.std.specs.Option.{IfSome, unwrap_or}
+use Rattle.std.proofs.Common.{Option, Some, None, Result, Ok, Err}
 use Rattle.compiled.specs.declared.places.Fault.{Fault}
 use Rattle.compiled.specs.declared.places.Read.{Read}
 use Rattle.compiled.specs.declared.sheets.Head.{Head}
@@ -60,20 +61,20 @@ abbrev pub Finding : List ℕ → ℕ → ℕ → ℕ → ℕ → Type 0
 Finding code count at left i = first_styled code left i ≡ first_styled code count at
 
 module _ (code : List ℕ) (count at left i : ℕ) (v : Finding code count at left i) where
-  -- what is answered: the place of the first selector that has a style, which is within the bytes
-  abbrev Found : ℕ → Type 0
-  Found p = (p ≡ styled_from code count at) × (p ≤ length code)
+  -- what is answered: the place of the first selector that has a style, which is within the bytes, or none
+  abbrev Found : Option ℕ → Type 0
+  Found o = (unwrap_or o no_place ≡ styled_from code count at) × IfSome o (λ p. p ≤ length code)
 
   -- of what the walk finds that reads no styles
-  found_as : SelectorsRead code count at → (p : ℕ) → p ≡ first_styled code left i → p ≤ length code → Found p
-  found_as s p e l = (e ∙ v ∙ first-styled code count s.least at s.end s.selectors s.origin s.told, l)
+  found_as : SelectorsRead code count at → (o : Option ℕ) → unwrap_or o no_place ≡ first_styled code left i → IfSome o (λ p. p ≤ length code) → Found o
+  found_as s o e l = (e ∙ v ∙ first-styled code count s.least at s.end s.selectors s.origin s.told, l)
 
   -- where no selector is left, the answer is no place
-  pub find-end : SelectorsRead code count at → left ≤ 0 → Found no_place
+  pub find-end : SelectorsRead code count at → left ≤ 0 → Found None
   find-end s h =
       let d : 0 ≡ left = omega arith in
       let e : no_place ≡ first_styled code 0 i = unfold first_styled in refl in
-      found_as s no_place (e ∙ ap (λ (k : ℕ). first_styled code k i) d) (omega arith)
+      found_as s None (e ∙ ap (λ (k : ℕ). first_styled code k i) d) tt
 
   module _ (h : 0 < left) (r : Result (Read ℕ) Fault) (er : r ≡ read_answer (style_count_at code i)) where
     -- the first of those that are left is by the styles of this one: it, or the first behind it
@@ -85,11 +86,11 @@ module _ (code : List ℕ) (count at left i : ℕ) (v : Finding code count at le
         e ∙ ap (λ (k : ℕ). first_styled code k i) d
 
     -- where no count of styles reads, the answer is no place
-    pub find-fault : SelectorsRead code count at → (f : Fault) → r ≡ Err f → Found no_place
+    pub find-fault : SelectorsRead code count at → (f : Fault) → r ≡ Err f → Found None
     find-fault s f q =
         let e : no_place ≡ on_decoded (style_count_at code i) (λ n styles. pick (is styles 0) (first_styled code (left - 1) n) i) (λ _. no_place) =
         unfold on_decoded in rw (answer-fault (style_count_at code i) r er f q) in
-        found_as s no_place (e ∙ find-step) (omega arith)
+        found_as s None (e ∙ find-step) tt
 
     module _ (x : Read ℕ) (q : r ≡ Ok x) where
       -- it has so many styles
@@ -101,13 +102,13 @@ module _ (code : List ℕ) (count at left i : ℕ) (v : Finding code count at le
           e ∙ find-step
 
       -- a selector of one style or more is the first
-      pub find-styled : SelectorsRead code count at → 0 < x.value → Found i
+      pub find-styled : SelectorsRead code count at → 0 < x.value → Found (Some i)
       find-styled s p =
           let e : i ≡ pick (is x.value 0) (first_styled code (left - 1) x.next) i = unfold pick in rw (is-no x.value 0 (λ z. omega arith)) in
           let l = reaches_end (length code) i 4 x.next x.value (style_count_at code i) (count-reaches code i) (answer_read (style_count_at code i) r er x q) in
           let a = l.0 in
           let b = l.1 in
-          found_as s i (e ∙ find-count) (omega arith)
+          found_as s (Some i) (e ∙ find-count) (omega arith)
 
       -- none: the next one stands behind their count
       pub find-bare : x.value ≤ 0 → Finding code count at (left - 1) x.next

@@ -13,6 +13,7 @@ use Rattle.syntax.specs.Style.{agent_origin}
 use Rattle.compiled.specs.Answer.{read_answer, selector_answer}
 use Rattle.compiled.specs.Decoded.{Decoded, read, on_decoded}
 use Rattle.compiled.specs.Sheet.{compiled_limit, CompiledSelector, selector_at}
+use Rattle.std.specs.Prelude.{MatchResult}
 use Rattle.std.proofs.Common.{Result, Ok, Err}
 use Rattle.compiled.specs.declared.places.Fault.{Fault}
 use Rattle.compiled.specs.declared.places.Read.{Read}
@@ -41,6 +42,14 @@ module _ (code : List ℕ) (at : ℕ) (r : Result (Read ℕ) Fault) (er : r ≡ 
   pub styled-fault : (f : Fault) → r ≡ Err f → false ≡ has_style_at code at
   unfolding has_style_at on_decoded
   styled-fault f q = rw (answer-fault (style_count_at code at) r er f q)
+
+  -- so it is by whichever was told
+  pub styled-told : (b : Bool) (P : Read ℕ → Type 0) → ((x : Read ℕ) → P x → b ≡ ltb 0 x.value) → MatchResult r P (λ _. b ≡ false) → b ≡ has_style_at code at
+  styled-told b P told m = go r refl m
+    where
+      go : (q : Result (Read ℕ) Fault) → r ≡ q → MatchResult q P (λ _. b ≡ false) → b ≡ has_style_at code at
+      go (Ok x) q t = told x t ∙ styled-count x q
+      go (Err f) q t = t ∙ styled-fault f q
 
 -- ---- the returns of `put_styled`
 module _ (code s₀ : List ℕ) (p behind left : ℕ) (b : Bool) (eb : b ≡ has_style_at code p) where

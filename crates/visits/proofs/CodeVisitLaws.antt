@@ -4,13 +4,15 @@ use mathlib.Core.Path.{◌≡◌, refl, sym, ap, ◌∙◌}
 use mathlib.Core.Bool.{Bool, true, false}
 use mathlib.Core.List.{List, [], ◌∷◌, ◌++◌}
 use native.Mathlib.Omega.{arith}
-use lib.ListN.{length, get_or, replicate, length-replicate}
-use lib.Seq.{sets}
+use borrow.Rule.Slice.PartMut.{put_mid}
+use lib.ListN.{length, get_or, take, drop, replicate, length-replicate, length-drop}
+use lib.Seq.{sets, length-take-le}
 use Rattle.combinators.specs.Choice.{pick, is}
 use Rattle.syntax.specs.Layout.{flag, flag_of}
 use Rattle.syntax.specs.Style.{agent_origin}
 use Rattle.combinators.proofs.Rules.{never, is-yes, is-no}
 use Rattle.combinators.proofs.Wiped.{sets-append}
+use Rattle.cascade.proofs.Windows.{part-sets}
 use Rattle.page.specs.Path.{Path}
 use Rattle.compiled.specs.Answer.{read_answer}
 use Rattle.compiled.specs.Decoded.{Decoded, read, fault, on_decoded}
@@ -24,9 +26,9 @@ use Rattle.segments.specs.Sweep.{pair_at, pair_bytes, tests_pass, with_tests, ma
 use Rattle.segments.specs.Before.{Segment, beginning, segment_before, fresh_bytes}
 use Rattle.segments.specs.Visits.{to_next, to_awaited, to_flags, block_bytes, Visited, awaits, ended_by, ended_at, decided, visit_at}
 use Rattle.segments.specs.Pass.{block_set}
-use Rattle.segments.specs.Parts.{pair_limit}
 use Rattle.sweeps.specs.Swept.{swept_mark, swept_one, swept_behind}
 use Rattle.visits.specs.Visiting.{to_tests, behind_first, swept_visit, next_awaited, awaited_visit}
+use Rattle.sweeps.specs.declared.sweeping.Behind.TheVariants.{Leftmost, Others}
 use Rattle.sweeps.specs.declared.sweeping.Swept.{Swept}
 use Rattle.visits.specs.declared.visiting.Awaited.{Awaited}
 use Rattle.visits.specs.declared.visiting.Awaited.TheVariants as segment
@@ -47,6 +49,13 @@ module _ (s₀ s₁ s₂ : List ℕ) (p next awaited : ℕ) where
   block-stored flags e f = let a : p + to_flags ≡ suc (suc (suc (suc (p + to_next)))) = omega arith in f ∙ rw (e, a)
 
 -- ---- the return of `put_marked`
+-- zeros over a part that is there
+pub zeros-stored : (s : List ℕ) (at n : ℕ) → at + n ≤ length s → (zs : List ℕ) → zs ≡ replicate (length (take (at + n - at) (drop at s))) 0 → put_mid at (at + n - at) s zs ≡ sets s at (replicate n 0)
+zeros-stored s at n h zs e =
+    let d : at + n - at ≡ n = omega arith in
+    let k : length (take (at + n - at) (drop at s)) ≡ n = ap (λ (m : ℕ). length (take m (drop at s))) d ∙ length-take-le n (drop at s) (omega (arith, h, length-drop at s)) in
+    ap (λ (m : ℕ). put_mid at m s zs) d ∙ ap (put_mid at n s) (e ∙ ap (λ (m : ℕ). replicate m 0) k) ∙ part-sets s at n h (replicate n 0) (length-replicate n 0)
+
 -- next, awaited, zeros and the mark with its tests, stored in turn, are the block
 pub marked-stored : (s₀ s₁ s₂ s₃ s₄ : List ℕ) (at next awaited steps tests : ℕ) → s₁ ≡ sets s₀ (at + to_next) (pair_bytes next) → s₂ ≡ sets s₁ (at + to_awaited) (pair_bytes awaited)
     → s₃ ≡ sets s₂ (at + to_flags) (replicate steps 0) → s₄ ≡ sets s₃ (at + to_flags + steps) (with_tests ∷ pair_bytes tests)
@@ -78,16 +87,16 @@ module _ (code : List ℕ) (row : Path) (above s₀ s₁ s₂ : List ℕ) (p nex
   Stays = s₂ ≡ sets s₀ (p + to_next) (block_bytes next awaited (behind_first code row above p one))
 
   -- where the first compound is the leftmost, its mark is what is stored
-  pub stays-marked : one.marked ≡ true → s₂ ≡ sets s₁ (p + to_flags) (mark_bytes one.tests) → Stays
-  stays-marked m f =
-      let w : mark_bytes one.tests ≡ behind_first code row above p one = unfold behind_first swept_behind pick in rw m in
+  pub stays-marked : (tests : ℕ) → one.behind ≡ Leftmost tests → s₂ ≡ sets s₁ (p + to_flags) (mark_bytes tests) → Stays
+  stays-marked tests m f =
+      let w : mark_bytes tests ≡ behind_first code row above p one = unfold behind_first swept_behind in rw m in
       block-stored s₀ s₁ s₂ p next awaited _ e (f ∙ ap (sets s₁ (p + to_flags)) w)
 
   -- where it is not the leftmost, the flags of the compounds left of it are stored
-  pub stays-others : one.marked ≡ false → (limit : ℕ) → limit ≡ length code - 1 → s₂ ≡ sets s₁ (p + to_flags) (sweep_at code row above limit (p + to_flags + 1) one.place) → Stays
-  stays-others m limit el f =
-      let w : sweep_at code row above (length code - 1) (p + to_flags + 1) one.place ≡ behind_first code row above p one = unfold behind_first swept_behind pick in rw m in
-      block-stored s₀ s₁ s₂ p next awaited _ e (f ∙ ap (λ (n : ℕ). sets s₁ (p + to_flags) (sweep_at code row above n (p + to_flags + 1) one.place)) el ∙ ap (sets s₁ (p + to_flags)) w)
+  pub stays-others : (first : ℕ) → one.behind ≡ Others first → (limit : ℕ) → limit ≡ length code - 1 → s₂ ≡ sets s₁ (p + to_flags) (sweep_at code row above limit (p + to_flags + 1) first) → Stays
+  stays-others first m limit el f =
+      let w : sweep_at code row above (length code - 1) (p + to_flags + 1) first ≡ behind_first code row above p one = unfold behind_first swept_behind in rw m in
+      block-stored s₀ s₁ s₂ p next awaited _ e (f ∙ ap (λ (n : ℕ). sets s₁ (p + to_flags) (sweep_at code row above n (p + to_flags + 1) first)) el ∙ ap (sets s₁ (p + to_flags)) w)
 
 -- ---- what is told of a visit: whether the selector matches, and the block that is stored
 module _ (s₀ : List ℕ) (next p : ℕ) where
@@ -192,7 +201,7 @@ module _ (code : List ℕ) (row : Path) (above s₀ : List ℕ) (p next awaited 
   marked-stays f e =
       let one : Swept = swept_mark code row tests awaited in
       let no : tests_pass code row tests awaited ≡ false = sym ee ∙ f in
-      let w : mark_bytes tests ≡ behind_first code row above p one = unfold behind_first swept_behind pick in refl in
+      let w : mark_bytes tests ≡ behind_first code row above p one = unfold behind_first swept_behind in refl in
       swept_same code row above s₀ p next awaited one (next_awaited code p awaited one.ends) refl s₁ false (sym (awaited-stays code p awaited one.ends no))
       (e ∙ ap (λ (x : List ℕ). sets s₀ (p + to_next) (block_bytes next awaited x)) (some_tests code row tests awaited no ∙ w))
 
@@ -228,7 +237,7 @@ module _ (code : List ℕ) (row : Path) (above s₀ : List ℕ) (p next : ℕ) (
         let d : length code ≡ suc k = omega arith in
         ap (λ (n : ℕ). decided code p awaited (sweep_at code row above n (p + to_flags) awaited)) d
         ∙ ap (decided code p awaited) (sweep-step code row above k (p + to_flags) awaited)
-        ∙ ap (λ (x : Swept). decided code p awaited (flag x.ends ∷ swept_behind code row above k (p + to_flags) x)) (sym eo)
+        ∙ ap (λ (x : Swept). decided code p awaited (flag x.ends ∷ swept_behind code row above k (p + to_flags) x.behind)) (sym eo)
 
     -- so it is told
     pub visit-by : (b : Bool) → Told s₀ next p (swept_visit code row above p awaited one) b s₁ → Visits b

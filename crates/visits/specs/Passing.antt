@@ -2,7 +2,7 @@
 use Rattle.std.specs.Prelude.{ℕ, List}
 use Rattle.segments.specs.Pass.{Passed, pass_from}
 use Rattle.sweeps.specs.Met.{row_alone}
-use Rattle.visits.specs.declared.rows.Row.{Row}
+use Rattle.sweeps.specs.declared.elements.Row.{Row}
 
 -- what at most k selectors from the one at the place p on come to, by the row's own part
 abbrev pub passed : Row → ℕ → ℕ → List ℕ → Passed

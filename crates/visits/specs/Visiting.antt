@@ -12,8 +12,8 @@ use Rattle.segments.specs.Visits.{to_next, to_flags, Visited, awaits, decided, v
 use Rattle.sweeps.specs.Met.{row_alone}
 use Rattle.sweeps.specs.Swept.{swept_mark, swept_behind}
 use Rattle.sweeps.specs.declared.sweeping.Swept.{Swept}
-use Rattle.visits.specs.declared.rows.Row.{Row}
-use Rattle.visits.specs.declared.rows.Block.{Block}
+use Rattle.sweeps.specs.declared.elements.Row.{Row}
+use Rattle.visits.specs.declared.blocks.Block.{Block}
 use Rattle.visits.specs.declared.visiting.Awaited.{Awaited}
 use Rattle.visits.specs.declared.visiting.Awaited.TheVariants as segment
 
@@ -26,7 +26,7 @@ to_end = 8
 
 -- the flags of the selector at p behind the one of its first compound
 unfoldable pub behind_first : List ℕ → Path → List ℕ → ℕ → Swept → List ℕ
-behind_first code row flags p one = swept_behind code row flags (length code - 1) (p + to_flags) one
+behind_first code row flags p one = swept_behind code row flags (length code - 1) (p + to_flags) one.behind
 
 -- what a visit comes to, by its first compound
 unfoldable pub swept_visit : List ℕ → Path → List ℕ → ℕ → ℕ → Swept → Visited

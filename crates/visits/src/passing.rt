@@ -3,24 +3,24 @@ ghost use Rattle.std.specs.Prelude.{◌≡◌, ◌≤◌, length};
 ghost use Rattle.compiled.specs.Sheet.{compiled_limit};
 ghost use Rattle.visits.specs.Passing.{passed};
 
-use crate::rows::Row;
+use crate::blocks::NO_PLACE;
 use crate::visiting::visit;
+use sweeps::elements::Row;
 
-// No place of a selector: what the bytes of a part have where there is none.
-pub const NO_PLACE: usize = 0;
-
-// At most `count` selectors from the one at `first` on: their blocks go to the own part. Which of them match is not asked, as for the document, which has no style.
-// Each block says where the next one is, so that no slice of a part holds so many.
+// At most `count` selectors from the one at `first` on: their blocks go to the own part. Which of them match is not asked, as for the document, which has no
+// style. Each block says where the next one is, so that no slice of a part holds so many. (Place and count are no struct: the count is of the sheet and stays,
+// while the place changes at each turn.)
 pub fn pass_blocks(row: &Row<'_>, own: &mut [u8], first: usize, count: u32)
+    requires few_bytes { length row.now.compiled.now ≤ compiled_limit }
     requires room { length row.now.above.now ≤ length own.old }
     requires near { first ≤ compiled_limit }
     ensures { own.new ≡ (passed row.now count first own.old).part }
 {
-    let mut p = first;
+    let mut place = first;
     for _ in 0..count {
-        if p == NO_PLACE {
+        if place == NO_PLACE {
             return;
         }
-        p = visit(row, own, p).next;
+        place = visit(row, own, place).next;
     }
 }

@@ -1,4 +1,7 @@
-// One selector at a row: by the block of its parent's part, the block of the own part, and whether it matches.
+// One selector at a row: by the block of its parent's part, the block of the own part, and whether it matches. (The row that is read and the part that is written
+// come as two. A struct of both would be lent by `&mut`, and each function here, of hints and of stepping would owe that the row is the same afterwards, which
+// `&Row` says by its type. `room` asks of both, as no struct has them. `few_bytes` is a clause, no field of `Row`: of those
+// functions of sweeps that are lent a row alone nothing is asked of its bytes.)
 ghost use Rattle.std.specs.Prelude.{◌≡◌, ◌∷◌, ◌++◌, ◌+◌, ◌≤◌, ◌<◌, length, replicate};
 ghost use Rattle.std.proofs.lemmas.List.Edits.{sets};
 ghost use Rattle.compiled.specs.Sheet.{compiled_limit};
@@ -9,14 +12,14 @@ ghost use Rattle.segments.specs.Pass.{block_set};
 ghost use Rattle.segments.specs.Parts.{pair_limit};
 ghost use Rattle.visits.specs.Visiting.{to_end, visited, next_from, flags_behind, visited_by, visited_by_mark, next_awaited};
 
-use crate::rows::{Block, Row};
+use crate::blocks::Block;
 use compiled::sheets::read_head;
 use sweeps::compounds::{segment_before, tests_pass};
+use sweeps::elements::Row;
 use sweeps::parts::{
     WITH_TESTS, pair_at, pair_there, put_fresh, put_mark, put_mark_there, put_pair, put_pair_there,
-    put_zeros,
 };
-use sweeps::sweeping::{Swept, sweep_one, sweep_rest};
+use sweeps::sweeping::{Behind, Swept, sweep_one, sweep_rest};
 use syntax::rows::AGENT_ORIGIN;
 
 // From the place of a selector, to where its block has the place of the next selector, that of the segment that is awaited, and its flags.
@@ -53,62 +56,53 @@ pub fn put_places(own: &mut [u8], block: Block)
     put_pair(own, block.place + TO_AWAITED, block.awaited);
 }
 
-// Stores the whole block of a selector whose leftmost compound has tests, behind `STEPS` others which may not end here, in a part that has room for it.
-pub fn put_marked<const STEPS: usize>(own: &mut [u8], block: Block, tests: usize)
-    requires { block.place + to_end + STEPS ≤ length own.old }
-    ensures { own.new ≡ sets own.old (block.place + to_next) (block_bytes block.next block.awaited (replicate STEPS 0 ++ (with_tests ∷ pair_bytes tests))) }
+// Stores the whole block of the selector at `at` whose leftmost compound has tests, behind `STEPS` others which may not end here, in a part that has room for it.
+// (Numbers, no `Block`: the room says all that is asked of the place.)
+pub fn put_marked<const STEPS: usize>(
+    own: &mut [u8],
+    at: usize,
+    next: usize,
+    awaited: usize,
+    tests: usize,
+)
+    requires { at + to_end + STEPS ≤ length own.old }
+    ensures { own.new ≡ sets own.old (at + to_next) (block_bytes next awaited (replicate STEPS 0 ++ (with_tests ∷ pair_bytes tests))) }
 {
-    let flags = block.place + TO_FLAGS;
-    put_pair_there(own, block.place + TO_NEXT, block.next);
-    put_pair_there(own, block.place + TO_AWAITED, block.awaited);
-    put_zeros(own, flags, STEPS);
+    let flags = at + TO_FLAGS;
+    put_pair_there(own, at + TO_NEXT, next);
+    put_pair_there(own, at + TO_AWAITED, awaited);
+    own[flags..flags + STEPS].fill(0);
     put_mark_there(own, flags + STEPS, tests);
 }
 
 // Stores the block of a selector of which the segment before the one of `block` is awaited next; `count` components stand in the bytes from `first` on.
-pub fn put_awaits(compiled: &[u8], own: &mut [u8], block: Block, count: u32, first: usize)
+pub fn put_awaits(compiled: &[u8], own: &mut [u8], mut block: Block, count: u32, first: usize)
     ensures { own.new ≡ block_set (awaits (segment_before compiled.now block.awaited count (beginning first) first)) block.next block.place own.old }
 {
-    let Block {
-        place,
-        next,
-        awaited,
-    } = block;
-    let s = segment_before(compiled, awaited, count, first);
-    put_places(
-        own,
-        Block {
-            place,
-            next,
-            awaited: s.start,
-        },
-    );
-    put_fresh(own, place + TO_FLAGS, s.start, s.steps, s.tests);
+    let segment = segment_before(compiled, block.awaited, count, first);
+    block.awaited = segment.start;
+    put_places(own, block);
+    put_fresh(own, block.place + TO_FLAGS, segment);
 }
 
 // Stores the block of a selector whose segment is awaited as before; `one` is its first compound.
 fn put_stays(row: &Row<'_>, own: &mut [u8], block: Block, one: Swept)
+    requires few_bytes { length row.now.compiled.now ≤ compiled_limit }
     ensures { own.new ≡ sets own.old (block.place + to_next) (block_bytes block.next block.awaited (flags_behind row.now block one)) }
 {
     put_places(own, block);
     let at = block.place + TO_FLAGS;
-    if one.marked {
-        put_mark(own, at, one.tests);
-        return;
+    match one.behind {
+        Behind::Leftmost(tests) => put_mark(own, at, tests),
+        Behind::Others(first) => {
+            let limit = row.compiled.len().saturating_sub(1);
+            sweep_rest(row, own, at, first, limit);
+        }
     }
-    let limit = row.compiled.len().saturating_sub(1);
-    sweep_rest(
-        row.compiled,
-        row.above,
-        own,
-        at,
-        one.place,
-        limit,
-        row.element,
-    );
 }
 
-// The segment that is awaited behind the row, by whether the one of `block` ends there: the last one matches and stays, behind another the one before it is awaited.
+// The segment that is awaited behind the row, by whether the one of `block` ends there: the last one matches and stays, behind another the one before it is
+// awaited.
 fn next_awaited(compiled: &[u8], block: Block, ends: bool) -> Awaited
     ensures { result ≡ next_awaited compiled.now block.place block.awaited ends }
 {
@@ -125,9 +119,9 @@ fn next_awaited(compiled: &[u8], block: Block, ends: bool) -> Awaited
     }
 }
 
-// A selector by its first compound `one`: whether it matches; its block goes to the own part. That is written while row and block are read, and each selector
-// of a row has another block, so the three are no struct.
+// A selector by its first compound `one`: whether it matches; its block goes to the own part.
 fn visit_swept(row: &Row<'_>, own: &mut [u8], block: Block, one: Swept) -> bool
+    requires few_bytes { length row.now.compiled.now ≤ compiled_limit }
     ensures value { result ≡ (visited_by row.now block one).matched }
     ensures own_after { own.new ≡ block_set (visited_by row.now block one) block.next block.place own.old }
 {
@@ -143,44 +137,45 @@ fn visit_swept(row: &Row<'_>, own: &mut [u8], block: Block, one: Swept) -> bool
     }
 }
 
-// A selector whose first compound is the leftmost and has tests, where the own part has room for its whole block: most often they do not pass, and the block stays as it is.
+// A selector whose first compound is the leftmost and has tests, where the own part has room for its whole block: most often they do not pass, and the block
+// stays as it is.
 fn visit_marked(row: &Row<'_>, own: &mut [u8], block: Block, tests: usize) -> bool
-    requires { block.place + to_end ≤ length own.old }
+    requires few_bytes { length row.now.compiled.now ≤ compiled_limit }
+    requires room { block.place + to_end ≤ length own.old }
     ensures value { result ≡ (visited_by_mark row.now block tests).matched }
     ensures own_after { own.new ≡ block_set (visited_by_mark row.now block tests) block.next block.place own.old }
 {
-    let ends = tests_pass(row.compiled, block.awaited, tests, row.element);
-    // (No condition joined by `&&`: on either way the block is stored first.)
+    let ends = tests_pass(row, block.awaited, tests);
+    // (No `&&`: where the tests fail the block is stored too.)
     if ends {
         let one = Swept {
-            marked: true,
             ends,
-            tests,
-            place: block.awaited,
+            behind: Behind::Leftmost(tests),
         };
         return visit_swept(row, own, block, one);
     }
-    put_marked::<0>(own, block, tests);
+    put_marked::<0>(own, block.place, block.next, block.awaited, tests);
     false
 }
 
-// The selector at `p`, at a row, by whatever its block is: also one that the part does not hold whole.
-fn visit_any(row: &Row<'_>, own: &mut [u8], p: usize) -> VisitAnswer
-    requires { p ≤ compiled_limit }
-    ensures matched_value { result.matched ≡ (visited row.now p).matched }
-    ensures own_after { own.new ≡ block_set (visited row.now p) (next_from row.now p) p own.old }
-    ensures next_value { result.next ≡ next_from row.now p }
+// The selector at `place`, at a row, by whatever its block is: also one that the part does not hold whole.
+fn visit_any(row: &Row<'_>, own: &mut [u8], place: usize) -> VisitAnswer
+    requires few_bytes { length row.now.compiled.now ≤ compiled_limit }
+    requires near { place ≤ compiled_limit }
+    ensures matched_value { result.matched ≡ (visited row.now place).matched }
+    ensures own_after { own.new ≡ block_set (visited row.now place) (next_from row.now place) place own.old }
+    ensures next_value { result.next ≡ next_from row.now place }
     ensures next_lt_pair_limit { result.next < pair_limit }
 {
-    let next = pair_at(row.above, p + TO_NEXT);
-    let awaited = pair_at(row.above, p + TO_AWAITED);
+    let next = pair_at(row.above, place + TO_NEXT);
+    let awaited = pair_at(row.above, place + TO_AWAITED);
     let block = Block {
-        place: p,
+        place,
         next,
         awaited,
     };
-    if row.compiled.len() > 0 {
-        let one = sweep_one(row.compiled, row.above, p + TO_FLAGS, awaited, row.element);
+    if !row.compiled.is_empty() {
+        let one = sweep_one(row, place + TO_FLAGS, awaited);
         let matched = visit_swept(row, own, block, one);
         return VisitAnswer { matched, next };
     }
@@ -191,27 +186,32 @@ fn visit_any(row: &Row<'_>, own: &mut [u8], p: usize) -> VisitAnswer
     }
 }
 
-// The selector at `p`, at a row: whether it matches; its block goes to the own part, by that of the parent's part. The end of the part is tested once for a block with a mark.
-pub fn visit(row: &Row<'_>, own: &mut [u8], p: usize) -> VisitAnswer
+// The selector at `place`, at a row: whether it matches; its block goes to the own part, by that of the parent's part. The end of the part is tested once for a
+// block with a mark.
+pub fn visit(row: &Row<'_>, own: &mut [u8], place: usize) -> VisitAnswer
+    requires few_bytes { length row.now.compiled.now ≤ compiled_limit }
     requires room { length row.now.above.now ≤ length own.old }
-    requires near { p ≤ compiled_limit }
-    ensures matched_value { result.matched ≡ (visited row.now p).matched }
-    ensures own_after { own.new ≡ block_set (visited row.now p) (next_from row.now p) p own.old }
-    ensures next_value { result.next ≡ next_from row.now p }
+    requires near { place ≤ compiled_limit }
+    ensures matched_value { result.matched ≡ (visited row.now place).matched }
+    ensures own_after { own.new ≡ block_set (visited row.now place) (next_from row.now place) place own.old }
+    ensures next_value { result.next ≡ next_from row.now place }
     ensures next_lt_pair_limit { result.next < pair_limit }
 {
     let above = row.above;
-    if row.compiled.len() > 0 && p + TO_END <= above.len() && above[p + TO_FLAGS] == WITH_TESTS {
-        let next = pair_there(above, p + TO_NEXT);
-        let awaited = pair_there(above, p + TO_AWAITED);
-        let tests = pair_there(above, p + TO_TESTS);
+    if !row.compiled.is_empty()
+        && place + TO_END <= above.len()
+        && above[place + TO_FLAGS] == WITH_TESTS
+    {
+        let next = pair_there(above, place + TO_NEXT);
+        let awaited = pair_there(above, place + TO_AWAITED);
+        let tests = pair_there(above, place + TO_TESTS);
         let block = Block {
-            place: p,
+            place,
             next,
             awaited,
         };
         let matched = visit_marked(row, own, block, tests);
         return VisitAnswer { matched, next };
     }
-    visit_any(row, own, p)
+    visit_any(row, own, place)
 }

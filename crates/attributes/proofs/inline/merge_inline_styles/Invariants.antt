@@ -2,5 +2,5 @@
 use Rattle.attributes.proofs.InlineLaws.{Merging}
 use Rattle.attributes.proofs.inline.merge_inline_styles.Given as goal
 
-abbrev pub invariant-loop-i : goal.invariant-loop-i
-invariant-loop-i l = Merging l.cascade l.base l.count l.tokens l.initial.out l.i l.out
+abbrev pub invariant-loop-row : goal.invariant-loop-row
+invariant-loop-row l = Merging l.cascade l.base l.rows l.initial.out l.row-index l.out

@@ -3,4 +3,4 @@ use Rattle.attributes.proofs.TurnLaws as laws
 use Rattle.attributes.proofs.merging.merge_attributes.Given as goal
 
 abbrev pub invariant-loop-i : goal.invariant-loop-i
-invariant-loop-i l = laws.Turn l.attributes.rows.now l.attributes.text.now l.attributes.at l.attributes.count l.cascade l.base l.fill l.initial.out l.initial.stores l.f l.i l.out l.stores
+invariant-loop-i l = laws.Turn l.attributes.rows.now l.attributes.text.now l.attributes.count l.cascade l.base l.fill l.initial.out l.initial.stores l.f l.i l.out l.stores

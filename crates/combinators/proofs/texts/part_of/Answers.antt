@@ -3,4 +3,4 @@ use Rattle.combinators.proofs.Parts as laws
 use Rattle.combinators.proofs.texts.part_of.Goals as goal
 
 pub returns : goal.returns
-returns c = laws.part-least _ _ _ _ _ c.min.ensures c.min-2.ensures
+returns g c = laws.part-least _ _ _ _ _ c.min.ensures c.min-2.ensures

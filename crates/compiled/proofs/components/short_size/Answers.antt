@@ -1,11 +1,14 @@
 -- A kind alone and a kind with a text are told by their bytes; of anything else nothing is told.
 use native.Mathlib.Omega.{arith}
+use mathlib.Core.Path.{◌∙◌}
 use Rattle.combinators.proofs.Rules.{told}
 use Rattle.compiled.proofs.ShortCode as laws
 use Rattle.compiled.proofs.components.short_size.Goals as goal
 
 pub returns-then-is_mark : goal.returns-then-is_mark
-returns-then-is_mark c = laws.short-mark _ _ c.if-s-at.false _ c.from-kind.ensures (told _ _ _ c.is_mark.ensures c.if-is_mark.true)
+returns-then-is_mark c = let k = c.in_ok-get.ensures.lookup.3 in laws.short-mark _ _ k.0 _ (c.from-kind.ensures ∙ k.1 0) (told _ _ _ c.is_mark.ensures c.if-is_mark.true)
 
 pub returns-then-size-left : goal.returns-then-size-left
-returns-then-size-left c = laws.short-name _ _ c.if-s-at.false _ c.from-kind.ensures (told _ _ _ c.is_name.ensures c.if-is_name.true) _ c.from-size.ensures (let e = c.from.ensures in let f = c.from-size.ensures in omega arith) c.if-size-left.true
+returns-then-size-left c =
+    let k = c.in_ok-get.ensures.lookup.3 in
+    laws.short-name _ _ k.0 _ (c.from-kind.ensures ∙ k.1 0) (told _ _ _ c.is_name.ensures c.if-is_name.true) _ c.from-size.ensures (let e = c.from.ensures in let f = c.from-size.ensures in omega arith) c.if-size-left.true

@@ -9,5 +9,5 @@ loop-left-init c = record { same = refl; work = rw c.from-left.ensures (laws.wri
 pub loop-left-preserved : goal.loop-left-preserved
 loop-left-preserved c = record { same = c.emit.ensures.same_store ∙ c.loop-left.invariant.same; work = laws.writing_more _ _ _ _ c.loop-left.invariant.work _ c.loop-left-test.true c.emit.ensures.written }
 
-pub returns-clause-written : goal.returns-clause-written
-returns-clause-written c = laws.writing-done _ _ _ _ c.loop-left.invariant.work _ c.loop-left-test.false c.emit-2.ensures.written
+pub returns : goal.returns
+returns c = record { same_store = c.emit-2.ensures.same_store ∙ c.loop-left.invariant.same; written = laws.writing-done _ _ _ _ c.loop-left.invariant.work _ c.loop-left-test.false c.emit-2.ensures.written }

@@ -3,8 +3,8 @@ use native.Mathlib.Omega.{arith}
 use Rattle.compiled.proofs.NumberReading as laws
 use Rattle.compiled.proofs.numbers.limited.Goals as goal
 
-pub returns-in-Ok : goal.returns-in-Ok
-returns-in-Ok c = rw c.in-Ok.ensures.1 (laws.limited-yes _ _ _ c.in-Ok.ensures.0)
+pub returns : goal.returns
+returns c = rw c.in-Ok.ensures.1 (laws.limited-yes _ _ _ c.in-Ok.ensures.0)
 
-pub returns-in-Err : goal.returns-in-Err
-returns-in-Err c = let h = c.in-Err.ensures in laws.limited-no _ _ _ (omega arith)
+pub returns-in_default : goal.returns-in_default
+returns-in_default c = let h = c.in_default.ensures in laws.limited-no _ _ _ (omega arith)

@@ -2,5 +2,5 @@
 use Rattle.compiled.proofs.Written as laws
 use Rattle.compiled.proofs.sheets.emit_head.Goals as goal
 
-pub returns-clause-written : goal.returns-clause-written
-returns-clause-written c = laws.head-written _ _ _ _ _ _ _ c.emit_number.ensures.written c.emit_number-2.ensures.written c.emit_number-3.ensures.written
+pub returns : goal.returns
+returns c = laws.wrote-as (laws.head-numbers _ _ _) c.emit_numbers.ensures

@@ -3,14 +3,16 @@ use native.Mathlib.Omega.{arith}
 use Rattle.compiled.proofs.Written as laws
 use Rattle.compiled.proofs.styles.emit_slot.Goals as goal
 
-pub returns-in-0-clause-written : goal.returns-in-0-clause-written
-returns-in-0-clause-written c = laws.colours-written _ _ _ _ _ (omega arith) c.emit_slot_number-in-0.ensures.written
+pub returns-in-0 : goal.returns-in-0
+returns-in-0 c = laws.wrote-as (laws.colours-bytes _ _ _ (omega arith)) c.emit_numbers-in-0.ensures
 
-pub returns-in-2-clause-written : goal.returns-in-2-clause-written
-returns-in-2-clause-written c = let k = c.in-2.is in laws.display-written _ _ _ _ _ (λ z. omega (arith, z)) (λ z. omega (arith, z)) k c.emit_number.ensures.written
+pub returns-in-2 : goal.returns-in-2
+returns-in-2 c = let k = c.in-2.is in laws.wrote-as (laws.display-bytes _ _ _ (λ z. omega (arith, z)) (λ z. omega (arith, z)) k) c.emit_number.ensures
 
-pub returns-in-3-clause-written : goal.returns-in-3-clause-written
-returns-in-3-clause-written c = let k = c.in-3.is in laws.white-space-written _ _ _ _ _ (λ z. omega (arith, z)) (λ z. omega (arith, z)) (λ z. omega (arith, z)) k _ c.white_space_number-word.ensures c.emit_slot_number.ensures.written
+pub returns-in-3 : goal.returns-in-3
+returns-in-3 c = let k = c.in-3.is in
+    laws.wrote-as (laws.white-space-bytes _ _ _ (λ z. omega (arith, z)) (λ z. omega (arith, z)) (λ z. omega (arith, z)) k _ c.white_space_number-word.ensures) c.emit_numbers.ensures
 
-pub returns-in_default-clause-written : goal.returns-in_default-clause-written
-returns-in_default-clause-written c = laws.content-written _ _ _ _ _ (λ z. omega (arith, z)) (λ z. omega (arith, z)) (λ z. omega (arith, z)) (λ z. omega (arith, z)) c.emit_content.ensures.written
+pub returns-in_default : goal.returns-in_default
+returns-in_default c =
+    laws.wrote-as (laws.content-bytes _ _ _ (λ z. omega (arith, z)) (λ z. omega (arith, z)) (λ z. omega (arith, z)) (λ z. omega (arith, z))) c.emit_number_text.ensures

@@ -2,5 +2,5 @@
 use Rattle.compiled.proofs.Written as laws
 use Rattle.compiled.proofs.styles.emit_style.Goals as goal
 
-pub returns-clause-written : goal.returns-clause-written
-returns-clause-written c = laws.style-written _ _ _ _ _ _ _ c.flag_of.ensures c.emit_number.ensures.written c.emit_number-2.ensures.written c.emit_slot.ensures.written
+pub returns : goal.returns
+returns c = laws.wrote-as (laws.style-numbers _ _ _ c.flag_of.ensures) (laws.wrote-then c.emit_number.ensures (laws.wrote-then c.emit_number-2.ensures c.emit_slot.ensures))

@@ -1,12 +1,7 @@
--- The three numbers that a word has; any other counts as the last.
-use Rattle.syntax.specs.Layout.{white_space_number, white_space_of}
-use Rattle.combinators.proofs.Rules.{cases}
+-- The first two numbers stand for themselves, and any other for the last.
+use mathlib.Core.Path.{◌∙◌}
+use Rattle.compiled.proofs.Written as laws
 use Rattle.compiled.proofs.styles.white_space_number.Goals as goal
 
-pub returns-in-0 : goal.returns-in-0
-unfolding white_space_number white_space_of
-returns-in-0 c = search cases
-
-pub returns-in_default : goal.returns-in_default
-unfolding white_space_number white_space_of
-returns-in_default c = search cases
+pub returns : goal.returns
+returns c = c.min.ensures ∙ laws.white-space-least _

@@ -3,8 +3,8 @@ use Rattle.std.proofs.Common.{arith, ◌∙◌}
 use Rattle.compiler.proofs.EmittingLaws as laws
 use Rattle.compiler.proofs.rules.emit_selectors.Goals as goal
 
-pub returns-then-is_past-clause-written : goal.returns-then-is_past-clause-written
-returns-then-is_past-clause-written c = laws.emitting-past _ _ _ _ _ _ _ _ _ c.loop.invariant.work (laws.past-known _ _ c.is_past.ensures c.if-is_past.true)
+pub returns-then-is_past : goal.returns-then-is_past
+returns-then-is_past c = record { same_store = c.loop.invariant.kept; written = laws.emitting-past _ _ _ _ _ _ _ _ _ c.loop.invariant.work (laws.past-known _ _ c.is_past.ensures c.if-is_past.true) }
 
 pub loop-preserved : goal.loop-preserved
 loop-preserved c = record {
@@ -12,5 +12,5 @@ loop-preserved c = record {
   work = laws.emitting-next _ _ _ _ _ _ _ _ _ c.loop.invariant.work (omega arith) _ c.emit_selector.ensures.written _ (c.skip_selector-place.ensures _);
 }
 
-pub returns-clause-written : goal.returns-clause-written
-returns-clause-written c = laws.emitting-done _ _ _ _ _ _ _ _ _ c.loop.invariant.work (omega arith)
+pub returns : goal.returns
+returns c = record { same_store = c.loop.invariant.kept; written = laws.emitting-done _ _ _ _ _ _ _ _ _ c.loop.invariant.work (omega arith) }

@@ -3,5 +3,5 @@ use Rattle.compiler.proofs.StyleWriting as laws
 use borrow.Author.Rules.{rules}
 use Rattle.compiler.proofs.styles.emit_style_at.Goals as goal
 
-pub returns-clause-written : goal.returns-clause-written
-returns-clause-written c = search (rules, laws.style-there)
+pub returns : goal.returns
+returns c = record { same_store = c.emit_style.ensures.same_store; written = search (rules, laws.style-there) }

@@ -5,9 +5,9 @@ use Rattle.compiler.proofs.EmittingLaws as laws
 use Rattle.syntax.specs.Layout.{styles_at}
 use Rattle.compiler.proofs.styles.emit_style_rows.Goals as goal
 
-pub returns-then-is_past-clause-written : goal.returns-then-is_past-clause-written
+pub returns-then-is_past : goal.returns-then-is_past
 unfolding styles_at
-returns-then-is_past-clause-written c = laws.emitting-past _ _ _ _ _ _ _ _ _ c.loop.invariant.work (laws.past-known _ _ c.is_past.ensures c.if-is_past.true)
+returns-then-is_past c = record { same_store = c.loop.invariant.kept; written = laws.emitting-past _ _ _ _ _ _ _ _ _ c.loop.invariant.work (laws.past-known _ _ c.is_past.ensures c.if-is_past.true) }
 
 pub loop-preserved : goal.loop-preserved
 loop-preserved c = record {
@@ -16,6 +16,6 @@ loop-preserved c = record {
       (behind-style c.args.rows.numbers.now c.loop.place _ c.forward-place.result c.forward-place.ensures.rows_value);
 }
 
-pub returns-clause-written : goal.returns-clause-written
+pub returns : goal.returns
 unfolding styles_at
-returns-clause-written c = laws.emitting-done _ _ _ _ _ _ _ _ _ c.loop.invariant.work (omega arith)
+returns c = record { same_store = c.loop.invariant.kept; written = laws.emitting-done _ _ _ _ _ _ _ _ _ c.loop.invariant.work (omega arith) }

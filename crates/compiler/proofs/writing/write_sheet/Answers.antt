@@ -4,4 +4,7 @@ use Rattle.compiler.proofs.writing.write_sheet.Goals as goal
 
 pub returns : goal.returns
 returns c = let a = c.args in
-    record { tokens_unchanged = c.emit_rules.ensures.tokens_unchanged; same_store = c.emit_rules.ensures.same_store; written = laws.sheet-written a.rows.numbers.now a.rows.texts.now a.sheet _ _ _ c.emit_rules.ensures.written }
+    record {
+      tokens_unchanged = c.emit_rules.ensures.tokens_unchanged;
+      wrote = record { same_store = c.emit_rules.ensures.wrote.same_store; written = laws.sheet-written a.rows.numbers.now a.rows.texts.now a.sheet _ _ _ c.emit_rules.ensures.wrote.written };
+    }

@@ -1,26 +1,16 @@
 -- Each pair is a number up to 255 or there is no colour; three of them are one.
-use native.Mathlib.Omega.{arith}
 use mathlib.Core.Path.{◌∙◌}
 use Rattle.declarations.proofs.PairLaws as laws
 use Rattle.declarations.proofs.attributes.pair_colour.Goals as goal
 
 pub returns-in_err-red : goal.returns-in_err-red
-returns-in_err-red c = c.from_residual.ensures ∙ laws.first-none _ _ c.parse_hex.ensures c.in_err-red.was
+returns-in_err-red c = c.from_residual.ensures ∙ laws.first-none _ _ c.parse_hex_u8.ensures c.in_err-red.was
 
 pub returns-in_err-green : goal.returns-in_err-green
-returns-in_err-green c = c.from_residual-in_err-green.ensures ∙ laws.second_none _ _ c.parse_hex-2.ensures c.in_err-green.was
+returns-in_err-green c = c.from_residual-in_err-green.ensures ∙ laws.second_none _ _ c.parse_hex_u8-2.ensures c.in_err-green.was
 
 pub returns-in_err-blue : goal.returns-in_err-blue
-returns-in_err-blue c = c.from_residual-in_err-blue.ensures ∙ laws.third-none _ _ c.parse_hex-3.ensures c.in_err-blue.was
-
-pub overflow_cast-red : goal.overflow_cast-red
-overflow_cast-red c = omega (arith, laws.pair-le _ _ _ c.parse_hex.ensures c.in_ok-red.was)
-
-pub overflow_cast-green : goal.overflow_cast-green
-overflow_cast-green c = omega (arith, laws.pair-le _ _ _ c.parse_hex-2.ensures c.in_ok-green.was)
-
-pub overflow_cast-blue : goal.overflow_cast-blue
-overflow_cast-blue c = omega (arith, laws.pair-le _ _ _ c.parse_hex-3.ensures c.in_ok-blue.was)
+returns-in_err-blue c = c.from_residual-in_err-blue.ensures ∙ laws.third-none _ _ c.parse_hex_u8-3.ensures c.in_err-blue.was
 
 pub returns : goal.returns
-returns c = laws.three-pairs _ _ c.parse_hex.ensures _ c.in_ok-red.was _ c.parse_hex-2.ensures _ c.in_ok-green.was _ c.parse_hex-3.ensures _ c.in_ok-blue.was _ c.colour_number.ensures
+returns c = laws.three-pairs _ _ c.parse_hex_u8.ensures _ c.in_ok-red.was _ c.parse_hex_u8-2.ensures _ c.in_ok-green.was _ c.parse_hex_u8-3.ensures _ c.in_ok-blue.was _ c.colour_number.ensures

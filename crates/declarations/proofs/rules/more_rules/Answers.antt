@@ -47,5 +47,5 @@ loop-w-smaller c = omega (arith, c.requires.start-bits, laws.next-within c.loop-
 pub loop-w-preserved : goal.loop-w-preserved
 loop-w-preserved c = record { same = same-then c.loop-w.invariant.same c.parse_declaration.ensures.same; reading = laws.goes c.loop-w.invariant.reading c.requires c.byte_is.ensures c.loop-w-test.true c.skip_from-w.ensures.value c.skip_from-w.ensures.upper_bound c.parse_declaration.ensures.stores_after c.in-Some.is }
 
-pub returns : goal.returns
-returns c = let t : goal.returns-raw c = (c.loop-w.invariant.same, laws.ends-here c.loop-w.invariant.reading c.requires c.byte_is.ensures c.loop-w-test.false refl) in record { same = t.0; stores_after = t.1.0; more_read = t.1.1 }
+pub returns-after-loop-w : goal.returns-after-loop-w
+returns-after-loop-w c = let t : goal.returns-after-loop-w-raw c = (c.loop-w.invariant.same, laws.ends-here c.loop-w.invariant.reading c.requires c.byte_is.ensures c.loop-w-test.false refl) in record { same = t.0; stores_after = t.1.0; more_read = t.1.1 }

@@ -1,5 +1,5 @@
 -- Without a value all that was written is wiped; with one the declaration is put down and what was used is wiped.
-use mathlib.Core.Path.{◌∙◌, ap}
+use mathlib.Core.Path.{refl, ◌∙◌, ap}
 use Rattle.combinators.specs.Store.{wiped}
 use native.Mathlib.Omega.{arith}
 use Rattle.declarations.proofs.Declaring as laws
@@ -24,10 +24,10 @@ pub overflow_add-property : goal.overflow_add-property
 overflow_add-property c = omega (arith, laws.none-text c.args.names c.args.at c.args.s.now c.args.stores.now.rules.now c.args.place c.args.stores.now.tokens.now c.args.stores.now.brackets.now c.args.stores.now.texts.now c.args.fill c.args.property.value c.args.property.name c.requires.rules_room c.requires.property_read c.parse_value.ensures.work_after c.in-Err.is)
 
 pub returns-in-Err-clause-stores_after : goal.returns-in-Err-clause-stores_after
-returns-in-Err-clause-stores_after c = laws.none_left c.args.names c.args.at c.args.s.now c.args.stores.now.rules.now c.args.place c.args.stores.now.tokens.now c.args.stores.now.brackets.now c.args.stores.now.texts.now c.args.fill c.args.property.value c.args.property.name c.requires.rules_room c.requires.property_read c.parse_value.ensures.work_after c.in-Err.is c.parse_value.ensures.rules_unchanged c.wipe_work.ensures.tokens_after c.wipe_work.ensures.brackets_after c.fill_part.ensures
+returns-in-Err-clause-stores_after c = laws.none_left c.args.names c.args.at c.args.s.now c.args.stores.now.rules.now c.args.place c.args.stores.now.tokens.now c.args.stores.now.brackets.now c.args.stores.now.texts.now c.args.fill c.args.property.value c.args.property.name c.requires.rules_room c.requires.property_read c.parse_value.ensures.work_after c.in-Err.is (c.wipe_work.ensures.rules_unchanged ∙ c.parse_value.ensures.rules_unchanged) c.wipe_work.ensures.tokens_after c.wipe_work.ensures.brackets_after (c.fill_part.ensures ∙ ap (wiped _ _) c.wipe_work.ensures.texts_unchanged)
 
-pub put_declared-kept-requires : goal.put_declared-kept-requires
-put_declared-kept-requires c = laws.put-room c.args.names c.args.at c.args.s.now c.args.stores.now.rules.now c.args.place c.args.stores.now.tokens.now c.args.stores.now.brackets.now c.args.stores.now.texts.now c.args.fill c.args.property.value c.args.property.name c.requires.rules_room c.requires.property_read c.parse_value.ensures.work_after c.in-Ok.is c.unmarked.ensures c.skip_optional_whitespace.ensures.value
+pub put_declared-text-requires : goal.put_declared-text-requires
+put_declared-text-requires c = laws.put-room c.args.names c.args.at c.args.s.now c.args.stores.now.rules.now c.args.place c.args.stores.now.tokens.now c.args.stores.now.brackets.now c.args.stores.now.texts.now c.args.fill c.args.property.value c.args.property.name c.requires.rules_room c.requires.property_read c.parse_value.ensures.work_after c.in-Ok.is refl c.skip_optional_whitespace.ensures.value
 
 pub wipe_work-requires-in-Ok : goal.wipe_work-requires-in-Ok
 wipe_work-requires-in-Ok c = laws.some-count c.args.names c.args.at c.args.s.now c.args.stores.now.rules.now c.args.place c.args.stores.now.tokens.now c.args.stores.now.brackets.now c.args.stores.now.texts.now c.args.fill c.args.property.value c.args.property.name c.requires.rules_room c.requires.property_read c.parse_value.ensures.work_after c.in-Ok.is
@@ -36,4 +36,4 @@ pub overflow_add-result : goal.overflow_add-result
 overflow_add-result c = omega (arith, laws.some-taken c.args.names c.args.at c.args.s.now c.args.stores.now.rules.now c.args.place c.args.stores.now.tokens.now c.args.stores.now.brackets.now c.args.stores.now.texts.now c.args.fill c.args.property.value c.args.property.name c.requires.rules_room c.requires.property_read c.parse_value.ensures.work_after c.in-Ok.is)
 
 pub returns-in-Ok-clause-stores_after : goal.returns-in-Ok-clause-stores_after
-returns-in-Ok-clause-stores_after c = laws.some_left c.args.names c.args.at c.args.s.now c.args.stores.now.rules.now c.args.place c.args.stores.now.tokens.now c.args.stores.now.brackets.now c.args.stores.now.texts.now c.args.fill c.args.property.value c.args.property.name c.requires.rules_room c.requires.property_read c.parse_value.ensures.work_after c.in-Ok.is c.unmarked.ensures c.skip_optional_whitespace.ensures.value c.parse_value.ensures.rules_unchanged c.put_declared-kept.ensures.put (c.wipe_work-in-Ok.ensures.tokens_after ∙ ap (wiped 0 _) c.put_declared-kept.ensures.work_unchanged.tokens) (c.wipe_work-in-Ok.ensures.brackets_after ∙ ap (wiped 0 _) c.put_declared-kept.ensures.work_unchanged.brackets)
+returns-in-Ok-clause-stores_after c = rw (c.wipe_work-in-Ok.ensures.rules_unchanged, c.wipe_work-in-Ok.ensures.texts_unchanged) (laws.some_left c.args.names c.args.at c.args.s.now c.args.stores.now.rules.now c.args.place c.args.stores.now.tokens.now c.args.stores.now.brackets.now c.args.stores.now.texts.now c.args.fill c.args.property.value c.args.property.name c.requires.rules_room c.requires.property_read c.parse_value.ensures.work_after c.in-Ok.is refl c.skip_optional_whitespace.ensures.value c.parse_value.ensures.rules_unchanged c.put_declared-text.ensures.put (c.wipe_work-in-Ok.ensures.tokens_after ∙ ap (wiped 0 _) c.put_declared-text.ensures.work_unchanged.tokens) (c.wipe_work-in-Ok.ensures.brackets_after ∙ ap (wiped 0 _) c.put_declared-text.ensures.work_unchanged.brackets))

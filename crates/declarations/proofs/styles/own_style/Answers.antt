@@ -12,13 +12,9 @@ pub returns-in-2 : goal.returns-in-2
 unfolding own_numbers flag_of
 returns-in-2 c = search cases
 
-pub returns-then-value-ne-FLAG_TRUE : goal.returns-then-value-ne-FLAG_TRUE
+pub returns-in-7 : goal.returns-in-7
 unfolding own_numbers flag_of
-returns-then-value-ne-FLAG_TRUE c = search cases
-
-pub returns-else-value-ne-FLAG_TRUE : goal.returns-else-value-ne-FLAG_TRUE
-unfolding own_numbers flag_of
-returns-else-value-ne-FLAG_TRUE c = search cases
+returns-in-7 c = search cases
 
 pub returns-in-8 : goal.returns-in-8
 unfolding own_numbers flag_of
@@ -31,3 +27,7 @@ returns-in-9 c = search cases
 pub returns-in_default : goal.returns-in_default
 unfolding own_numbers flag_of
 returns-in_default c = search cases depth 16
+
+pub returns-in_default-2 : goal.returns-in_default-2
+unfolding own_numbers flag_of
+returns-in_default-2 c = search cases depth 16

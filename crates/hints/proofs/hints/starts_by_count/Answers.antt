@@ -5,7 +5,7 @@ use Rattle.hints.proofs.StartLaws.{may-any}
 use Rattle.hints.proofs.hints.starts_by_count.Goals as goal
 
 pub returns-then-attributes-lt-ATTRIBUTE_WIDTH : goal.returns-then-attributes-lt-ATTRIBUTE_WIDTH
-returns-then-attributes-lt-ATTRIBUTE_WIDTH c = let t : goal.returns-then-attributes-lt-ATTRIBUTE_WIDTH-raw c = laws.none-begin _ c.if-attributes-lt-ATTRIBUTE_WIDTH.true _ in record { by_index = t.0; by_index_2 = t.1 }
+returns-then-attributes-lt-ATTRIBUTE_WIDTH c = let t : goal.returns-then-attributes-lt-ATTRIBUTE_WIDTH-raw c = laws.none-begin _ c.if-attributes-lt-ATTRIBUTE_WIDTH.true _ in record { classes = t.0; names = t.1 }
 
 pub returns : goal.returns
-returns c = record { by_index = (λ _ _ _. may-any _ _ refl); by_index_2 = (λ _ _ _. may-any _ _ refl) }
+returns c = record { classes = (λ _ _ _. may-any _ _ refl); names = (λ _ _ _. may-any _ _ refl) }

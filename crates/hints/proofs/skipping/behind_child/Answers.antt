@@ -1,7 +1,9 @@
 -- A child step is its kind alone.
-use mathlib.Core.Path.{sym, ◌∙◌}
+use native.Mathlib.Omega.{arith}
+use Rattle.std.proofs.lemmas.Bool.Decides.{nat_tests}
+use Rattle.hints.specs.Skipping.{BehindChild}
 use Rattle.hints.proofs.CodeStepLaws as laws
 use Rattle.hints.proofs.skipping.behind_child.Goals as goal
 
-pub returns-then-from-eq-CHILD : goal.returns-then-from-eq-CHILD
-returns-then-from-eq-CHILD c = laws.child-there _ _ c.if-at-compiled.true (sym c.from.ensures ∙ c.if-from-eq-CHILD.true)
+pub returns : goal.returns
+returns c = laws.size-if c.args.compiled.now (λ place. BehindChild c.args.compiled.now c.args.at place) _ _ _ c.then_some.ensures (λ t. let z = c.in_ok-get.ensures.lookup in let y = c.from-kind.ensures in laws.child-there _ _ (grind (arith, nat_tests)) (grind (arith, nat_tests)))

@@ -4,5 +4,8 @@ use lib.ListN.{length}
 use Rattle.hints.proofs.CodeStepLaws as laws
 use Rattle.hints.proofs.skipping.behind_step.Given as goal
 
-abbrev pub invariant-loop : goal.invariant-loop
-invariant-loop l = laws.Stepping l.compiled l.first l.next (length l.compiled - l.counter)
+abbrev pub invariant-loop-size : goal.invariant-loop-size
+invariant-loop-size l = laws.Walking l.compiled l.first l.next
+
+abbrev pub decreases-loop-size : goal.decreases-loop-size
+decreases-loop-size l = length l.compiled - l.next

@@ -8,8 +8,8 @@ use Rattle.hints.proofs.skipping.marked_block.Goals as goal
 
 pub returns : goal.returns
 returns g c = record {
-  some = let z = c.if-p-eq-NO_PLACE.false in omega arith;
-  inside = omega (arith, c.saturating_sub.ensures, c.if-p-saturating_sub.false);
+  some = c.requires.there;
+  inside = omega (arith, c.saturating_sub.ensures, c.if-place-saturating_sub.false);
   flags = sym (part-whole _ _ _) ∙ same_text _ _ (sym (not-false _ (sym c.ne.ensures ∙ c.if-ne.false)));
   mark = c.if-above-mark-ne-WITH_TESTS.false;
   place = refl;

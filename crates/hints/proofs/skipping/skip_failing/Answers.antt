@@ -1,13 +1,19 @@
 -- Each turn copies one block that stays; what is left has the result of the whole.
-use mathlib.Core.Path.{◌≡◌}
-use Prim.Native.Nat.{◌+◌, ◌-◌}
 use native.Mathlib.Omega.{arith}
 use Rattle.hints.proofs.CodeSkipLaws as laws
-use Rattle.hints.proofs.skipping.skip_failing.Goals.{in-Some+then-tests_fail, in_default+in-Some-marked_block+then-step_fails}
 use Rattle.hints.proofs.skipping.skip_failing.Goals as goal
 
-pub loop-done-preserved : goal.loop-done-preserved
-loop-done-preserved c = let q : c.args.count - (c.loop-done.done + 1) ≡ c.args.count - c.loop-done.done - 1 = omega arith in rw q (elim c.match-marked_block.branch [
-  | in-Some+then-tests_fail w ↦ rw (w.own-is, w.p-is) (laws.skip-one _ _ _ _ _ _ _ _ _ c.loop-done.invariant (omega arith) _ _ w.in-Some.ensures (w.tests_fail.ensures w.if-tests_fail.true) w.put_marked.ensures)
-  | in_default+in-Some-marked_block+then-step_fails w ↦ rw (w.own-is, w.p-is) (laws.skip-two _ _ _ _ _ _ _ _ _ c.loop-done.invariant (omega arith) _ _ w.in-Some-marked_block.ensures (w.step_fails.ensures w.if-step_fails.true) w.put_marked-in_default.ensures)
-])
+pub returns-then-place-eq-NO_PLACE-clause-skips : goal.returns-then-place-eq-NO_PLACE-clause-skips
+returns-then-place-eq-NO_PLACE-clause-skips c = laws.skip-none _ _ _ _ _ _ _ _ _ c.loop-behind.invariant c.if-place-eq-NO_PLACE.true
+
+pub loop-behind-preserved-in-loop-behind : goal.loop-behind-preserved-in-loop-behind
+loop-behind-preserved-in-loop-behind c = laws.skip-one _ _ _ _ _ _ _ _ _ c.loop-behind.invariant (omega arith) _ _ c.in-Some.ensures (c.tests_fail.ensures c.if-tests_fail.true) c.put_marked.ensures
+
+pub loop-behind-preserved : goal.loop-behind-preserved
+loop-behind-preserved c = laws.skip-two _ _ _ _ _ _ _ _ _ c.loop-behind.invariant (omega arith) _ _ c.in-Some-marked_block.ensures (c.step_fails.ensures c.if-step_fails.true) c.put_marked-in_default.ensures
+
+pub returns-in_default-clause-skips : goal.returns-in_default-clause-skips
+returns-in_default-clause-skips c = laws.skip-left _ _ _ _ _ _ _ _ _ c.loop-behind.invariant _ (omega arith)
+
+pub returns-clause-skips : goal.returns-clause-skips
+returns-clause-skips c = laws.skip-end _ _ _ _ _ _ _ _ _ c.loop-behind.invariant (omega arith)

@@ -1,9 +1,8 @@
 -- The digits, up to the most, are zero exactly where the number is.
+use mathlib.Core.Path.{◌∙◌, ap}
+use Rattle.std.proofs.Common.{Ok}
 use Rattle.lengths.proofs.DimensionLaws as laws
 use Rattle.lengths.proofs.dimensions.number_length.Goals as goal
 
-pub returns-then-numeral_of-gt0 : goal.returns-then-numeral_of-gt0
-returns-then-numeral_of-gt0 c = laws.number-some _ _ c.numeral_of.ensures c.if-numeral_of-gt0.true
-
 pub returns : goal.returns
-returns c = laws.number-zero _ _ c.numeral_of.ensures c.if-numeral_of-gt0.false
+returns c = ap Ok c.then_some.ensures ∙ laws.number-told _ _ c.numeral_of.ensures

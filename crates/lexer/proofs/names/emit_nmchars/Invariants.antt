@@ -5,8 +5,8 @@ use Rattle.combinators.specs.Writer.{written, SameStore}
 use Rattle.lexer.proofs.CharacterRuns as laws
 use Rattle.lexer.proofs.names.emit_nmchars.Given as goal
 
-abbrev pub invariant-loop-i : goal.invariant-loop-i
-invariant-loop-i l = record { same : SameStore l.initial.writer l.writer; work : laws.Chars l.s (written l.initial.writer) (written l.writer) l.i l.n }
+abbrev pub invariant-loop-c : goal.invariant-loop-c
+invariant-loop-c l = record { same : SameStore l.initial.writer l.writer; work : laws.Chars l.s (written l.initial.writer) (written l.writer) l.i l.n }
 
-abbrev pub decreases-loop-i : goal.decreases-loop-i
-decreases-loop-i l = length l.s - l.i
+abbrev pub decreases-loop-c : goal.decreases-loop-c
+decreases-loop-c l = length l.s - l.i

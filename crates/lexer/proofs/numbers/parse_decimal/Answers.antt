@@ -1,9 +1,8 @@
 -- The tests of `decimal`: a full stop behind the digits, and digits behind it; the full stop is in the text, so the rest begins within it.
-use Rattle.std.proofs.Common.{◌+◌, arith, sym, ap, ◌∙◌}
+use Rattle.std.proofs.Common.{arith, sym, ◌∙◌}
 use Rattle.combinators.specs.Ascii.{full_stop}
 use Rattle.combinators.proofs.Lists.{byte-there}
-use Rattle.lexer.specs.Number.{digits}
-use Rattle.lexer.proofs.Digits.{decimal-none, decimal-some, followed-none, followed-some}
+use Rattle.lexer.proofs.Digits.{decimal-none, decimal-by}
 use Rattle.lexer.proofs.numbers.parse_decimal.Goals as goal
 
 pub returns-then-not-byte_is-clause-value : goal.returns-then-not-byte_is-clause-value
@@ -15,12 +14,6 @@ slice_bounds-parse_integer-count c = omega (arith, byte-there c.args.s.now _ ful
 pub slice_bounds-parse_integer-start : goal.slice_bounds-parse_integer-start
 slice_bounds-parse_integer-start c = omega (arith, byte-there c.args.s.now _ full_stop (omega arith) (sym c.byte_is.ensures ∙ c.if-not-byte_is.false))
 
-pub returns-in-0-clause-value : goal.returns-in-0-clause-value
-returns-in-0-clause-value c =
-    decimal-some c.args.s.now _ c.parse_integer-n.ensures.value _ (sym c.byte_is.ensures ∙ c.if-not-byte_is.false)
-    (followed-none digits c.args.s.now _ _ _ (ap (λ i. i + 1) c.parse_integer-n.ensures.value) c.parse_integer.ensures.value c.in-0.is)
-
-pub returns-in_default-clause-value : goal.returns-in_default-clause-value
-returns-in_default-clause-value c =
-    decimal-some c.args.s.now _ c.parse_integer-n.ensures.value _ (sym c.byte_is.ensures ∙ c.if-not-byte_is.false)
-    (followed-some digits c.args.s.now _ _ _ (ap (λ i. i + 1) c.parse_integer-n.ensures.value) c.parse_integer.ensures.value (λ z. omega arith))
+pub returns-clause-value : goal.returns-clause-value
+returns-clause-value c =
+    c.then_some.ensures ∙ decimal-by c.args.s.now _ c.parse_integer-n.ensures.value _ c.parse_integer-m.ensures.value (sym c.byte_is.ensures ∙ c.if-not-byte_is.false)

@@ -1,19 +1,15 @@
--- At each turn the digits left to count have the result of the whole (`Repeating`); a byte that is no digit, or the end of the text, ends the run.
-use Rattle.std.proofs.Common.{arith, sym, length, ◌∙◌, ◌≡◌}
-use Rattle.combinators.specs.Choice.{pick}
-use Rattle.combinators.proofs.Repeating.{repeat-more, repeat-stop, repeat-end}
-use Rattle.lexer.specs.Number.{digits}
-use Rattle.lexer.proofs.Digits.{digit_at}
+-- As many bytes as pass the test from the start on are the digits.
+use Rattle.std.proofs.Common.{◌∙◌, rules, tests}
+use Rattle.std.proofs.lemmas.Iterator.{YieldsList-from_slice}
+use Rattle.std.proofs.lemmas.Iterator.Consumers.{count_from_yields_List}
+use Rattle.std.proofs.lemmas.Iterator.Search.{YieldsList-from_take_while}
+use Rattle.std.proofs.lemmas.List.Folds.{length-prefix_len}
+use Rattle.lexer.specs.Number.{is_digit}
+use Rattle.lexer.proofs.Prefixes.{digits-prefix}
 use Rattle.lexer.proofs.numbers.parse_integer.Goals as goal
 
-pub loop-i-preserved : goal.loop-i-preserved
-unfolding pick
-loop-i-preserved c = repeat-more _ _ _ c.loop-i.invariant 1 (digit_at c.args.s.now c.loop-i.i _ (sym c.is_digit.ensures ∙ c.if-not-is_digit.false)) (omega arith) (λ e. omega arith)
-
-pub returns-then-not-is_digit-clause-value : goal.returns-then-not-is_digit-clause-value
-unfolding digits pick
-returns-then-not-is_digit-clause-value c = repeat-stop _ _ _ c.loop-i.invariant (digit_at c.args.s.now c.loop-i.i _ (sym c.is_digit.ensures ∙ c.if-not-is_digit.true))
-
 pub returns-clause-value : goal.returns-clause-value
-unfolding digits
-returns-clause-value c = let e : length c.args.s.now ≡ c.loop-i.i = omega (arith, c.loop-i.invariant.within_text) in e ∙ repeat-end _ _ _ c.loop-i.invariant c.loop-i-test.false
+returns-clause-value c =
+    count_from_yields_List _ _ c.count.ensures.ran
+    (YieldsList-from_take_while _ is_digit (YieldsList-from_slice c.args.s.now cc) c.take_while.ensures.closure c.take_while.ensures.done (λ x b q k. search (rules, tests)))
+    ∙ length-prefix_len is_digit c.args.s.now ∙ digits-prefix c.args.s.now

@@ -1,14 +1,11 @@
 -- The number behind the '+' with the sign's byte taken too; where there is no number the store is as it was and the '+' is a delimiter.
-use native.Mathlib.Omega.{arith}
+use Rattle.std.proofs.Common.{rules, tests, arith}
 use Rattle.lexer.proofs.TokenReaders as laws
 use Rattle.lexer.proofs.TokenBounds.{token-le, numeric-bounded}
 use Rattle.lexer.proofs.tokens.plus_token.Goals as goal
 
-pub overflow_add-result : goal.overflow_add-result
-overflow_add-result c = omega (arith, token-le _ _ (numeric-bounded _) _ c.parse_numeric_token.ensures.value _ _ c.in-Some.is)
+pub map-requires : goal.map-requires
+map-requires c = λ x e w t. omega (arith, token-le _ _ (numeric-bounded _) _ c.parse_numeric_token-number.ensures.value _ _ e)
 
-pub returns-in-Some : goal.returns-in-Some
-returns-in-Some c = let t : goal.returns-in-Some-raw c = laws.plus-number _ _ _ _ _ _ (c.parse_numeric_token.ensures.value, c.parse_numeric_token.ensures.store_after) _ _ c.in-Some.is in record { value = t.0; store_after = t.1 }
-
-pub returns-in-None : goal.returns-in-None
-returns-in-None c = let t : goal.returns-in-None-raw c = laws.plus-delim _ _ _ _ _ _ (c.parse_numeric_token.ensures.value, c.parse_numeric_token.ensures.store_after) c.in-None.is in record { value = t.0; store_after = t.1 }
+pub returns : goal.returns
+returns c = let t : goal.returns-raw c = laws.plus-by _ _ _ _ _ _ (c.parse_numeric_token-number.ensures.value, c.parse_numeric_token-number.ensures.store_after) _ _ c.map.ensures.cases (λ v b h. search (rules, tests)) c.or_delim.ensures in record { value = t.0; store_after = t.1 }

@@ -16,18 +16,6 @@ match_recursively-returns-in-Descendant t c =
     let d = laws.climb-descends _ _ _ _ _ _ _ c.args.element.now.rooted _ c.match_locally.ensures c.in-Descendant.is in
     c.match_on_ancestors.ensures ∙ sym d.same
 
-pub match_on_ancestors-loop-row-init : goal.match_on_ancestors-loop-row-init
-match_on_ancestors-loop-row-init t c = laws.try-begin _ _ _ _ _ _ _ c.requires
-
-pub match_on_ancestors-invariant_of-next_ancestor : goal.match_on_ancestors-invariant_of-next_ancestor
-match_on_ancestors-invariant_of-next_ancestor t c = record { rooted = c.loop-row.invariant.rooted }
-
-pub match_on_ancestors-match_recursively-requires : goal.match_on_ancestors-match_recursively-requires
-match_on_ancestors-match_recursively-requires t c = (laws.falls _ _ _ _ _ _ _ _ c.loop-row.invariant _ c.in-Some.ensures t c.decreases, tt)
-
-pub match_on_ancestors-loop-row-smaller : goal.match_on_ancestors-loop-row-smaller
-match_on_ancestors-loop-row-smaller t c = c.in-Some.ensures.higher
-
 pub match_on_ancestors-returns-in_default-match_recursively : goal.match_on_ancestors-returns-in_default-match_recursively
 match_on_ancestors-returns-in_default-match_recursively t c =
     laws.ancestor-decides _ _ _ _ _ _ _ _ c.loop-row.invariant _ c.in-Some.ensures _ c.match_recursively.ensures c.in_default-match_recursively.not-FailsLocally
@@ -35,6 +23,3 @@ match_on_ancestors-returns-in_default-match_recursively t c =
 pub match_on_ancestors-loop-row-preserved : goal.match_on_ancestors-loop-row-preserved
 match_on_ancestors-loop-row-preserved t c =
     laws.ancestor-passed-over _ _ _ _ _ _ _ _ c.loop-row.invariant _ c.in-Some.ensures _ c.match_recursively.ensures c.in-FailsLocally.is
-
-pub match_on_ancestors-returns : goal.match_on_ancestors-returns
-match_on_ancestors-returns t c = laws.none_above _ _ _ _ _ _ _ _ c.loop-row.invariant c.in_default.ensures

@@ -3,12 +3,6 @@ use Rattle.matching.proofs.ClimbLaws as laws
 use native.Mathlib.Omega.{arith}
 use Rattle.matching.proofs.matcher.match_locally.Goals as goal
 
-pub loop-n-init : goal.loop-n-init
-loop-n-init c = laws.hand-begin _ _ _ _ _ _ _ c.args.element.rooted
-
-pub invariant_of-passes : goal.invariant_of-passes
-invariant_of-passes c = record { rooted = c.loop-n.invariant.rooted }
-
 pub returns-then-kind-eq-DESCENDANT : goal.returns-then-kind-eq-DESCENDANT
 returns-then-kind-eq-DESCENDANT c = laws.at-descendant _ _ _ _ _ _ _ _ _ c.loop-n.invariant c.loop-n-test.true _ c.kind_at-kind.ensures c.if-kind-eq-DESCENDANT.true
 

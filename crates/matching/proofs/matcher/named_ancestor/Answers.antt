@@ -3,20 +3,11 @@ use mathlib.Core.Path.{ap, ◌∙◌}
 use Rattle.combinators.specs.Word.{same_text}
 use Rattle.page.specs.Rows.{name_of}
 use Rattle.matching.proofs.ClimbLaws as laws
-use Rattle.matching.proofs.PathLaws.{parent-rooted, parent-before}
+use Rattle.matching.proofs.PathLaws.{parent-rooted}
 use Rattle.matching.proofs.matcher.named_ancestor.Goals as goal
-
-pub loop-row-init : goal.loop-row-init
-loop-row-init c = laws.seek-begin _ _ _ _ _ _ _ c.args.element.rooted
-
-pub invariant_of-is_called : goal.invariant_of-is_called
-invariant_of-is_called c = record { rooted = parent-rooted _ _ c.loop-row.invariant.rooted c.loop-row-test.true _ c.parent_of-row.ensures.value }
 
 pub returns-then-is_called : goal.returns-then-is_called
 returns-then-is_called c = laws.seek-found _ _ _ _ _ _ _ _ c.loop-row.invariant c.loop-row-test.true _ c.parent_of-row.ensures.value
-
-pub loop-row-smaller : goal.loop-row-smaller
-loop-row-smaller c = parent-before _ _ c.loop-row.invariant.rooted c.loop-row-test.true _ c.parent_of-row.ensures.value
 
 pub loop-row-preserved : goal.loop-row-preserved
 loop-row-preserved c =

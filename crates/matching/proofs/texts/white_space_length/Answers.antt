@@ -1,11 +1,8 @@
 -- Spaces are counted byte by byte, and what follows the first other byte is decoded; both count what the definition repeats.
-use Rattle.combinators.proofs.Repeating.{repeat-begin, repeat-end}
+use Rattle.combinators.proofs.Repeating.{repeat-end}
 use Rattle.matching.proofs.AsciiLaws.{graphic-stops, space-goes-on, counted-on}
 use borrow.Author.Rules.{rules}
 use Rattle.matching.proofs.texts.white_space_length.Goals as goal
-
-pub loop-i-init : goal.loop-i-init
-loop-i-init c = repeat-begin _ _
 
 pub returns-then-is_ascii_graphic : goal.returns-then-is_ascii_graphic
 returns-then-is_ascii_graphic c = record { value = search (rules, graphic-stops); upper_bound = search rules }

@@ -1,11 +1,8 @@
 -- Visible ASCII characters are counted byte by byte, and what follows the first other byte is decoded; both count what the definition repeats.
-use Rattle.combinators.proofs.Repeating.{repeat-begin, repeat-end}
+use Rattle.combinators.proofs.Repeating.{repeat-end}
 use Rattle.matching.proofs.AsciiLaws.{space-stops, graphic-goes-on, counted-on}
 use borrow.Author.Rules.{rules}
 use Rattle.matching.proofs.texts.word_length.Goals as goal
-
-pub loop-i-init : goal.loop-i-init
-loop-i-init c = repeat-begin _ _
 
 pub returns-then-b-eq-SPACE : goal.returns-then-b-eq-SPACE
 returns-then-b-eq-SPACE c = record { value = search (rules, space-stops); upper_bound = search rules }

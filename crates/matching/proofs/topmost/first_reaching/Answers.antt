@@ -2,12 +2,6 @@
 use Rattle.matching.proofs.NumberLaws as laws
 use Rattle.matching.proofs.topmost.first_reaching.Goals as goal
 
-pub loop-row-init : goal.loop-row-init
-loop-row-init c = laws.reach-begin _ _ _ _ _ c.args.element.rooted
-
-pub invariant_of-at : goal.invariant_of-at
-invariant_of-at c = record { rooted = c.loop-row.invariant.rooted }
-
 pub returns-in-Descendant : goal.returns-in-Descendant
 returns-in-Descendant c = (laws.reach-found _ _ _ _ _ _ c.loop-row.invariant _ c.match_locally.ensures c.in-Descendant.is, c.loop-row-test.true)
 

@@ -1,7 +1,6 @@
 -- Above the document there is no row; above an element the first is sought from its parent on.
 use mathlib.Core.Path.{sym, ◌∙◌}
 use Rattle.matching.proofs.NumberLaws as laws
-use Rattle.matching.proofs.PathLaws.{parent-rooted}
 use Rattle.matching.proofs.topmost.reached_above.Goals as goal
 
 pub returns-in_default : goal.returns-in_default

@@ -1,5 +1,6 @@
 -- The parent has to be one, to lie on the line above the row before, and to leave room for a level more.
 use mathlib.Core.Path.{◌∙◌}
+use native.Mathlib.Omega.{arith}
 use Rattle.page.proofs.RowLaws as laws
 use Rattle.page.proofs.rules.check_parent.Goals as goal
 
@@ -9,8 +10,8 @@ returns-then-not-is_parent c = laws.parent-none _ _ _ c.requires _ c.parent_of-p
 pub returns-in_err-above : goal.returns-in_err-above
 returns-in_err-above c = c.from_residual.ensures ∙ laws.parent-away _ _ _ c.requires _ c.parent_of-parent.ensures.value _ c.is_parent.ensures _ c.climb_to.ensures c.in_err-above.was
 
-pub returns-then-above-lt-DEPTH_LIMIT : goal.returns-then-above-lt-DEPTH_LIMIT
-returns-then-above-lt-DEPTH_LIMIT c = laws.parent-right _ _ _ c.requires _ c.parent_of-parent.ensures.value _ c.is_parent.ensures _ c.climb_to.ensures _ c.in_ok-above.was c.if-not-is_parent.false c.if-above-lt-DEPTH_LIMIT.true
+pub overflow_add-above : goal.overflow_add-above
+overflow_add-above c = let l = laws.depth-within _ _ _ c.requires _ c.parent_of-parent.ensures.value _ c.is_parent.ensures _ c.climb_to.ensures _ c.in_ok-above.was in omega (arith, l, c.ranges.row)
 
-pub returns-else-above-lt-DEPTH_LIMIT : goal.returns-else-above-lt-DEPTH_LIMIT
-returns-else-above-lt-DEPTH_LIMIT c = laws.too-deep _ _ _ c.requires _ c.parent_of-parent.ensures.value _ c.is_parent.ensures _ c.climb_to.ensures _ c.in_ok-above.was c.if-above-lt-DEPTH_LIMIT.false
+pub returns : goal.returns
+returns c = c.then_some.ensures ∙ laws.depth-told _ _ _ c.requires _ c.parent_of-parent.ensures.value _ c.is_parent.ensures _ c.climb_to.ensures _ c.in_ok-above.was c.if-not-is_parent.false

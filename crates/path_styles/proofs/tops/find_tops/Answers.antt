@@ -6,7 +6,6 @@ pub find_sheet_tops-user-requires : goal.find_sheet_tops-user-requires
 find_sheet_tops-user-requires c =
     let a = c.args in
     record {
-      row_lt_number_bound = c.requires.row_lt_number_bound;
       texts_in = c.requires.sheets_tops_room.agent-in;
       tops_room = laws.agent-room a.element.page.nodes.now a.element.page.attributes.now a.element.page.text.now a.element.row _ _ _ _ c.requires.sheets_tops_room;
     }
@@ -15,7 +14,6 @@ pub find_sheet_tops-author-requires : goal.find_sheet_tops-author-requires
 find_sheet_tops-author-requires c =
     let a = c.args in
     record {
-      row_lt_number_bound = c.requires.row_lt_number_bound;
       texts_in = c.requires.sheets_tops_room.user-in;
       tops_room = laws.user-room a.element.page.nodes.now a.element.page.attributes.now a.element.page.text.now a.element.row _ _ _ _ c.requires.sheets_tops_room _ _ c.find_sheet_tops-user.ensures.tokens_after c.find_sheet_tops-user.ensures.value;
     }
@@ -24,7 +22,6 @@ pub find_sheet_tops-behind-requires : goal.find_sheet_tops-behind-requires
 find_sheet_tops-behind-requires c =
     let a = c.args in
     record {
-      row_lt_number_bound = c.requires.row_lt_number_bound;
       texts_in = c.requires.sheets_tops_room.author-in;
       tops_room = laws.author-room a.element.page.nodes.now a.element.page.attributes.now a.element.page.text.now a.element.row _ _ _ _ c.requires.sheets_tops_room _ _ c.find_sheet_tops-user.ensures.tokens_after c.find_sheet_tops-user.ensures.value _ _ c.find_sheet_tops-author.ensures.tokens_after c.find_sheet_tops-author.ensures.value;
     }

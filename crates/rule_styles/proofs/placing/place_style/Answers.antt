@@ -3,17 +3,11 @@ use Rattle.rule_styles.proofs.PlacingStyles as laws
 use borrow.Author.Rules.{rules}
 use Rattle.rule_styles.proofs.placing.place_style.Goals as goal
 
-pub copy_part-size-requires : goal.copy_part-size-requires
-copy_part-size-requires c = laws.content-room c.args.tokens.now c.args.texts.now c.args.at c.args.from c.args.end c.args.fill _ c.style_at-style.ensures c.if-style-eq-CONTENT_SLOT.true c.requires.contents_room
-
 pub overflow_cast-value-then-style-eq-CONTENT_SLOT : goal.overflow_cast-value-then-style-eq-CONTENT_SLOT
-overflow_cast-value-then-style-eq-CONTENT_SLOT c = search (rules, laws.content-bits c.args.tokens.now c.args.texts.now c.args.at c.args.from c.args.end c.args.fill _ c.style_at-style.ensures c.if-style-eq-CONTENT_SLOT.true c.requires.contents_room _ c.copy_part-size.ensures.value)
-
-pub overflow_add-result : goal.overflow_add-result
-overflow_add-result c = search (rules, laws.content-bits c.args.tokens.now c.args.texts.now c.args.at c.args.from c.args.end c.args.fill _ c.style_at-style.ensures c.if-style-eq-CONTENT_SLOT.true c.requires.contents_room _ c.copy_part-size.ensures.value)
+overflow_cast-value-then-style-eq-CONTENT_SLOT c = search (rules, laws.content-room c.args.tokens.now c.args.text.now c.args.contents.now c.args.at c.args.fill _ c.style_at-style.ensures c.if-style-eq-CONTENT_SLOT.true _ c.part_of-content.ensures c.requires.contents_room)
 
 pub returns-then-style-eq-CONTENT_SLOT : goal.returns-then-style-eq-CONTENT_SLOT
-returns-then-style-eq-CONTENT_SLOT c = let t : goal.returns-then-style-eq-CONTENT_SLOT-raw c = laws.content-placed c.args.tokens.now c.args.texts.now c.args.at c.args.from c.args.end c.args.fill _ c.style_at-style.ensures c.if-style-eq-CONTENT_SLOT.true _ c.copy_part-size.ensures.value _ _ c.copy_part-size.ensures.texts_after c.write_style.ensures in record { tokens_after = t.0; texts_after = t.1.0; value = t.1.1 }
+returns-then-style-eq-CONTENT_SLOT c = let t : goal.returns-then-style-eq-CONTENT_SLOT-raw c = laws.content-placed c.args.tokens.now c.args.text.now c.args.contents.now c.args.at c.args.fill _ c.style_at-style.ensures c.if-style-eq-CONTENT_SLOT.true _ c.part_of-content.ensures c.requires.contents_room _ _ _ c.emit_all.ensures c.write_style.ensures in record { tokens_after = t.0; contents_after = t.1.0; value = t.1.1 }
 
 pub returns-else-style-eq-CONTENT_SLOT : goal.returns-else-style-eq-CONTENT_SLOT
-returns-else-style-eq-CONTENT_SLOT c = let t : goal.returns-else-style-eq-CONTENT_SLOT-raw c = laws.other-placed c.args.tokens.now c.args.texts.now c.args.at c.args.from c.args.end c.args.fill _ c.style_at-style.ensures c.if-style-eq-CONTENT_SLOT.false _ c.write_style-else-style-eq-CONTENT_SLOT.ensures in record { tokens_after = t.0; texts_after = t.1.0; value = t.1.1 }
+returns-else-style-eq-CONTENT_SLOT c = let t : goal.returns-else-style-eq-CONTENT_SLOT-raw c = laws.other-placed c.args.tokens.now c.args.text.now c.args.contents.now c.args.at c.args.fill _ c.style_at-style.ensures c.if-style-eq-CONTENT_SLOT.false _ c.write_style-else-style-eq-CONTENT_SLOT.ensures in record { tokens_after = t.0; contents_after = t.1.0; value = t.1.1 }

@@ -1,7 +1,8 @@
--- What is left to place leaves what the whole leaves; the text of the sheet ends before the contents that are copied.
+-- What is left to place leaves what the whole leaves.
 use Rattle.rule_styles.proofs.PlacingStyles as laws
-use Prim.Native.Nat.{◌-◌}
+use Prim.Native.Nat.{◌+◌, ◌*◌, ◌-◌}
+use Rattle.syntax.specs.Layout.{style_width}
 use Rattle.rule_styles.proofs.placing.place_styles.Given as goal
 
-abbrev pub invariant-loop : goal.invariant-loop
-invariant-loop l = laws.Placing l.initial.tokens l.at l.count l.initial.texts l.from l.end l.fill l.tokens l.texts l.f l.place (l.count - l.counter)
+abbrev pub invariant-loop-i : goal.invariant-loop-i
+invariant-loop-i l = laws.Placing l.initial.tokens l.at l.count l.text l.initial.contents l.fill l.tokens l.contents l.f (l.at + style_width * l.i) (l.count - l.i)

@@ -4,4 +4,4 @@ use Prim.Native.Nat.{◌-◌}
 use Rattle.rule_styles.proofs.placing.style_rules.Given as goal
 
 abbrev pub invariant-loop : goal.invariant-loop
-invariant-loop l = laws.Styling l.rules l.fn.sheet.place l.fn.sheet.count l.initial.tokens l.fn.placed.place l.initial.texts l.fn.sheet.from l.fn.end l.fn.placed.fill l.tokens l.texts l.rows l.next.place l.next.fill (l.fn.sheet.count - l.counter)
+invariant-loop l = laws.Styling l.rules l.fn.sheet.place l.fn.sheet.count l.text l.initial.tokens l.fn.placed.place l.initial.contents l.fn.placed.fill l.tokens l.contents l.rows l.next.place l.next.fill (l.fn.sheet.count - l.counter)

@@ -1,11 +1,15 @@
--- Five numbers stored one behind the other are a style's row.
-use lib.ListN.{length-set}
+-- The row is stored from the place on.
+use mathlib.Core.Path.{◌≡◌, ap, ◌∙◌}
 use native.Mathlib.Omega.{arith}
-use Rattle.syntax.specs.Layout.{value_numbers, row_of_numbers}
-use Rattle.cascade.proofs.Windows.{stores-are}
+use lib.ListN.{length}
+use lib.Seq.{sets}
+use Rattle.syntax.specs.Layout.{row_of_numbers}
+use Rattle.syntax.proofs.RowSizes.{length-style}
+use Rattle.cascade.proofs.Windows.{part-sets}
 use Rattle.rule_styles.proofs.rows.write_style.Goals as goal
 
 pub returns : goal.returns
-unfolding row_of_numbers value_numbers
-returns c = let x = c.args in
-    rw (stores-are (row_of_numbers x.style) x.rows.now x.at, c.flag_of.ensures)
+returns c =
+    let x = c.args in
+    let numbers : c.copy_from_slice.new.self ≡ row_of_numbers x.style = c.copy_from_slice.ensures.after ∙ c.row.ensures in
+    part-sets x.rows.now x.at _ (omega arith) _ (omega (arith, ap length numbers, length-style x.style)) ∙ ap (sets x.rows.now x.at) numbers

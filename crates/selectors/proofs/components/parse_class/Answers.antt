@@ -1,24 +1,28 @@
 -- A full stop and a name, or nothing.
+use mathlib.Core.Path.{◌∙◌, ap}
 use native.Mathlib.Omega.{arith}
+use Rattle.std.proofs.Common.{Ok}
 use Rattle.lexer.proofs.IdentBounds.{ident-keeps, answer_le}
 use Rattle.selectors.proofs.ComponentLaws as laws
-use borrow.Author.Rules.{rules}
 use Rattle.selectors.proofs.components.parse_class.Goals as goal
 
-pub slice_bounds-parse_ident-count : goal.slice_bounds-parse_ident-count
-slice_bounds-parse_ident-count c = let h = laws.mark-within laws.class-behind c.args.s.now _ c.byte_is.ensures c.if-not-byte_is.false in search rules
+pub returns-in_err-strip_prefix-clause-value : goal.returns-in_err-strip_prefix-clause-value
+returns-in_err-strip_prefix-clause-value c = ap Ok c.from_residual.ensures ∙ (laws.text-missing laws.class-behind c.args.s.now c.args.store.now c.args.fill _ c.strip_prefix.ensures.cases c.in_err-strip_prefix.was).0
 
-pub slice_bounds-parse_ident-start : goal.slice_bounds-parse_ident-start
-slice_bounds-parse_ident-start c = let h = laws.mark-within laws.class-behind c.args.s.now _ c.byte_is.ensures c.if-not-byte_is.false in search rules
+pub returns-in_err-strip_prefix-clause-store_after : goal.returns-in_err-strip_prefix-clause-store_after
+returns-in_err-strip_prefix-clause-store_after c = (laws.text-missing laws.class-behind c.args.s.now c.args.store.now c.args.fill _ c.strip_prefix.ensures.cases c.in_err-strip_prefix.was).1
 
-pub overflow_add-name : goal.overflow_add-name
-overflow_add-name c = omega (arith, answer_le _ _ (ident-keeps _) _ c.parse_ident.ensures.value _ _ c.in-Some.is, c.well_formed)
+pub returns-in_err-name-clause-value : goal.returns-in_err-name-clause-value
+returns-in_err-name-clause-value c = ap Ok c.from_residual-in_err-name.ensures ∙ (laws.text-unread laws.class-behind c.args.s.now _ _ _ c.strip_prefix.ensures.cases _ c.in_ok-strip_prefix.was _ _ (c.parse_ident.ensures.value, c.parse_ident.ensures.store_after) c.in_err-name.was).0
 
-pub returns : goal.returns
-returns c = let t = laws.text-read laws.class-behind _ _ c.byte_is.ensures _ _ c.if-not-byte_is.false _ _ (c.parse_ident.ensures.value, c.parse_ident.ensures.store_after) _ _ c.in-Some.is in record { value = laws.answered _ c.with_text.ensures t.0; store_after = t.1 }
+pub returns-in_err-name-clause-store_after : goal.returns-in_err-name-clause-store_after
+returns-in_err-name-clause-store_after c = (laws.text-unread laws.class-behind c.args.s.now _ _ _ c.strip_prefix.ensures.cases _ c.in_ok-strip_prefix.was _ _ (c.parse_ident.ensures.value, c.parse_ident.ensures.store_after) c.in_err-name.was).1
 
-pub returns-in_default : goal.returns-in_default
-returns-in_default c = let t : goal.returns-in_default-raw c = laws.text-unread laws.class-behind _ _ c.byte_is.ensures _ _ c.if-not-byte_is.false _ _ (c.parse_ident.ensures.value, c.parse_ident.ensures.store_after) c.in_default.is in record { value = t.0; store_after = t.1 }
+pub overflow_add-result : goal.overflow_add-result
+overflow_add-result c = record { fits = omega (arith, answer_le _ _ (ident-keeps _) _ c.parse_ident.ensures.value _ _ c.in_ok-name.was, laws.text-shorter laws.class-behind c.args.s.now c.args.store.now c.args.fill _ c.strip_prefix.ensures.cases _ c.in_ok-strip_prefix.was, c.well_formed) }
 
-pub returns-then-not-byte_is : goal.returns-then-not-byte_is
-returns-then-not-byte_is c = let t : goal.returns-then-not-byte_is-raw c = laws.text-missing laws.class-behind _ _ c.byte_is.ensures _ _ c.if-not-byte_is.true in record { value = t.0; store_after = t.1 }
+pub returns-clause-value : goal.returns-clause-value
+returns-clause-value c = (laws.text-read laws.class-behind c.args.s.now _ _ _ c.strip_prefix.ensures.cases _ c.in_ok-strip_prefix.was _ _ (c.parse_ident.ensures.value, c.parse_ident.ensures.store_after) _ _ c.in_ok-name.was).0
+
+pub returns-clause-store_after : goal.returns-clause-store_after
+returns-clause-store_after c = (laws.text-read laws.class-behind c.args.s.now _ _ _ c.strip_prefix.ensures.cases _ c.in_ok-strip_prefix.was _ _ (c.parse_ident.ensures.value, c.parse_ident.ensures.store_after) _ _ c.in_ok-name.was).1

@@ -1,7 +1,9 @@
 -- A colon, the name `nth-child` and arguments, or nothing; a panic in these is told from the colon on.
 use mathlib.Core.Path.{◌∙◌, ap}
 use Rattle.std.proofs.Common.{Ok, Err}
+use Rattle.std.proofs.lemmas.Result.{err_from_is_err_and}
 use Rattle.selectors.proofs.PseudoLaws as laws
+use Rattle.selectors.proofs.ReadingLaws.{moved-fits, moved-ok, moved-err}
 use borrow.Author.Rules.{rules}
 use Rattle.selectors.proofs.components.parse_pseudo_class.Goals as goal
 
@@ -26,23 +28,27 @@ slice_bounds-parse_nth_child_args-count c = let h = laws.child-le c.args.s.now c
 pub slice_bounds-parse_nth_child_args-start : goal.slice_bounds-parse_nth_child_args-start
 slice_bounds-parse_nth_child_args-start c = let h = laws.child-le c.args.s.now c.args.store.now _ c.byte_is.ensures c.if-not-byte_is.false _ _ (c.nth_child_name.ensures.value, c.nth_child_name.ensures.store_unchanged) _ c.in-Some.is (laws.colon-there c.args.s.now _ c.byte_is.ensures c.if-not-byte_is.false) in search rules
 
+pub overflow_add-n-2 : goal.overflow_add-n-2
+overflow_add-n-2 c = let h = laws.child-le c.args.s.now c.args.store.now _ c.byte_is.ensures c.if-not-byte_is.false _ _ (c.nth_child_name.ensures.value, c.nth_child_name.ensures.store_unchanged) _ c.in-Some.is (laws.colon-there c.args.s.now _ c.byte_is.ensures c.if-not-byte_is.false) in search rules
+
+pub moved-requires : goal.moved-requires
+moved-requires c = moved-fits _ _ (λ q e. let h = laws.pseudo-panic-le c.args.s.now c.args.store.now _ c.byte_is.ensures c.if-not-byte_is.false _ _ (c.nth_child_name.ensures.value, c.nth_child_name.ensures.store_unchanged) _ c.in-Some.is _ c.parse_nth_child_args.ensures q.place e (laws.colon-there c.args.s.now _ c.byte_is.ensures c.if-not-byte_is.false) in search rules)
+
 pub overflow_add-result : goal.overflow_add-result
-overflow_add-result c = let h = laws.pseudo-le c.args.s.now c.args.store.now _ c.byte_is.ensures c.if-not-byte_is.false _ _ (c.nth_child_name.ensures.value, c.nth_child_name.ensures.store_unchanged) _ c.in-Some.is _ c.parse_nth_child_args.ensures _ _ _ (c.in-Ok-Some.is ∙ ap Ok c.in-Ok-Some.field-0-is) (laws.colon-there c.args.s.now _ c.byte_is.ensures c.if-not-byte_is.false) in search rules
+overflow_add-result c = let h = laws.pseudo-le c.args.s.now c.args.store.now _ c.byte_is.ensures c.if-not-byte_is.false _ _ (c.nth_child_name.ensures.value, c.nth_child_name.ensures.store_unchanged) _ c.in-Some.is _ c.parse_nth_child_args.ensures _ _ _ (moved-ok _ _ _ c.moved.ensures _ (c.in_ok-nth.was ∙ ap Ok c.in-Some-2.is)) (laws.colon-there c.args.s.now _ c.byte_is.ensures c.if-not-byte_is.false) in search rules
 
-pub overflow_add-result-in-Ok-Some : goal.overflow_add-result-in-Ok-Some
-overflow_add-result-in-Ok-Some c = let h = laws.pseudo-le c.args.s.now c.args.store.now _ c.byte_is.ensures c.if-not-byte_is.false _ _ (c.nth_child_name.ensures.value, c.nth_child_name.ensures.store_unchanged) _ c.in-Some.is _ c.parse_nth_child_args.ensures _ _ _ (c.in-Ok-Some.is ∙ ap Ok c.in-Ok-Some.field-0-is) (laws.colon-there c.args.s.now _ c.byte_is.ensures c.if-not-byte_is.false) in search rules
+pub overflow_add-result-2 : goal.overflow_add-result-2
+overflow_add-result-2 c = let h = laws.pseudo-le c.args.s.now c.args.store.now _ c.byte_is.ensures c.if-not-byte_is.false _ _ (c.nth_child_name.ensures.value, c.nth_child_name.ensures.store_unchanged) _ c.in-Some.is _ c.parse_nth_child_args.ensures _ _ _ (moved-ok _ _ _ c.moved.ensures _ (c.in_ok-nth.was ∙ ap Ok c.in-Some-2.is)) (laws.colon-there c.args.s.now _ c.byte_is.ensures c.if-not-byte_is.false) in search rules
 
-pub returns-in-Ok-Some : goal.returns-in-Ok-Some
-returns-in-Ok-Some c = let t : goal.returns-in-Ok-Some-raw c = laws.pseudo-nth _ _ _ c.byte_is.ensures c.if-not-byte_is.false _ _ (c.nth_child_name.ensures.value, c.nth_child_name.ensures.store_unchanged) _ c.in-Some.is _ c.parse_nth_child_args.ensures _ _ _ (c.in-Ok-Some.is ∙ ap Ok c.in-Ok-Some.field-0-is) in record { value = t.0; store_unchanged = t.1 }
+pub returns : goal.returns
+returns c = let t = laws.pseudo-nth _ _ _ c.byte_is.ensures c.if-not-byte_is.false _ _ (c.nth_child_name.ensures.value, c.nth_child_name.ensures.store_unchanged) _ c.in-Some.is _ c.parse_nth_child_args.ensures _ _ _ (moved-ok _ _ _ c.moved.ensures _ (c.in_ok-nth.was ∙ ap Ok c.in-Some-2.is)) in record { value = t.0; store_unchanged = t.1 }
 
-pub returns-in-Ok-None : goal.returns-in-Ok-None
-returns-in-Ok-None c = let t : goal.returns-in-Ok-None-raw c = laws.pseudo-none _ _ _ c.byte_is.ensures c.if-not-byte_is.false _ _ (c.nth_child_name.ensures.value, c.nth_child_name.ensures.store_unchanged) _ c.in-Some.is _ c.parse_nth_child_args.ensures (c.in-Ok-None.is ∙ ap Ok c.in-Ok-None.field-0-is) in record { value = t.0; store_unchanged = t.1 }
+pub returns-in_default-2 : goal.returns-in_default-2
+returns-in_default-2 c = let t = laws.pseudo-none _ _ _ c.byte_is.ensures c.if-not-byte_is.false _ _ (c.nth_child_name.ensures.value, c.nth_child_name.ensures.store_unchanged) _ c.in-Some.is _ c.parse_nth_child_args.ensures (moved-ok _ _ _ c.moved.ensures _ (c.in_ok-nth.was ∙ ap Ok c.in_default-2.is)) in record { value = t.0; store_unchanged = t.1 }
 
-pub overflow_add-n-in-Err : goal.overflow_add-n-in-Err
-overflow_add-n-in-Err c = let h = laws.child-le c.args.s.now c.args.store.now _ c.byte_is.ensures c.if-not-byte_is.false _ _ (c.nth_child_name.ensures.value, c.nth_child_name.ensures.store_unchanged) _ c.in-Some.is (laws.colon-there c.args.s.now _ c.byte_is.ensures c.if-not-byte_is.false) in search rules
-
-pub behind-requires : goal.behind-requires
-behind-requires c = let h = laws.pseudo-panic-le c.args.s.now c.args.store.now _ c.byte_is.ensures c.if-not-byte_is.false _ _ (c.nth_child_name.ensures.value, c.nth_child_name.ensures.store_unchanged) _ c.in-Some.is _ c.parse_nth_child_args.ensures _ c.in-Err.is (laws.colon-there c.args.s.now _ c.byte_is.ensures c.if-not-byte_is.false) in search rules
-
-pub returns-in-Err : goal.returns-in-Err
-returns-in-Err c = let t = laws.pseudo-panic _ _ _ c.byte_is.ensures c.if-not-byte_is.false _ _ (c.nth_child_name.ensures.value, c.nth_child_name.ensures.store_unchanged) _ c.in-Some.is _ c.parse_nth_child_args.ensures _ c.in-Err.is in record { value = ap Err c.behind.ensures ∙ t.0; store_unchanged = t.1 }
+pub returns-in_err-nth : goal.returns-in_err-nth
+returns-in_err-nth c =
+    let p = err_from_is_err_and c.from_residual.result c.from_residual.ensures.1 in
+    let m = moved-err _ _ _ c.moved.ensures _ c.in_err-nth.was in
+    let t = laws.pseudo-panic _ _ _ c.byte_is.ensures c.if-not-byte_is.false _ _ (c.nth_child_name.ensures.value, c.nth_child_name.ensures.store_unchanged) _ c.in-Some.is _ c.parse_nth_child_args.ensures m.0 m.1 in
+    record { value = rw (p.1, p.2) (ap Err m.2 ∙ t.0); store_unchanged = t.1 }

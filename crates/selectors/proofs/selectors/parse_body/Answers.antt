@@ -6,38 +6,35 @@ use Rattle.combinators.proofs.LentLaws.{same-none, same-then, work-none, work-th
 use Rattle.selectors.proofs.ComponentTurns as laws
 use Rattle.selectors.proofs.selectors.parse_body.Goals as goal
 
-pub loop-component-init : goal.loop-component-init
-loop-component-init c = record { same = same-none; work = work-none; reading = laws.begin _ _ _ _ _ }
+pub loop-read-init : goal.loop-read-init
+loop-read-init c = record { same = same-none; work = work-none; reading = laws.begin _ _ _ _ _ }
 
 pub parse_next-requires : goal.parse_next-requires
-parse_next-requires c = laws.next-room c.loop-component.invariant.reading c.requires.row_room c.requires.text_room
+parse_next-requires c = laws.next-room c.loop-read.invariant.reading c.requires.row_room c.requires.text_room
 
 pub put_kept-requires : goal.put_kept-requires
-put_kept-requires c = laws.fits c.loop-component.invariant.reading c.requires.row_room c.requires.text_room (c.parse_next.ensures.value, c.parse_next.ensures.store_after) (c.in-Ok-Some.is ∙ ap Ok c.in-Ok-Some.field-0-is)
+put_kept-requires c = laws.fits c.loop-read.invariant.reading c.requires.row_room c.requires.text_room (c.parse_next.ensures.value, c.parse_next.ensures.store_after) (c.in-Ok-Some.is ∙ ap Ok c.in-Ok-Some.field-0-is)
 
 pub overflow_add-taken : goal.overflow_add-taken
-overflow_add-taken c = omega (arith, c.requires.text_room.bits, laws.taken-within c.loop-component.invariant.reading c.requires.row_room c.requires.text_room (c.parse_next.ensures.value, c.parse_next.ensures.store_after) (c.in-Ok-Some.is ∙ ap Ok c.in-Ok-Some.field-0-is))
+overflow_add-taken c = omega (arith, c.requires.text_room.bits, laws.taken-within c.loop-read.invariant.reading c.requires.row_room c.requires.text_room (c.parse_next.ensures.value, c.parse_next.ensures.store_after) (c.in-Ok-Some.is ∙ ap Ok c.in-Ok-Some.field-0-is))
 
 pub text_length-text-requires : goal.text_length-text-requires
-text_length-text-requires c = omega (arith, c.requires.text_room.bits, laws.taken-within c.loop-component.invariant.reading c.requires.row_room c.requires.text_room (c.parse_next.ensures.value, c.parse_next.ensures.store_after) (c.in-Ok-Some.is ∙ ap Ok c.in-Ok-Some.field-0-is), laws.text-short c.loop-component.invariant.reading c.requires.row_room c.requires.text_room (c.parse_next.ensures.value, c.parse_next.ensures.store_after) (c.in-Ok-Some.is ∙ ap Ok c.in-Ok-Some.field-0-is))
+text_length-text-requires c = omega (arith, c.requires.text_room.bits, laws.taken-within c.loop-read.invariant.reading c.requires.row_room c.requires.text_room (c.parse_next.ensures.value, c.parse_next.ensures.store_after) (c.in-Ok-Some.is ∙ ap Ok c.in-Ok-Some.field-0-is), laws.text-short c.loop-read.invariant.reading c.requires.row_room c.requires.text_room (c.parse_next.ensures.value, c.parse_next.ensures.store_after) (c.in-Ok-Some.is ∙ ap Ok c.in-Ok-Some.field-0-is))
 
 pub overflow_add-text : goal.overflow_add-text
-overflow_add-text c = omega (arith, c.text_length-text.ensures, c.requires.text_room.bits, laws.taken-within c.loop-component.invariant.reading c.requires.row_room c.requires.text_room (c.parse_next.ensures.value, c.parse_next.ensures.store_after) (c.in-Ok-Some.is ∙ ap Ok c.in-Ok-Some.field-0-is), laws.text-short c.loop-component.invariant.reading c.requires.row_room c.requires.text_room (c.parse_next.ensures.value, c.parse_next.ensures.store_after) (c.in-Ok-Some.is ∙ ap Ok c.in-Ok-Some.field-0-is))
+overflow_add-text c = omega (arith, c.text_length-text.ensures, c.requires.text_room.bits, laws.taken-within c.loop-read.invariant.reading c.requires.row_room c.requires.text_room (c.parse_next.ensures.value, c.parse_next.ensures.store_after) (c.in-Ok-Some.is ∙ ap Ok c.in-Ok-Some.field-0-is), laws.text-short c.loop-read.invariant.reading c.requires.row_room c.requires.text_room (c.parse_next.ensures.value, c.parse_next.ensures.store_after) (c.in-Ok-Some.is ∙ ap Ok c.in-Ok-Some.field-0-is))
 
-pub loop-component-smaller : goal.loop-component-smaller
-loop-component-smaller c = omega (arith, laws.taken-within c.loop-component.invariant.reading c.requires.row_room c.requires.text_room (c.parse_next.ensures.value, c.parse_next.ensures.store_after) (c.in-Ok-Some.is ∙ ap Ok c.in-Ok-Some.field-0-is), laws.taken_more c.loop-component.invariant.reading c.requires.row_room c.requires.text_room (c.parse_next.ensures.value, c.parse_next.ensures.store_after) (c.in-Ok-Some.is ∙ ap Ok c.in-Ok-Some.field-0-is))
+pub loop-read-smaller : goal.loop-read-smaller
+loop-read-smaller c = omega (arith, laws.taken-within c.loop-read.invariant.reading c.requires.row_room c.requires.text_room (c.parse_next.ensures.value, c.parse_next.ensures.store_after) (c.in-Ok-Some.is ∙ ap Ok c.in-Ok-Some.field-0-is), laws.taken_more c.loop-read.invariant.reading c.requires.row_room c.requires.text_room (c.parse_next.ensures.value, c.parse_next.ensures.store_after) (c.in-Ok-Some.is ∙ ap Ok c.in-Ok-Some.field-0-is))
 
-pub loop-component-preserved : goal.loop-component-preserved
-loop-component-preserved c = record { same = record { rules = c.loop-component.invariant.same.rules; tokens = c.loop-component.invariant.same.tokens; brackets = c.loop-component.invariant.same.brackets; texts = c.loop-component.invariant.same.texts }; work = record { tokens = c.loop-component.invariant.work.tokens; brackets = c.loop-component.invariant.work.brackets }; reading = laws.goes c.loop-component.invariant.reading c.requires.row_room c.requires.text_room (c.parse_next.ensures.value, c.parse_next.ensures.store_after) (c.in-Ok-Some.is ∙ ap Ok c.in-Ok-Some.field-0-is) c.is_kept-kept.ensures c.from-rows.ensures c.put_kept.ensures c.text_length-text.ensures }
-
-pub returns-then-taken-eq0 : goal.returns-then-taken-eq0
-returns-then-taken-eq0 c = let t : goal.returns-then-taken-eq0-raw c = (record { rules = c.loop-component.invariant.same.rules; tokens = c.loop-component.invariant.same.tokens; brackets = c.loop-component.invariant.same.brackets; texts = c.loop-component.invariant.same.texts }, (record { tokens = c.loop-component.invariant.work.tokens; brackets = c.loop-component.invariant.work.brackets }, laws.first-fails c.loop-component.invariant.reading c.requires.row_room c.requires.text_room (c.parse_next.ensures.value, c.parse_next.ensures.store_after) (c.in-Ok-None.is ∙ ap Ok c.in-Ok-None.field-0-is) c.if-taken-eq0.true)) in record { same = t.0; work_unchanged = t.1.0; value = t.1.1.0; rules_after = t.1.1.1.0; texts_after = t.1.1.1.1 }
+pub loop-read-preserved : goal.loop-read-preserved
+loop-read-preserved c = record { same = record { rules = c.loop-read.invariant.same.rules; tokens = c.loop-read.invariant.same.tokens; brackets = c.loop-read.invariant.same.brackets; texts = c.loop-read.invariant.same.texts }; work = record { tokens = c.loop-read.invariant.work.tokens; brackets = c.loop-read.invariant.work.brackets }; reading = laws.goes c.loop-read.invariant.reading c.requires.row_room c.requires.text_room (c.parse_next.ensures.value, c.parse_next.ensures.store_after) (c.in-Ok-Some.is ∙ ap Ok c.in-Ok-Some.field-0-is) c.is_kept-kept.ensures c.from-rows.ensures c.put_kept.ensures c.text_length-text.ensures }
 
 pub returns-in-Ok-None : goal.returns-in-Ok-None
-returns-in-Ok-None c = let t : goal.returns-in-Ok-None-raw c = (record { rules = c.loop-component.invariant.same.rules; tokens = c.loop-component.invariant.same.tokens; brackets = c.loop-component.invariant.same.brackets; texts = c.loop-component.invariant.same.texts }, (record { tokens = c.loop-component.invariant.work.tokens; brackets = c.loop-component.invariant.work.brackets }, laws.stops c.loop-component.invariant.reading c.requires.row_room c.requires.text_room (c.parse_next.ensures.value, c.parse_next.ensures.store_after) (c.in-Ok-None.is ∙ ap Ok c.in-Ok-None.field-0-is) c.if-taken-eq0.false)) in record { same = t.0; work_unchanged = t.1.0; value = t.1.1.0; rules_after = t.1.1.1.0; texts_after = t.1.1.1.1 }
+returns-in-Ok-None c = let t = laws.ends-there c.loop-read.invariant.reading c.requires.row_room c.requires.text_room (c.parse_next.ensures.value, c.parse_next.ensures.store_after) (c.in-Ok-None.is ∙ ap Ok c.in-Ok-None.field-0-is) in record { same = record { rules = c.loop-read.invariant.same.rules; tokens = c.loop-read.invariant.same.tokens; brackets = c.loop-read.invariant.same.brackets; texts = c.loop-read.invariant.same.texts }; work_unchanged = record { tokens = c.loop-read.invariant.work.tokens; brackets = c.loop-read.invariant.work.brackets }; value = ap Ok c.then_some.ensures ∙ t.0; rules_after = t.1.0; texts_after = t.1.1 }
 
 pub behind-requires : goal.behind-requires
-behind-requires c = omega (arith, c.requires.text_room.bits, laws.panic-within c.loop-component.invariant.reading c.requires.row_room c.requires.text_room (c.parse_next.ensures.value, c.parse_next.ensures.store_after) c.in-Err.is)
+behind-requires c = omega (arith, c.requires.text_room.bits, laws.panic-within c.loop-read.invariant.reading c.requires.row_room c.requires.text_room (c.parse_next.ensures.value, c.parse_next.ensures.store_after) c.in-Err.is)
 
 pub returns-in-Err : goal.returns-in-Err
-returns-in-Err c = let t = laws.panics-left c.loop-component.invariant.reading c.requires.row_room c.requires.text_room (c.parse_next.ensures.value, c.parse_next.ensures.store_after) c.in-Err.is c.take_back.ensures.rules_after c.take_back.ensures.texts_after in record { same = same-then (record { rules = c.loop-component.invariant.same.rules; tokens = c.loop-component.invariant.same.tokens; brackets = c.loop-component.invariant.same.brackets; texts = c.loop-component.invariant.same.texts }) c.take_back.ensures.same; work_unchanged = work-then (record { tokens = c.loop-component.invariant.work.tokens; brackets = c.loop-component.invariant.work.brackets }) c.take_back.ensures.work_unchanged; value = ap Err c.behind.ensures ∙ t.0; rules_after = t.1.0; texts_after = t.1.1 }
+returns-in-Err c = let t = laws.panics-left c.loop-read.invariant.reading c.requires.row_room c.requires.text_room (c.parse_next.ensures.value, c.parse_next.ensures.store_after) c.in-Err.is c.take_back.ensures.rules_after c.take_back.ensures.texts_after in record { same = same-then (record { rules = c.loop-read.invariant.same.rules; tokens = c.loop-read.invariant.same.tokens; brackets = c.loop-read.invariant.same.brackets; texts = c.loop-read.invariant.same.texts }) c.take_back.ensures.same; work_unchanged = work-then (record { tokens = c.loop-read.invariant.work.tokens; brackets = c.loop-read.invariant.work.brackets }) c.take_back.ensures.work_unchanged; value = ap Err c.behind.ensures ∙ t.0; rules_after = t.1.0; texts_after = t.1.1 }

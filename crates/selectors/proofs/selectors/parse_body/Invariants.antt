@@ -5,9 +5,9 @@ use Rattle.combinators.proofs.LentLaws.{Lending}
 use Rattle.selectors.proofs.ComponentTurns as laws
 use Rattle.selectors.proofs.selectors.parse_body.Given as goal
 
-abbrev pub invariant-loop-component : goal.invariant-loop-component
-invariant-loop-component l =
+abbrev pub invariant-loop-read : goal.invariant-loop-read
+invariant-loop-read l =
     Lending (laws.Reading-on l.s l.initial.stores.rules.now l.place l.initial.stores.texts.now l.fill l.stores.rules.now l.stores.texts.now l.taken l.count l.numbers l.text) l.initial.stores l.stores
 
-abbrev pub decreases-loop-component : goal.decreases-loop-component
-decreases-loop-component l = length l.s - l.taken
+abbrev pub decreases-loop-read : goal.decreases-loop-read
+decreases-loop-read l = length l.s - l.taken

@@ -8,9 +8,9 @@ pub parse_stylesheet-requires : goal.parse_stylesheet-requires
 parse_stylesheet-requires c = laws.room c.requires c.clear.ensures.rules_after c.clear.ensures.tokens_after c.clear.ensures.brackets_after c.clear.ensures.texts_after (omega arith)
 
 pub returns-clause-stores_after : goal.returns-clause-stores_after
-returns-clause-stores_after c = laws.sheet-read c.requires c.clear.ensures.rules_after c.clear.ensures.tokens_after c.clear.ensures.brackets_after c.clear.ensures.texts_after c.parse_stylesheet.ensures.value c.parse_stylesheet.ensures.rules_after c.parse_stylesheet.ensures.work_unchanged.tokens c.parse_stylesheet.ensures.work_unchanged.brackets c.parse_stylesheet.ensures.texts_after c.in_ok-read.was
+returns-clause-stores_after c = laws.sheet-read c.requires c.clear.ensures.rules_after c.clear.ensures.tokens_after c.clear.ensures.brackets_after c.clear.ensures.texts_after c.parse_stylesheet.ensures.value c.parse_stylesheet.ensures.rules_after c.parse_stylesheet.ensures.work_unchanged.tokens c.parse_stylesheet.ensures.work_unchanged.brackets c.parse_stylesheet.ensures.texts_after c.in_ok-parse_stylesheet.was
 
-pub returns-in_err-read-clause-stores_after : goal.returns-in_err-read-clause-stores_after
-returns-in_err-read-clause-stores_after c =
+pub returns-in_err-parse_stylesheet-clause-stores_after : goal.returns-in_err-parse_stylesheet-clause-stores_after
+returns-in_err-parse_stylesheet-clause-stores_after c =
     let p = err_from_is_err_and c.from_residual.result c.from_residual.ensures.1 in
-    rw (p.1, p.2) (laws.sheet-panics c.requires c.clear.ensures.rules_after c.clear.ensures.tokens_after c.clear.ensures.brackets_after c.clear.ensures.texts_after c.parse_stylesheet.ensures.value c.parse_stylesheet.ensures.rules_after c.parse_stylesheet.ensures.work_unchanged.tokens c.parse_stylesheet.ensures.work_unchanged.brackets c.parse_stylesheet.ensures.texts_after c.in_err-read.was)
+    rw (p.1, p.2) (laws.sheet-panics c.requires c.clear.ensures.rules_after c.clear.ensures.tokens_after c.clear.ensures.brackets_after c.clear.ensures.texts_after c.parse_stylesheet.ensures.value c.parse_stylesheet.ensures.rules_after c.parse_stylesheet.ensures.work_unchanged.tokens c.parse_stylesheet.ensures.work_unchanged.brackets c.parse_stylesheet.ensures.texts_after c.in_err-parse_stylesheet.was)

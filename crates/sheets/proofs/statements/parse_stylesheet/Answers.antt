@@ -39,5 +39,5 @@ behind-requires c = omega (arith, c.requires.work.text-bits, laws.panic-fits c.l
 pub returns-in-Err : goal.returns-in-Err
 returns-in-Err c = let t = laws.panics-left c.loop-taken.invariant.reading c.loop-taken-test.true c.requires (c.parse_statement.ensures.value, (c.parse_statement.ensures.rules_after, (c.parse_statement.ensures.work_unchanged.tokens, (c.parse_statement.ensures.work_unchanged.brackets, c.parse_statement.ensures.texts_after)))) c.in-Err.is c.take_back.ensures.rules_after c.take_back.ensures.texts_after in record { same = same-then (same-then c.loop-taken.invariant.same c.parse_statement.ensures.same) c.take_back.ensures.same; work_unchanged = record { tokens = c.take_back.ensures.work_unchanged.tokens ∙ t.1.1.0; brackets = c.take_back.ensures.work_unchanged.brackets ∙ t.1.1.1.0 }; value = ap Err c.behind.ensures ∙ t.0; rules_after = t.1.0; texts_after = t.1.1.1.1 }
 
-pub returns : goal.returns
-returns c = let t : goal.returns-raw c = with_work (c.loop-taken.invariant.same) (laws.at-end c.loop-taken.invariant.reading c.loop-taken-test.false) in record { same = t.0; work_unchanged = t.1.0; value = t.1.1.0; rules_after = t.1.1.1.0; texts_after = t.1.1.1.1 }
+pub returns-after-loop-taken : goal.returns-after-loop-taken
+returns-after-loop-taken c = let t : goal.returns-after-loop-taken-raw c = with_work (c.loop-taken.invariant.same) (laws.at-end c.loop-taken.invariant.reading c.loop-taken-test.false) in record { same = t.0; work_unchanged = t.1.0; value = t.1.1.0; rules_after = t.1.1.1.0; texts_after = t.1.1.1.1 }

@@ -4,4 +4,4 @@ use Rattle.stepping.proofs.StyleLaws as laws
 use Rattle.stepping.proofs.merging.merge_counted.Given as goal
 
 abbrev pub invariant-loop : goal.invariant-loop
-invariant-loop l = laws.StylesMerging l.compiled l.count l.at l.origin l.pseudo l.spec l.initial.out (l.count - l.counter) l.next l.out
+invariant-loop l = laws.StylesMerging l.sheet.bytes.now l.count l.at l.origin l.pseudo l.spec l.initial.out (l.count - l.counter) l.next l.out

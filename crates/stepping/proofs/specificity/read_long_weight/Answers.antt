@@ -4,8 +4,8 @@ use Rattle.compiled.proofs.Answers.{raised}
 use Rattle.stepping.proofs.WeightLaws as laws
 use Rattle.stepping.proofs.specificity.read_long_weight.Goals as goal
 
-pub returns-in_err-component : goal.returns-in_err-component
-returns-in_err-component c = raised _ _ c.from_residual.ensures.1 ∙ laws.fault-weight _ _ _ c.read_component.ensures.value _ c.in_err-component.was
+pub returns-in_err-read_component : goal.returns-in_err-read_component
+returns-in_err-read_component c = raised _ _ c.from_residual.ensures.1 ∙ laws.fault-weight _ _ _ c.read_component.ensures.value _ c.in_err-read_component.was
 
 pub returns : goal.returns
-returns c = laws.long-weight _ _ _ c.read_component.ensures.value _ c.in_ok-component.was _ c.written_weight.ensures
+returns c = laws.long-made _ _ _ c.read_component.ensures.value _ c.in_ok-read_component.was _ c.map.ensures.next c.map.ensures.value

@@ -6,4 +6,4 @@ pub returns-in-Some-eq1 : goal.returns-in-Some-eq1
 returns-in-Some-eq1 c = laws.short-alone _ _ _ c.in-Some-eq1.ensures c.in-Some-eq1.field-0-test
 
 pub returns-in-Some : goal.returns-in-Some
-returns-in-Some c = laws.short-named _ _ _ c.in-Some.ensures c.in-Some.size-test.1 _ c.from.ensures _ c.name_weight.ensures
+returns-in-Some c = laws.short-named _ _ _ c.in-Some.ensures c.in-Some.size-test.1 _ c.from.ensures _ (laws.name-adds _ _ c.name_weight.ensures)

@@ -3,4 +3,6 @@ use Rattle.stepping.proofs.StepLaws as laws
 use Rattle.stepping.proofs.step.open_element.Goals as goal
 
 pub returns : goal.returns
-returns c = rw (c.split_at_mut-rest.ensures.front) (laws.element-opened _ _ c.requires.open_lent _ c.requires.below _ _ _ _ _ _ _ _ _ _ c.split_at_mut-rest.ensures.back c.split_at_mut-above.ensures.front c.split_at_mut-above.ensures.back c.open_child.auto.above c.open_child.auto.own c.open_child.ensures)
+returns c =
+    let w = c.part_width-width.ensures in
+    rw (c.split_at_mut-rest.ensures.front, w) (laws.element-opened _ _ c.requires.open_lent _ c.requires.below _ _ _ _ _ _ _ _ _ _ (rw w at c.split_at_mut-rest.ensures.back) (rw w at c.split_at_mut-above.ensures.front) (rw w at c.split_at_mut-above.ensures.back) c.open_child.auto.above (rw w at c.open_child.auto.own) (rw w at c.open_child.ensures))

@@ -5,4 +5,4 @@ use Rattle.sweeps.proofs.CodeCompoundLaws as laws
 use Rattle.sweeps.proofs.compounds.compound_at.Given as goal
 
 abbrev pub invariant-loop : goal.invariant-loop
-invariant-loop l = laws.Ending l.compiled (row_alone l.element) l.limit l.may l.at l.place (l.limit - l.counter) l.ends
+invariant-loop l = laws.Ending l.row.compiled.now (row_alone l.row.element) l.limit l.may l.at l.place (l.limit - l.counter) l.ends

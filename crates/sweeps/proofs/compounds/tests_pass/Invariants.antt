@@ -5,4 +5,4 @@ use Rattle.sweeps.proofs.CodeCompoundLaws as laws
 use Rattle.sweeps.proofs.compounds.tests_pass.Given as goal
 
 abbrev pub invariant-loop : goal.invariant-loop
-invariant-loop l = laws.Testing l.compiled (row_alone l.element) l.count l.at l.next (l.count - l.counter)
+invariant-loop l = laws.Testing l.row.compiled.now (row_alone l.row.element) l.count l.at l.next (l.count - l.counter)

@@ -3,4 +3,4 @@ use Rattle.sweeps.proofs.CodePartLaws as laws
 use Rattle.sweeps.proofs.parts.put_fresh.Goals as goal
 
 pub returns : goal.returns
-returns c = laws.fresh-stored _ _ _ _ _ _ _ c.put_zeros.ensures c.put_mark.ensures
+returns c = laws.fresh-stored _ _ _ _ _ _ _ c.fill_part.ensures c.put_mark.ensures

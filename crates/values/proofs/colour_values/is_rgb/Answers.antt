@@ -7,7 +7,7 @@ use Rattle.values.proofs.colour_values.is_rgb.Goals as goal
 
 pub returns-then-is_kind : goal.returns-then-is_kind
 unfolding text utf8 continuation pick
-returns-then-is_kind c = laws.name-there _ _ _ c.is_kind.ensures c.if-is_kind.true _ c.text_at.ensures _ (rw c.as_bytes.ensures.value at c.eq.ensures)
+returns-then-is_kind c = laws.name-there _ _ _ c.is_kind.ensures c.if-is_kind.true _ c.text.ensures _ (rw c.as_bytes.ensures.value at c.eq.ensures)
 
 pub returns-else-is_kind : goal.returns-else-is_kind
 returns-else-is_kind c = laws.name-none _ _ _ c.is_kind.ensures c.if-is_kind.false

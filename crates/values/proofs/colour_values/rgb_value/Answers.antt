@@ -3,4 +3,4 @@ use Rattle.values.proofs.ColourValues as laws
 use Rattle.values.proofs.colour_values.rgb_value.Goals as goal
 
 pub returns : goal.returns
-returns c = laws.value-here _ _ _ _ _ c.text_at.ensures c.text_at-2.ensures c.text_at-3.ensures _ c.rgb_colour.ensures
+returns c = laws.value-here _ _ _ _ _ c.text.ensures c.text-2.ensures c.text-3.ensures _ c.rgb_colour.ensures

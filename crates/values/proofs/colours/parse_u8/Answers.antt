@@ -7,4 +7,4 @@ use Rattle.values.proofs.colours.parse_u8.Goals as goal
 
 pub returns : goal.returns
 unfolding parse_u8
-returns c = c.parse_in.ensures ∙ ap number_answer (laws.digits_same _ _ laws.decimal_digit _ _ _ _)
+returns c = c.byte_in.ensures ∙ ap number_answer (laws.digits_same _ _ laws.decimal_digit _ _ _ _)

@@ -1,5 +1,4 @@
 -- Each text is a number up to 255 or there is no colour; three of them are one.
-use native.Mathlib.Omega.{arith}
 use mathlib.Core.Path.{◌∙◌}
 use Rattle.values.proofs.ColourLaws as laws
 use Rattle.values.proofs.colours.rgb_colour.Goals as goal
@@ -12,15 +11,6 @@ returns-in_err-green c = c.from_residual-in_err-green.ensures ∙ laws.green-non
 
 pub returns-in_err-blue : goal.returns-in_err-blue
 returns-in_err-blue c = c.from_residual-in_err-blue.ensures ∙ laws.blue-none _ _ _ _ c.parse_u8.ensures _ c.in_ok-red.was _ c.parse_u8-2.ensures _ c.in_ok-green.was _ c.parse_u8-3.ensures c.in_err-blue.was
-
-pub overflow_cast-red : goal.overflow_cast-red
-overflow_cast-red c = omega (arith, laws.byte_le _ _ _ c.parse_u8.ensures c.in_ok-red.was)
-
-pub overflow_cast-green : goal.overflow_cast-green
-overflow_cast-green c = omega (arith, laws.byte_le _ _ _ c.parse_u8-2.ensures c.in_ok-green.was)
-
-pub overflow_cast-blue : goal.overflow_cast-blue
-overflow_cast-blue c = omega (arith, laws.byte_le _ _ _ c.parse_u8-3.ensures c.in_ok-blue.was)
 
 pub returns : goal.returns
 returns c = laws.three-numbers _ _ _ _ c.parse_u8.ensures _ c.in_ok-red.was _ c.parse_u8-2.ensures _ c.in_ok-green.was _ c.parse_u8-3.ensures _ c.in_ok-blue.was _ c.colour_number.ensures

@@ -10,4 +10,4 @@ use Rattle.values.proofs.heights.has_unit.Goals as goal
 pub returns : goal.returns
 unfolding text utf8 continuation pick
 returns c =
-    c.any_of.ensures ∙ ap (λ w. any_of w units) (views.unit-cut _ _ _ _ _ _ c.number_at-start.ensures c.number_at-first.ensures c.place_at.ensures _ c.part_of-unit.ensures)
+    c.any_of.ensures ∙ ap (λ w. any_of w units) (views.unit-cut _ _ _ _ _ _ c.place.ensures.value c.place-2.ensures.value c.place-3.ensures.value _ c.part_of-unit.ensures)

@@ -15,8 +15,8 @@ overflow_add-at c = omega (arith, laws.place-fits c.loop-start.invariant.running
 pub overflow_add-fill : goal.overflow_add-fill
 overflow_add-fill c = omega (arith, laws.place-fits c.loop-start.invariant.running c.requires)
 
-pub returns : goal.returns
-returns c = let t : goal.returns-raw c = (record { rules = c.loop-start.invariant.same.rules; tokens = c.loop-start.invariant.same.tokens; brackets = c.loop-start.invariant.same.brackets; texts = c.loop-start.invariant.same.texts }, (c.loop-start.invariant.rules, laws.ends-none c.loop-start.invariant.running c.parse_token.ensures.store_after _ c.parse_token.ensures.value c.in_default.is)) in record { same = t.0; rules_unchanged = t.1.0; work_after = t.1.1.0; bounds = t.1.1.1 }
+pub returns-in_default : goal.returns-in_default
+returns-in_default c = let t : goal.returns-in_default-raw c = (record { rules = c.loop-start.invariant.same.rules; tokens = c.loop-start.invariant.same.tokens; brackets = c.loop-start.invariant.same.brackets; texts = c.loop-start.invariant.same.texts }, (c.loop-start.invariant.rules, laws.ends-none c.loop-start.invariant.running c.parse_token.ensures.store_after _ c.parse_token.ensures.value c.in_default.is)) in record { same = t.0; rules_unchanged = t.1.0; work_after = t.1.1.0; bounds = t.1.1.1 }
 
 pub overflow_add-byte : goal.overflow_add-byte
 overflow_add-byte c = omega (arith, laws.byte_fits c.loop-start.invariant.running c.parse_token.ensures.value c.in-Some.is c.requires)

@@ -5,4 +5,4 @@ use Rattle.engine.proofs.length.LengthResultFromResultOptionLengthLengthError.fr
 
 pub returns : goal.returns
 unfolding numbers_in
-returns c = results.length-numbers _ c.numbers_of-kind.ensures
+returns c = results.length-numbers _ c.from-kind.ensures

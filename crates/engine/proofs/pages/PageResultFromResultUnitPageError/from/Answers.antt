@@ -5,4 +5,4 @@ use Rattle.engine.proofs.pages.PageResultFromResultUnitPageError.from.Goals as g
 
 pub returns : goal.returns
 unfolding refusal_in
-returns c = results.page-refused _ c.refusal_of-refusal.ensures
+returns c = results.page-refused _ (results.page-told _ c.refusal_of-refusal.ensures)

@@ -1,7 +1,6 @@
--- The part that is compared is the value of the row.
-use Rattle.matching.proofs.AttributeLaws.{valued}
-use borrow.Author.Rules.{rules}
+-- What is compared is the value of the row.
+use Rattle.matching.proofs.AttributeLaws.{compared}
 use Rattle.matching.proofs.elements.Attributes.has_value.Goals as goal
 
 pub returns : goal.returns
-returns c = search (rules, valued)
+returns c = compared _ _ _ c.attribute_value.ensures _ c.eq.ensures

@@ -1,7 +1,6 @@
--- The part that is compared is the name of the row.
+-- What is compared is the name of the row.
 use Rattle.matching.proofs.AttributeLaws.{named}
-use borrow.Author.Rules.{rules}
 use Rattle.matching.proofs.elements.Attributes.is_named.Goals as goal
 
 pub returns : goal.returns
-returns c = search (rules, named)
+returns c = named _ _ _ _ _ c.attribute_name.ensures _ c.eq.ensures

@@ -5,15 +5,15 @@ use native.Mathlib.Omega.{arith}
 use Rattle.path_styles.proofs.rules.SheetMerge.merge_rules.Goals as goal
 
 pub loop-init : goal.loop-init
-loop-init c = (laws.rules-begin _ _ _ _ _ _ _ _ _ _ _ (omega arith), numbers.rules-right _ _ _ _ _ _ _ _ c.args.count _ _ (omega arith) c.requires.right_tops)
+loop-init c = (laws.rules-begin _ _ _ _ _ _ _ _ _ _ _ (omega arith), numbers.rules-right _ _ _ _ _ _ _ _ c.args.sheet.styled.rules.count _ _ (omega arith) c.requires.right_tops)
 
-pub merge_rule-place-requires : goal.merge_rule-place-requires
-merge_rule-place-requires c = record { right_tops = numbers.rule-tops _ _ _ _ _ _ _ _ _ _ c.loop.invariant.1 (omega arith) }
+pub merge_rule-requires : goal.merge_rule-requires
+merge_rule-requires c = record { right_tops = numbers.rule-tops _ _ _ _ _ _ _ _ _ _ c.loop.invariant.1 (omega arith) }
 
 pub loop-preserved : goal.loop-preserved
 loop-preserved c = (
-  laws.rules-more _ _ _ _ _ _ _ _ _ _ _ _ _ _ c.loop.invariant.0 (omega arith) _ (omega arith) _ c.merge_rule-place.ensures.out_after _ c.merge_rule-place.ensures.rows_value _ c.skip_kept-kept.ensures,
-  numbers.later-tops _ _ _ _ _ _ _ _ _ _ c.loop.invariant.1 (omega arith) _ c.number_at-selectors.ensures _ c.merge_rule-place.ensures.rows_value _ c.forward-top_place.ensures.rows_value _ (omega arith),
+  laws.rules-more _ _ _ _ _ _ _ _ _ _ _ _ _ _ c.loop.invariant.0 (omega arith) _ (omega arith) _ c.merge_rule.ensures.out_after _ c.merge_rule.ensures.rows_value _ c.skip_kept.ensures,
+  numbers.later-tops _ _ _ _ _ _ _ _ _ _ c.loop.invariant.1 (omega arith) _ c.number_at-selectors.ensures _ c.merge_rule.ensures.rows_value _ c.forward.ensures.rows_value _ (omega arith),
 )
 
 pub returns : goal.returns

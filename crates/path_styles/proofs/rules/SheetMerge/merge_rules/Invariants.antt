@@ -7,5 +7,5 @@ use Rattle.path_styles.proofs.rules.SheetMerge.merge_rules.Given as goal
 
 abbrev pub invariant-loop : goal.invariant-loop
 invariant-loop l =
-    laws.RulesMerging l.self.cascade l.self.origin (path_of l.self.element.page.nodes.now l.self.element.page.attributes.now l.self.element.page.text.now l.self.element.row) l.self.texts.now l.self.rows.now l.count l.at l.self.styles.now l.first l.initial.out (l.count - l.counter) l.place l.kept l.out
-    × numbers.RulesRight l.self.element.page.nodes.now l.self.element.page.attributes.now l.self.element.page.text.now l.self.element.row l.self.texts.now l.self.rows.now l.self.styles.now (l.count - l.counter) l.place l.top_place
+    laws.RulesMerging l.self.cascade l.self.origin (path_of l.self.element.page.nodes.now l.self.element.page.attributes.now l.self.element.page.text.now l.self.element.row) l.self.texts.now l.self.rows.now l.fn.sheet.styled.rules.count l.fn.sheet.styled.rules.place l.self.styles.now l.fn.sheet.styled.styles l.initial.out (l.fn.sheet.styled.rules.count - l.counter) l.next.row l.next.styles l.out
+    × numbers.RulesRight l.self.element.page.nodes.now l.self.element.page.attributes.now l.self.element.page.text.now l.self.element.row l.self.texts.now l.self.rows.now l.self.styles.now (l.fn.sheet.styled.rules.count - l.counter) l.next.row l.next.tops

@@ -10,5 +10,5 @@ use Rattle.path_styles.proofs.rules.SheetMerge.merge_selectors.Given as goal
 
 abbrev pub invariant-loop : goal.invariant-loop
 invariant-loop l =
-    laws.SelectorsMerging l.self.cascade l.self.origin (path_of l.self.element.page.nodes.now l.self.element.page.attributes.now l.self.element.page.text.now l.self.element.row) (read_many read_styled l.count (drop l.first l.self.styles.now)).value l.self.texts.now l.self.rows.now l.selectors l.at l.initial.out (l.selectors - l.counter) l.place l.out
+    laws.SelectorsMerging l.self.cascade l.self.origin (path_of l.self.element.page.nodes.now l.self.element.page.attributes.now l.self.element.page.text.now l.self.element.row) (read_many read_styled l.count (drop l.fn.places.styles l.self.styles.now)).value l.self.texts.now l.self.rows.now l.selectors l.fn.places.row l.initial.out (l.selectors - l.counter) l.place l.out
     × numbers.SelectorsRight l.self.element.page.nodes.now l.self.element.page.attributes.now l.self.element.page.text.now l.self.element.row l.self.texts.now l.self.rows.now l.self.styles.now (l.selectors - l.counter) l.place l.top_place

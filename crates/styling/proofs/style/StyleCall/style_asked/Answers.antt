@@ -9,12 +9,17 @@ invariant_of-element c =
     let e = laws.page-passed c.in_ok-check_page.was c.check_page.ensures in
     record { rooted = laws.rooted a.self.now.cascade a.self.now.settings (record { agent = a.self.now.sheets.agent.now; user = a.self.now.sheets.user.now; author = a.self.now.sheets.author.now }) (record { nodes = a.page.nodes.now; attributes = a.page.attributes.now; text = a.page.text.now }) a.row a.out.now a.stores.now.texts.now a.stores.now.rules.now a.stores.now.tokens.now a.stores.now.brackets.now c.requires e refl c.is_element.ensures c.if-not-is_element.false }
 
+pub invariant_of-asked : goal.invariant_of-asked
+invariant_of-asked c =
+    let a = c.args in
+    let e = laws.page-passed c.in_ok-check_page.was c.check_page.ensures in
+    record { row_lt_number_bound = laws.few-rows a.self.now.cascade a.self.now.settings (record { agent = a.self.now.sheets.agent.now; user = a.self.now.sheets.user.now; author = a.self.now.sheets.author.now }) (record { nodes = a.page.nodes.now; attributes = a.page.attributes.now; text = a.page.text.now }) a.row a.out.now a.stores.now.texts.now a.stores.now.rules.now a.stores.now.tokens.now a.stores.now.brackets.now c.requires e refl c.is_element.ensures c.if-not-is_element.false }
+
 pub style_in_front-requires : goal.style_in_front-requires
 style_in_front-requires c =
     let a = c.args in
     let e = laws.page-passed c.in_ok-check_page.was c.check_page.ensures in
     record {
-      row_lt_number_bound = laws.few-rows a.self.now.cascade a.self.now.settings (record { agent = a.self.now.sheets.agent.now; user = a.self.now.sheets.user.now; author = a.self.now.sheets.author.now }) (record { nodes = a.page.nodes.now; attributes = a.page.attributes.now; text = a.page.text.now }) a.row a.out.now a.stores.now.texts.now a.stores.now.rules.now a.stores.now.tokens.now a.stores.now.brackets.now c.requires e refl c.is_element.ensures c.if-not-is_element.false;
       lent = laws.lent a.self.now.cascade a.self.now.settings (record { agent = a.self.now.sheets.agent.now; user = a.self.now.sheets.user.now; author = a.self.now.sheets.author.now }) (record { nodes = a.page.nodes.now; attributes = a.page.attributes.now; text = a.page.text.now }) a.row a.out.now a.stores.now.texts.now a.stores.now.rules.now a.stores.now.tokens.now a.stores.now.brackets.now c.requires e refl c.is_element.ensures c.if-not-is_element.false;
       call_lent = laws.call-lent a.self.now.cascade a.self.now.settings (record { agent = a.self.now.sheets.agent.now; user = a.self.now.sheets.user.now; author = a.self.now.sheets.author.now }) (record { nodes = a.page.nodes.now; attributes = a.page.attributes.now; text = a.page.text.now }) a.row a.out.now a.stores.now.texts.now a.stores.now.rules.now a.stores.now.tokens.now a.stores.now.brackets.now c.requires e refl c.is_element.ensures c.if-not-is_element.false;
     }

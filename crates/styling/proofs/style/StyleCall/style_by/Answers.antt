@@ -1,5 +1,4 @@
 -- The refusals in their order; where none applies, the page and the row are asked for.
-use native.Mathlib.Omega.{arith}
 use Rattle.styling.specs.StyleAnswer.{call_bytes}
 use Rattle.styling.proofs.StyleCalls as laws
 use Rattle.styling.proofs.style.StyleCall.style_by.Goals as goal
@@ -7,12 +6,6 @@ use Rattle.styling.proofs.style.StyleCall.style_by.Goals as goal
 pub returns-then-any_too_long-clause-left : goal.returns-then-any_too_long-clause-left
 returns-then-any_too_long-clause-left c = let a = c.args in
     laws.too_long_lem a.self.now.cascade a.self.now.settings (record { agent = a.self.now.sheets.agent.now; user = a.self.now.sheets.user.now; author = a.self.now.sheets.author.now }) (record { nodes = a.page.nodes.now; attributes = a.page.attributes.now; text = a.page.text.now }) a.row a.out.now a.stores.now.texts.now a.stores.now.rules.now a.stores.now.tokens.now a.stores.now.brackets.now c.any_too_long.ensures c.if-any_too_long.true laws.told-too-long (laws.refused-numbers _)
-
-pub overflow_add-sheets : goal.overflow_add-sheets
-overflow_add-sheets c = let a = c.args in record { fits = omega (arith, laws.three-fit a.self.now.cascade a.self.now.settings (record { agent = a.self.now.sheets.agent.now; user = a.self.now.sheets.user.now; author = a.self.now.sheets.author.now }) (record { nodes = a.page.nodes.now; attributes = a.page.attributes.now; text = a.page.text.now }) a.row a.out.now a.stores.now.texts.now a.stores.now.rules.now a.stores.now.tokens.now a.stores.now.brackets.now c.any_too_long.ensures c.if-any_too_long.false) }
-
-pub overflow_add-sheets-2 : goal.overflow_add-sheets-2
-overflow_add-sheets-2 c = let a = c.args in record { fits = laws.three-fit a.self.now.cascade a.self.now.settings (record { agent = a.self.now.sheets.agent.now; user = a.self.now.sheets.user.now; author = a.self.now.sheets.author.now }) (record { nodes = a.page.nodes.now; attributes = a.page.attributes.now; text = a.page.text.now }) a.row a.out.now a.stores.now.texts.now a.stores.now.rules.now a.stores.now.tokens.now a.stores.now.brackets.now c.any_too_long.ensures c.if-any_too_long.false }
 
 pub lent_suffices-requires : goal.lent_suffices-requires
 lent_suffices-requires c = let a = c.args in laws.few_bytes a.self.now.cascade a.self.now.settings (record { agent = a.self.now.sheets.agent.now; user = a.self.now.sheets.user.now; author = a.self.now.sheets.author.now }) (record { nodes = a.page.nodes.now; attributes = a.page.attributes.now; text = a.page.text.now }) a.row a.out.now a.stores.now.texts.now a.stores.now.rules.now a.stores.now.tokens.now a.stores.now.brackets.now c.any_too_long.ensures c.if-any_too_long.false

@@ -1,8 +1,0 @@
--- The struct has the refusal's number, and nothing else.
-use mathlib.Core.Path.{refl}
-use Rattle.comparison.specs.Attributes.{refused_styles}
-use Rattle.comparison.proofs.values_read.refused_styles.Goals as goal
-
-pub returns : goal.returns
-unfolding refused_styles
-returns c = refl

@@ -1,6 +1,0 @@
--- The slot and the number are emitted one behind the other.
-use Rattle.combinators.proofs.Emitted.{then}
-use Rattle.compiled.proofs.styles.emit_slot_number.Goals as goal
-
-pub returns-clause-written : goal.returns-clause-written
-returns-clause-written c = then _ _ _ _ _ c.emit_number.ensures.written c.emit_number-2.ensures.written

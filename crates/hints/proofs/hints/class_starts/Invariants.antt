@@ -1,7 +1,0 @@
--- Each attribute adds what its classes begin with, and those that are left are still to be asked.
-use Rattle.matching.specs.Matches.{is_class}
-use Rattle.hints.proofs.StartLaws as laws
-use Rattle.hints.proofs.hints.class_starts.Given as goal
-
-abbrev pub invariant-loop-row : goal.invariant-loop-row
-invariant-loop-row l = laws.Gathering is_class l.attributes l.text l.count l.starts l.row

@@ -1,8 +1,0 @@
--- Three bytes say the kind, the length and the first byte of the text, by which the hint excludes it; otherwise nothing is told.
-use native.Mathlib.Omega.{arith}
-use Rattle.std.proofs.lemmas.Bool.Decides.{nat_tests}
-use Rattle.hints.proofs.CodeFailLaws as laws
-use Rattle.hints.proofs.skipping.test_fails.Goals as goal
-
-pub returns-then-size-lt-ONE_GROUP : goal.returns-then-size-lt-ONE_GROUP
-returns-then-size-lt-ONE_GROUP c = λ e. laws.test-fails _ _ _ _ _ _ (omega (arith, c.saturating_sub.ensures, c.if-at-saturating_sub.false)) c.from-kind.ensures c.from-size.ensures c.from-byte.ensures (grind (arith, nat_tests)) (grind (arith, nat_tests)) (c.name_fails.ensures e)

@@ -1,0 +1,15 @@
+// What a block says of its selector.
+ghost use Rattle.std.specs.Prelude.{◌≤◌};
+ghost use Rattle.compiled.specs.Sheet.{compiled_limit};
+
+// No place of a selector or of a segment: what the bytes of a part have where there is none.
+pub const NO_PLACE: usize = 0;
+
+// The block of a selector without its flags: the place of the selector, that of the next one that has a style, and that of the segment that is awaited.
+#[derive(Clone, Copy, PartialEq, Eq)]
+pub struct Block {
+    pub place: usize,
+    pub next: usize,
+    pub awaited: usize,
+    pub ghost near: { place ≤ compiled_limit },
+}
