@@ -240,7 +240,7 @@ def rust_declared(path, text):
 
 
 def rust_constants(text):
-    return {name: value for name, value in re.findall(r"^(?:pub )?const (\w+): (?:usize|u32) = ([^;]+);", without_comments(text), flags=re.M)}
+    return {name: value.replace(" as usize", "") for name, value in re.findall(r"^(?:pub )?const (\w+): (?:usize|u32) = ([^;]+);", without_comments(text), flags=re.M)}
 
 
 def rust_functions(path, text):
@@ -315,6 +315,8 @@ def declarations(path, wanted, found, all_of_them=True):
 def source_constants(files, out):
     """The value of each constant that is repeated, by its name here; and which of them are due."""
     values_here, due = {}, set()
+    # a constant may be made of those of another crate, which its file takes from there
+    all_of_them = {name: value for path in CONSTANTS for name, value in rust_constants(files[path]).items()}
     for path, (pattern, names) in CONSTANTS.items():
         there = rust_constants(files[path])
         named = dict(word.split(":") if ":" in word else (word, word) for word in names.split())
@@ -322,7 +324,7 @@ def source_constants(files, out):
             if name not in there:
                 out.append(f"{path}: there is no constant {name}")
                 continue
-            values_here[here] = value_of(there[name], there, {})
+            values_here[here] = value_of(there[name], all_of_them | there, {})
             due.add(here)
         for name in there.keys() - set(named.values()):
             if re.match(pattern, name):
