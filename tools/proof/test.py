@@ -9,7 +9,7 @@ from importlib.machinery import SourceFileLoader
 from pathlib import Path
 
 import sources
-from sources import AnttFile, Reader, tokens
+from sources import AnttFile, Reader, shown, tokens
 
 HERE = Path(__file__).parent
 
@@ -316,6 +316,27 @@ class Twice(unittest.TestCase):
         twice = tool("twice")
         groups = [{d.name for d in g} for g in twice.definitions().values() if len(g) > 1]
         self.assertNotIn({"SheetTexts", "Page"}, groups)
+
+
+class Uncited(unittest.TestCase):
+    def setUp(self):
+        self.uncited = tool("uncited")
+
+    def test_what_a_proof_names_serves(self):
+        file = AnttFile("crates/x/proofs/X.antt", "use Rattle.x.proofs.Y.{law, ◌plus◌}\nuse Rattle.x.proofs.Z as other\n\nown : A → B\nown a = law a (other.far a) plus own\n")
+        names, modules = self.uncited.brought(file.uses)
+        found = set(self.uncited.named(self.uncited.said_by(file.declarations[0]), names, modules))
+        self.assertEqual(found, {("Rattle.x.proofs.Y", "law"), ("Rattle.x.proofs.Y", "◌plus◌"), ("Rattle.x.proofs.Z", "far")})
+
+    def test_a_case_is_computed(self):
+        file = AnttFile("crates/x/specs/X.antt", "two : 1 + 1 ≡ 2\ntwo = refl\n\ntest-more : A\ntest-more = (refl, refl)\n\nlaw : (n : ℕ) → n ≡ n\nlaw n = refl\n")
+        self.assertEqual([self.uncited.is_case(d) for d in file.declarations], [True, True, False])
+
+    def test_no_named_theorem_is_listed(self):
+        listed = {(shown(d.file.path), d.name) for d in self.uncited.uncited()}
+        named = [line.split() for line in (HERE / "theorems.txt").read_text(encoding="utf-8").splitlines() if "crates/" in line]
+        self.assertTrue(named)
+        self.assertFalse(listed & {(path, name) for name, path in named})
 
 
 class Believing(unittest.TestCase):

@@ -3,7 +3,6 @@ use Rattle.std.specs.Prelude.{ℕ, ◌≤◌, ◌≡◌, List, length, take}
 use Rattle.combinators.specs.LeastLengths.{Least}
 use Rattle.cascade.specs.declared.slots.Cascade.TheVariants.{Crate}
 use Rattle.cascade.specs.Row.{style_row_width}
-use Rattle.compiler.specs.declared.answers.CompileNumbers.{CompileNumbers}
 use Rattle.compiler.specs.CompileAnswer.{CompileLeft, compile_of}
 use Rattle.combinators.specs.declared.lent.Stores.{Stores}
 use Rattle.styles.specs.declared.settings.Settings.{Settings}
@@ -44,10 +43,6 @@ run_lent rows state s = record { rows = rows; texts = s.texts.now; state = state
 
 abbrev pub style_lent : List ℕ → Stores → StyleBuffers
 style_lent row s = record { row = row; texts = s.texts.now; rules = s.rules.now; tokens = s.tokens.now; brackets = s.brackets.now }
-
--- and what compiling leaves there
-abbrev pub compile_left : CompileNumbers → List ℕ → Stores → CompileLeft
-compile_left a compiled s = record { answer = a; compiled = compiled; texts = s.texts.now; rules = s.rules.now; tokens = s.tokens.now; brackets = s.brackets.now }
 
 -- ---- the calls
 abbrev pub compile_with : SheetTexts → CompileBuffers → CompileLeft

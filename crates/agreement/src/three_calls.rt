@@ -9,7 +9,7 @@ ghost use Rattle.styles.specs.Lent.{sheets_in};
 ghost use Rattle.styling.specs.StyleAnswer.{numbers_of, left_in};
 ghost use Rattle.running.specs.RunAnswer as run;
 ghost use Rattle.agreement.specs.Agreed.{Agreed};
-ghost use Rattle.agreement.specs.Calls.{compile_lent, run_lent, style_lent, compile_left, compile_with, run_with, style_with};
+ghost use Rattle.agreement.specs.Calls.{compile_lent, run_lent, style_lent, compile_with, run_with, style_with};
 
 use combinators::lent::{SheetTexts, Stores};
 use compiler::answers::CompileNumbers;
@@ -45,7 +45,7 @@ fn compile_and_run(
     state: &mut [u8],
     run_stores: &mut Stores<'_>,
 ) -> RunAnswers
-    ensures compile_after { compile_left (compiling.numbers_of result.compiling) compiled.new compile_stores.new
+    ensures compile_after { compiling.leaving (compiling.numbers_of result.compiling) compiled.new compile_stores.new
         ≡ compile_with (sheets_in sheets.entry) (compile_lent compiled.old compile_stores.old) }
     ensures run_after { run.left_in (run.numbers_of result.running) rows.new state.new run_stores.new
         ≡ run_with (take (compiling.numbers_of result.compiling).bytes compiled.new) settings (page_in page.entry) (run_lent rows.old state.old run_stores.old) }
@@ -77,13 +77,13 @@ pub fn compile_run_style(
     out: &mut [u32],
     style_stores: &mut Stores<'_>,
 ) -> CallAnswers
-    ensures compile_after { compile_left (compiling.numbers_of result.run.compiling) compiled.new compile_stores.new
+    ensures compile_after { compiling.leaving (compiling.numbers_of result.run.compiling) compiled.new compile_stores.new
         ≡ compile_with (sheets_in sheets.entry) (compile_lent compiled.old compile_stores.old) }
     ensures run_after { run.left_in (run.numbers_of result.run.running) rows.new state.new run_stores.new
         ≡ run_with (take (compiling.numbers_of result.run.compiling).bytes compiled.new) settings (page_in page.entry) (run_lent rows.old state.old run_stores.old) }
     ensures style_after { left_in (numbers_of result.styling) out.new style_stores.new
         ≡ style_with settings (sheets_in sheets.entry) (page_in page.entry) row (style_lent out.old style_stores.old) }
-    ensures agreed { Agreed (compile_left (compiling.numbers_of result.run.compiling) compiled.new compile_stores.new) (run.left_in (run.numbers_of result.run.running) rows.new state.new run_stores.new) (left_in (numbers_of result.styling) out.new style_stores.new) row }
+    ensures agreed { Agreed (compiling.leaving (compiling.numbers_of result.run.compiling) compiled.new compile_stores.new) (run.left_in (run.numbers_of result.run.running) rows.new state.new run_stores.new) (left_in (numbers_of result.styling) out.new style_stores.new) row }
     ensures compile_same { SameStores compile_stores.old compile_stores.new }
     ensures run_same { SameStores run_stores.old run_stores.new }
     ensures style_same { SameStores style_stores.old style_stores.new }

@@ -7,11 +7,9 @@ use native.Mathlib.Omega.{arith}
 use lib.ListN.{length, take}
 use Rattle.combinators.specs.Choice.{pick}
 use Rattle.combinators.specs.Word.{same_text}
-use Rattle.combinators.proofs.Rules.{pick_true, pick-false}
 use Rattle.combinators.proofs.Wiped.{length-wiped}
 use Rattle.lexer.specs.TokenRow.{token_width}
 use Rattle.characters.specs.Literal.{text}
-use Rattle.characters.specs.Utf8.{utf8}
 use Rattle.syntax.specs.Declaration.{Colour}
 use Rattle.syntax.specs.Layout.{colour_number, colour_slot, background_slot}
 use Rattle.syntax.specs.Style.{author_origin}
@@ -19,13 +17,14 @@ use Rattle.syntax.specs.declared.styles.Value.{Value}
 use Rattle.values.specs.ColourAnswer.{colour_answer}
 use Rattle.values.specs.Layout.{texts_of}
 use Rattle.values.specs.Value.{statement_of}
-use Rattle.values.specs.Words.{Found, found, missing, on_found}
+use Rattle.values.specs.Words.{Entry, Found, found, missing, found_or, lookup, on_found}
 use Rattle.std.proofs.Common.{Option, Some, None}
+use Rattle.std.proofs.lemmas.Option.{same_Some, none-some}
 use Rattle.declarations.specs.Attribute.{colour_attribute}
 use Rattle.declarations.specs.Leaving.{ColourLeft, colour_left}
 use Rattle.cascade.specs.declared.slots.Cascade.{Cascade}
 use Rattle.cascade.specs.declared.specificity.Specificity.{Specificity}
-use Rattle.cascade.specs.Record.{Declared, main_record, from_attribute}
+use Rattle.cascade.specs.Record.{AttributeStyle, Declared, main_record, from_attribute}
 use Rattle.cascade.specs.Row.{merge_row_by, Merged}
 use Rattle.cascade.specs.Slot.{update_by}
 use Rattle.matching.specs.Matches.{is_named}
@@ -92,47 +91,44 @@ module _ (s tokens brackets texts : List ℕ) (fill : ℕ) {r : Option ℕ} {x b
     colour-missing q = sym (merged-none c out) ∙ sym (ap (merged_row c out) (said-none spec slot (colour_attribute s) (sym q ∙ answer-is)))
 
 -- ---- a name and a value
--- `color` as the code has it
-color-name : text "color" ≡ 0x63 ∷ 0x6f ∷ 0x6c ∷ 0x6f ∷ 0x72 ∷ []
-unfolding text utf8 pick
-color-name = refl
+-- the two names with their slots, as the code has them
+abbrev pub colour_slots : List (Entry ℕ)
+colour_slots = record { word = text "color"; means = colour_slot } ∷ record { word = text "bgcolor"; means = background_slot } ∷ []
 
--- `bgcolor` as the code has it
-bgcolor-name : text "bgcolor" ≡ 0x62 ∷ 0x67 ∷ 0x63 ∷ 0x6f ∷ 0x6c ∷ 0x6f ∷ 0x72 ∷ []
-unfolding text utf8 pick
-bgcolor-name = refl
+module _ (name value : List ℕ) where
+  -- an attribute declares the slot of its name, or nothing
+  by-slot : attribute_colours (record { name = name; value = value }) ≡ on_found (lookup name colour_slots) (λ slot. colour_says slot value) []
+  unfolding attribute_colours is_named lookup
+  by-slot = go (same_text name (text "color")) (same_text name (text "bgcolor")) _ _
+    where
+      go : (a b : Bool) (x y : ℕ)
+          → pick a (colour_says x value) (pick b (colour_says y value) []) ≡ on_found (found_or a x (found_or b y missing)) (λ slot. colour_says slot value) []
+      go true b x y = unfold pick found_or on_found in refl
+      go false true x y = unfold pick found_or on_found in refl
+      go false false x y = unfold pick found_or on_found in refl
 
-module _ (name value : List ℕ) (c : Cascade) (spec : Specificity) (out : List ℕ) (t : Bool) (e : t ≡ same_text name (0x63 ∷ 0x6f ∷ 0x6c ∷ 0x6f ∷ 0x72 ∷ [])) where
-  -- whether the name is `color`
-  color-test : is_named (text "color") (record { name = name; value = value }) ≡ t
-  unfolding is_named
-  color-test = ap (same_text name) color-name ∙ sym e
+  module _ (c : Cascade) (spec : Specificity) (out : List ℕ) (o : Option ℕ) (e : o ≡ on_found (lookup name colour_slots) Some None) where
+    -- what is declared, merged into a row
+    abbrev merged : List (AttributeStyle Value) → List ℕ
+    merged l = merged_row c out (map (from_attribute false spec) l)
 
-  -- an attribute called `color` declares the colour slot
-  pub colour-named : t ≡ true → (out' : List ℕ) → out' ≡ merged_row c out (map (from_attribute false spec) (colour_says colour_slot value))
-      → out' ≡ merged_row c out (map (from_attribute false spec) (attribute_colours (record { name = name; value = value })))
-  unfolding attribute_colours
-  colour-named h out' p = p ∙ ap (λ l. merged_row c out (map (from_attribute false spec) l)) (pick_true _ _ _ _ (color-test ∙ h) refl)
-
-  module _ (h : t ≡ false) (u : Bool) (q : u ≡ same_text name (0x62 ∷ 0x67 ∷ 0x63 ∷ 0x6f ∷ 0x6c ∷ 0x6f ∷ 0x72 ∷ [])) where
-    -- the code's test for the name `bgcolor` is the definition's
-    bgcolor-test : is_named (text "bgcolor") (record { name = name; value = value }) ≡ u
-    unfolding is_named
-    bgcolor-test = ap (same_text name) bgcolor-name ∙ sym q
-
-    -- an attribute called `bgcolor` declares the background slot
-    pub background-named : u ≡ true → (out' : List ℕ) → out' ≡ merged_row c out (map (from_attribute false spec) (colour_says background_slot value))
-        → out' ≡ merged_row c out (map (from_attribute false spec) (attribute_colours (record { name = name; value = value })))
-    unfolding attribute_colours
-    background-named k out' p =
-        p ∙ ap (λ l. merged_row c out (map (from_attribute false spec) l)) (pick-false _ _ _ _ (color-test ∙ h) (pick_true _ _ _ _ (bgcolor-test ∙ k) refl))
+    -- an attribute that is called by one of the two declares its slot
+    pub colour-named : (slot : ℕ) → o ≡ Some slot → (out' : List ℕ) → out' ≡ merged (colour_says slot value) → out' ≡ merged (attribute_colours (record { name = name; value = value }))
+    unfolding on_found
+    colour-named slot h out' p = p ∙ ap merged (go (lookup name colour_slots) (sym e ∙ h) ∙ sym by-slot)
+      where
+        go : (x : Found ℕ) → on_found x Some None ≡ Some slot → colour_says slot value ≡ on_found x (λ s. colour_says s value) []
+        go (found s) q = ap (λ s. colour_says s value) (sym (same_Some _ _ q))
+        go missing q = absurd (none-some _ q)
 
     -- an attribute of another name declares no colour
-    pub other-named : u ≡ false → out ≡ merged_row c out (map (from_attribute false spec) (attribute_colours (record { name = name; value = value })))
-    unfolding attribute_colours
-    other-named k =
-        sym (merged-none c out)
-        ∙ ap (λ l. merged_row c out (map (from_attribute false spec) l)) (pick-false _ _ _ _ (color-test ∙ h) (pick-false _ _ _ _ (bgcolor-test ∙ k) refl))
+    pub other-named : o ≡ None → out ≡ merged (attribute_colours (record { name = name; value = value }))
+    unfolding on_found
+    other-named h = sym (merged-none c out) ∙ ap merged (go (lookup name colour_slots) (sym e ∙ h) ∙ sym by-slot)
+      where
+        go : (x : Found ℕ) → on_found x Some None ≡ None → [] ≡ on_found x (λ s. colour_says s value) []
+        go (found s) q = absurd (none-some _ (sym q))
+        go missing q = refl
 
 -- reading a colour leaves the stores as long as they were
 pub colour-long : (s tokens brackets store : List ℕ) (fill : ℕ) {a : Option ℕ} {x b z : List ℕ} → record { answer = a; tokens = x; brackets = b; store = z } ≡ colour_left s tokens brackets store fill

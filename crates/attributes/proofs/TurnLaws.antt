@@ -23,7 +23,7 @@ use Rattle.styles.specs.Said.{attribute_says}
 use Rattle.styles.specs.Room.{values_of}
 use Rattle.styles.specs.StyleCall.{attribute_contents, attributes_contents, placed_styles, placed_attributes}
 use Rattle.styles.specs.Merged.{merged_row, early_declared, late_declared}
-use Rattle.styles.proofs.KeptStores.{kept-stay, kept-on}
+use Rattle.styles.proofs.KeptStores.{kept-on}
 use Rattle.styles.proofs.Merging.{merged-none, merged-append, late-none, late-append, colours-append}
 use Rattle.styles.proofs.Room.{attribute-short}
 use Rattle.attributes.specs.Merging.{InlineRoom, ValueRoom, attribute_colours, colours_say}
@@ -72,10 +72,6 @@ module _ (attributes names : List ℕ) (count : ℕ) where
   -- those from the i-th on
   abbrev pub behind : ℕ → List Attribute
   behind i = attributes_from attributes names (count - i) i
-
-  -- from the first attribute on there are all of them
-  all-behind : behind 0 ≡ attributes_from attributes names count 0
-  all-behind = let n : count - 0 ≡ count = omega arith in ap (λ (k : ℕ). attributes_from attributes names k 0) n
 
   -- behind the last attribute there is none
   none-behind : (i : ℕ) → count ≤ i → behind i ≡ []
@@ -127,20 +123,6 @@ module _ (attributes names : List ℕ) (count : ℕ) (c : Cascade) (base fill : 
     pub lies : take f s.texts.now ++ attributes_contents (behind attributes names count i) ≡ take fill s₀.texts.now ++ attributes_contents (attributes_from attributes names count 0)
 
 module _ (attributes names : List ℕ) (count : ℕ) (c : Cascade) (base fill : ℕ) (out₀ : List ℕ) (s₀ : Stores) where
-  -- before the first attribute everything is as it was lent
-  pub turn-begin : InlineRoom (attributes_from attributes names count 0) base fill s₀.rules.now s₀.tokens.now s₀.brackets.now s₀.texts.now
-      → Turn attributes names count c base fill out₀ s₀ fill 0 out₀ s₀
-  turn-begin o =
-      let e = all-behind attributes names count in
-      record {
-        within_count = omega arith;
-        room = rw e o;
-        kept = kept-stay s₀;
-        row = rw e;
-        fills = rw e;
-        lies = rw e;
-      }
-
   module _ (f i : ℕ) (out : List ℕ) (s : Stores) (v : Turn attributes names count c base fill out₀ s₀ f i out s) where
     -- behind the last attribute all are merged, and all contents lie behind the fill
     pub turn_end : count ≤ i
@@ -225,20 +207,6 @@ module _ (attributes names : List ℕ) (count : ℕ) (c : Cascade) (fill : ℕ) 
     pub lies : take fill s.texts.now ≡ take fill s₀.texts.now
 
 module _ (attributes names : List ℕ) (count : ℕ) (c : Cascade) (fill : ℕ) (out₀ : List ℕ) (s₀ : Stores) where
-  -- before the first attribute everything is as it was lent
-  pub colours-begin : InlineRoom (attributes_from attributes names count 0) 0 fill s₀.tokens.now s₀.tokens.now s₀.brackets.now s₀.texts.now
-      → ColourTurn attributes names count c fill out₀ s₀ 0 out₀ s₀
-  colours-begin o =
-      let e = all-behind attributes names count in
-      record {
-        within_count = omega arith;
-        room = rw e o;
-        rules = refl;
-        kept = kept-stay s₀;
-        row = rw e;
-        lies = refl;
-      }
-
   module _ (i : ℕ) (out : List ℕ) (s : Stores) (v : ColourTurn attributes names count c fill out₀ s₀ i out s) where
     -- behind the last attribute all colours are merged, and the texts up to the fill are as they were
     pub colours-end : count ≤ i

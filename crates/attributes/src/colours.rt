@@ -16,10 +16,10 @@ use combinators::lent::Stores;
 use declarations::attributes::parse_color_attribute;
 use syntax::rows::{AUTHOR_ORIGIN, BACKGROUND_SLOT, COLOUR_SLOT};
 use syntax::styles::{StyleNumbers, Value};
+use values::words::lookup;
 
-const COLOR_NAME: &[u8] = b"color";
-
-const BGCOLOR_NAME: &[u8] = b"bgcolor";
+// The attributes that name a colour, and the slots that it is for.
+const COLOUR_SLOTS: [(&str, u32); 2] = [("color", COLOUR_SLOT), ("bgcolor", BACKGROUND_SLOT)];
 
 // The colour that an attribute's value names, if it names one, as an author's value for a slot of the element's own record.
 fn merge_colour(
@@ -52,8 +52,7 @@ fn merge_colour(
     }
 }
 
-// The colour of an attribute `color` or `bgcolor`; any other says nothing. Name and value come apart, as `page` reads them, and names are compared whole: of a `match` on the two texts
-// each byte would be a return of its own to prove.
+// The colour of an attribute `color` or `bgcolor`; any other says nothing. Name and value come apart, as `page` reads them.
 pub fn merge_colour_attribute(
     cascade: Cascade,
     spec: Specificity,
@@ -69,9 +68,7 @@ pub fn merge_colour_attribute(
     ensures rules_unchanged { stores.new.rules.now ≡ stores.old.rules.now }
     ensures kept { KeptStores stores.old stores.new }
 {
-    if name == COLOR_NAME {
-        merge_colour(cascade, spec, COLOUR_SLOT, value, out, stores, fill);
-    } else if name == BGCOLOR_NAME {
-        merge_colour(cascade, spec, BACKGROUND_SLOT, value, out, stores, fill);
+    if let Some(slot) = lookup(name, &COLOUR_SLOTS) {
+        merge_colour(cascade, spec, slot, value, out, stores, fill);
     }
 }

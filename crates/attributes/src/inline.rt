@@ -17,6 +17,7 @@ use syntax::rows::{AUTHOR_ORIGIN, CONTENT_SLOT, STYLE_WIDTH};
 use syntax::styles::{StyleNumbers, Value, style_at};
 
 // Whether a style of a `style` attribute is important: in the crate's cascade none is. The two arms are the definition's two lines.
+#[tactic(auto, unfolding(crate::specs::Merging::inline_important))]
 fn inline_important(cascade: Cascade, important: bool) -> bool
     ensures { result ≡ inline_important cascade important }
 {

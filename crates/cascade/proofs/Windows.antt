@@ -35,22 +35,6 @@ pub sets-high : (vs xs : List ℕ) (i p : ℕ) → i + length vs ≤ p → get_o
 sets-high [] xs i p h = refl
 sets-high (v ∷ vs) xs i p h = sets-high vs (set xs i v) (suc i) p (omega arith) ∙ get_or-set_other xs i p v 0 (λ e. omega arith)
 
--- stores at i + j, i + (j + 1), .., as straight-line code makes them
-abbrev pub stores : List ℕ → ℕ → ℕ → List ℕ → List ℕ
-stores xs i j [] = xs
-stores xs i j (v ∷ vs) = stores (set xs (i + j) v) i (suc j) vs
-
--- they are the stores from i + j on
-stores-from : (vs xs : List ℕ) (i j : ℕ) → stores xs i j vs ≡ sets xs (i + j) vs
-stores-from [] xs i j = refl
-stores-from (v ∷ vs) xs i j =
-    let e : i + suc j ≡ suc (i + j) = omega arith in
-    rw (stores-from vs (set xs (i + j) v) i (suc j), e)
-
--- so stores from i on are those of straight-line code
-pub stores-are : (vs xs : List ℕ) (i : ℕ) → sets xs i vs ≡ stores xs i 0 vs
-stores-are vs xs i = sym (rw (add-zero i) at (stores-from vs xs i 0))
-
 -- what stands between two lists
 pub reads_at : (p vs q : List ℕ) (i : ℕ) → length p ≡ i → reads (p ++ (vs ++ q)) i 0 (length vs) ≡ vs
 reads_at p vs q i e =

@@ -66,41 +66,68 @@ pub struct Handed {
     pub white_space: Slot,
 }
 
-// Where a slot of a record begins, by the record's number and its own. The clause keeps the place within a row: `merge_computed_style` tests it once, and all
-// other numbers are constants, so that a type for the two would be made only to be taken apart.
-fn slot_place(pseudo: usize, slot: usize) -> usize
-    requires { (pseudo < record_count) × (slot < slot_count) }
-    ensures { result ≡ slot_place pseudo slot }
-{
-    pseudo * RECORD_WIDTH + PRESENCE_WIDTH + slot * SLOT_WIDTH
+// Which slot of which record: `merge_computed_style` tests once that there is such a one, and the type keeps it.
+#[derive(Clone, Copy)]
+struct SlotPlace {
+    pseudo: usize,
+    slot: usize,
+    ghost within: { (pseudo < record_count) × (slot < slot_count) },
 }
 
-// The slot that stands there.
-fn read_slot(row: &StyleRow, pseudo: usize, slot: usize) -> Slot
-    requires { (pseudo < record_count) × (slot < slot_count) }
-    ensures { slot_by result ≡ slot_at row.now (slot_place pseudo slot) }
-{
-    let at = slot_place(pseudo, slot);
-    if row[at + SLOT_FILLED] != FLAG_TRUE {
-        return Slot::EMPTY;
+impl SlotPlace {
+    // Where the slot begins in a row.
+    fn start(self) -> usize
+        ensures { result ≡ slot_place self.pseudo self.slot }
+    {
+        self.pseudo * RECORD_WIDTH + PRESENCE_WIDTH + self.slot * SLOT_WIDTH
     }
-    let spec = Specificity {
-        inline: row[at + SLOT_INLINE] == FLAG_TRUE,
-        id: row[at + SLOT_ID],
-        class: row[at + SLOT_CLASS],
-        typ: row[at + SLOT_TYPE],
-    };
-    let weight = Weight {
-        important: row[at + SLOT_IMPORTANT] == FLAG_TRUE,
-        origin: row[at + SLOT_ORIGIN],
-        spec,
-    };
-    let value = Value {
-        number: row[at + SLOT_NUMBER],
-        second: row[at + SLOT_SECOND],
-        start: row[at + SLOT_START],
-    };
-    Slot::new(Candidate { weight, value })
+
+    // The slot that stands there.
+    fn read(self, row: &StyleRow) -> Slot
+        ensures { slot_by result ≡ slot_at row.now (slot_place self.pseudo self.slot) }
+    {
+        let at = self.start();
+        if row[at + SLOT_FILLED] != FLAG_TRUE {
+            return Slot::EMPTY;
+        }
+        let spec = Specificity {
+            inline: row[at + SLOT_INLINE] == FLAG_TRUE,
+            id: row[at + SLOT_ID],
+            class: row[at + SLOT_CLASS],
+            typ: row[at + SLOT_TYPE],
+        };
+        let weight = Weight {
+            important: row[at + SLOT_IMPORTANT] == FLAG_TRUE,
+            origin: row[at + SLOT_ORIGIN],
+            spec,
+        };
+        let value = Value {
+            number: row[at + SLOT_NUMBER],
+            second: row[at + SLOT_SECOND],
+            start: row[at + SLOT_START],
+        };
+        Slot::new(Candidate { weight, value })
+    }
+
+    // The slot is put back there, and its record is present.
+    fn put_back(self, row: &mut StyleRow, updated: Slot)
+        ensures { row.new ≡ set (sets row.old (slot_place self.pseudo self.slot) (slot_numbers (slot_by updated))) (record_place self.pseudo) present_flag }
+    {
+        let at = self.start();
+        row[at..at + SLOT_WIDTH].copy_from_slice(&numbers_of(updated));
+        row[self.pseudo * RECORD_WIDTH] = FLAG_TRUE;
+    }
+
+    // The slot there filled from one that is handed on. Two lines are all that this and `merge_computed_style` share, by another update each, of which a
+    // function for both would owe what its closure ensures.
+    fn fill(self, row: &mut StyleRow, from: Slot)
+        ensures { row.new ≡ foldl (merge_row_by fill_update) row.old (handed_slot self.pseudo self.slot (slot_by from)) }
+    {
+        if let Some(handed) = from.held {
+            let old = self.read(row);
+            self.put_back(row, old.fill(handed));
+        }
+    }
 }
 
 // The numbers of a slot: one that holds nothing is zeros. A function, since its one caller would name the type of the array for a `From`.
@@ -122,16 +149,6 @@ fn numbers_of(slot: Slot) -> [u32; SLOT_WIDTH]
         ],
         None => [0; SLOT_WIDTH],
     }
-}
-
-// The slot is put back at its place, and its record is present.
-fn put_back(row: &mut StyleRow, pseudo: usize, slot: usize, updated: Slot)
-    requires { (pseudo < record_count) × (slot < slot_count) }
-    ensures { row.new ≡ set (sets row.old (slot_place pseudo slot) (slot_numbers (slot_by updated))) (record_place pseudo) present_flag }
-{
-    let at = slot_place(pseudo, slot);
-    row[at..at + SLOT_WIDTH].copy_from_slice(&numbers_of(updated));
-    row[pseudo * RECORD_WIDTH] = FLAG_TRUE;
 }
 
 // One style of an origin and a specificity, as the cascade merges it. One for a record or a slot that there is not changes nothing.
@@ -158,8 +175,9 @@ pub fn merge_computed_style(
         weight,
         value: style.value,
     };
-    let old = read_slot(row, pseudo, slot);
-    put_back(row, pseudo, slot, old.update(cascade, new));
+    let place = SlotPlace { pseudo, slot };
+    let old = place.read(row);
+    place.put_back(row, old.update(cascade, new));
 }
 
 // A style over another that stands behind it in the same store, by the library's method, which is shorter than two parts by `split_at_mut` and a copy. The
@@ -187,21 +205,17 @@ pub fn inherit(row: &mut StyleRow, cascade: Cascade)
 pub fn handed_on(row: &StyleRow) -> Handed
     ensures { handed_says result ≡ handed_at row.now }
 {
+    let color = SlotPlace {
+        pseudo: MAIN,
+        slot: COLOUR_SLOT as usize,
+    };
+    let white_space = SlotPlace {
+        pseudo: MAIN,
+        slot: WHITE_SPACE_SLOT as usize,
+    };
     Handed {
-        color: read_slot(row, MAIN, COLOUR_SLOT as usize),
-        white_space: read_slot(row, MAIN, WHITE_SPACE_SLOT as usize),
-    }
-}
-
-// A slot of a record filled from one that is handed on. Two lines are all that this and `merge_computed_style` share, by another update each, of which a
-// function for both would owe what its closure ensures.
-fn fill_slot(row: &mut StyleRow, pseudo: usize, slot: usize, from: Slot)
-    requires { (pseudo < record_count) × (slot < slot_count) }
-    ensures { row.new ≡ foldl (merge_row_by fill_update) row.old (handed_slot pseudo slot (slot_by from)) }
-{
-    if let Some(handed) = from.held {
-        let old = read_slot(row, pseudo, slot);
-        put_back(row, pseudo, slot, old.fill(handed));
+        color: color.read(row),
+        white_space: white_space.read(row),
     }
 }
 
@@ -210,8 +224,16 @@ fn fill_record(row: &mut StyleRow, pseudo: usize, from: Handed)
     requires { (pseudo < record_count) }
     ensures { row.new ≡ filled_row pseudo (handed_says from) row.old }
 {
-    fill_slot(row, pseudo, COLOUR_SLOT as usize, from.color);
-    fill_slot(row, pseudo, WHITE_SPACE_SLOT as usize, from.white_space);
+    let color = SlotPlace {
+        pseudo,
+        slot: COLOUR_SLOT as usize,
+    };
+    let white_space = SlotPlace {
+        pseudo,
+        slot: WHITE_SPACE_SLOT as usize,
+    };
+    color.fill(row, from.color);
+    white_space.fill(row, from.white_space);
 }
 
 // Those of a pseudo record, from the element's own main record, if a rule has made it present.

@@ -45,21 +45,22 @@ enum Rank {
     ImportantAgent,
 }
 
-// The place of an origin and an importance in CSS Cascading Level 3.
-fn rank_of(origin: u32, important: bool) -> Rank
-    ensures { rank_number result ≡ rank origin important }
-{
-    match (important, origin) {
-        (false, AGENT_ORIGIN) => Rank::NormalAgent,
-        (false, USER_ORIGIN) => Rank::NormalUser,
-        (false, _) => Rank::NormalAuthor,
-        (true, AGENT_ORIGIN) => Rank::ImportantAgent,
-        (true, USER_ORIGIN) => Rank::ImportantUser,
-        (true, _) => Rank::ImportantAuthor,
-    }
-}
-
 impl Weight {
+    // Its place in CSS Cascading Level 3, by origin and importance.
+    #[tactic(auto, unfolding(crate::specs::Slot::rank, combinators::specs::Choice::pick, combinators::specs::Choice::is))]
+    fn rank(self) -> Rank
+        ensures { rank_number result ≡ rank self.origin self.important }
+    {
+        match (self.important, self.origin) {
+            (false, AGENT_ORIGIN) => Rank::NormalAgent,
+            (false, USER_ORIGIN) => Rank::NormalUser,
+            (false, _) => Rank::NormalAuthor,
+            (true, AGENT_ORIGIN) => Rank::ImportantAgent,
+            (true, USER_ORIGIN) => Rank::ImportantUser,
+            (true, _) => Rank::ImportantAuthor,
+        }
+    }
+
     // An important value stays before one that is not.
     fn held_by_importance(self, new: Self) -> bool
         ensures { result ≡ held_by_importance self new }
@@ -89,8 +90,8 @@ impl Weight {
     fn held_in_book(self, new: Self) -> bool
         ensures { result ≡ held_in_book self new }
     {
-        let theirs = rank_of(new.origin, new.important);
-        let own = rank_of(self.origin, self.important);
+        let theirs = new.rank();
+        let own = self.rank();
         theirs < own || theirs == own && new.spec < self.spec
     }
 }
@@ -108,8 +109,8 @@ impl Slot {
         }
     }
 
-    // As the crate updates it: the new value is taken unless importance, origin or specificity hold it back, in this order. This and the next stay two functions, since
-    // they are two rules, each with its definition, and differ in all but the `match`.
+    // As the crate updates it: the new value is taken unless importance, origin or specificity hold it back, in this order. This and the next stay two functions: they are
+    // two rules, each with its definition, and share no more than the `match`.
     pub fn maybe_update(self, new: Candidate) -> Self
         ensures { slot_by result ≡ maybe_update (slot_by self) (candidate_by new) }
     {

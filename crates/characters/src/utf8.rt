@@ -126,10 +126,7 @@ fn scalar_tail(s: &[u8], long: usize) -> Option<Taken<u32>>
         });
     }
     let d = peek(s, 3);
-    if !is_continuation(d) {
-        return None;
-    }
-    Some(Taken {
+    is_continuation(d).then_some(Taken {
         taken: 4,
         value: value_of_four(a, b, c, d),
     })

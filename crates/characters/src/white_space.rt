@@ -2,7 +2,8 @@
 ghost use Rattle.std.specs.Prelude.{◌≡◌};
 ghost use Rattle.characters.specs.WhiteSpace.{is_white_space};
 
-// Whether the code point `v` has it. Told a number and no character: it says something of any number, as its definition does.
+// Whether the code point `v` has it. Told a number and no character: it says something of any number, as its definition does. The ranges are
+// those of PropList.txt: for `char::is_whitespace` the number would have to be made a character first, and one that is none told apart.
 #[tactic(auto, using(crate::proofs::WhiteSpaces::by_ranges), unfolding(crate::specs::WhiteSpace::in_ranges, combinators::specs::Choice::or, combinators::specs::Choice::within, combinators::specs::Choice::and))]
 pub fn is_white_space(v: u32) -> bool
     ensures { result ≡ is_white_space v }

@@ -2,8 +2,7 @@
 use mathlib.Core.Path.{◌≡◌, refl, sym, ◌∙◌}
 use mathlib.Core.List.{List, [], ◌∷◌}
 use mathlib.Core.Bool.{Bool, true, false}
-use Prim.Native.Nat.{ℕ, zero, suc, ◌+◌, ◌-◌, ◌<◌, ◌≤◌, suc-le-suc}
-use native.Mathlib.Numerals.{add-one}
+use Prim.Native.Nat.{ℕ, zero, suc, ◌-◌, ◌<◌, ◌≤◌, suc-le-suc}
 use native.Mathlib.Nat.{add-zero}
 use native.Mathlib.Omega.{arith}
 use lib.ListN.{length, get_or, take, drop, length-drop}
@@ -38,10 +37,6 @@ rest s a = take_all (length s - a) (drop a s) (omega (arith, length-drop a s))
 -- the byte at i is the first of the rest from i on
 pub first : (s : List ℕ) (i : ℕ) → get_or (drop i s) 0 0 ≡ get_or s i 0
 first s i = get_or-drop i s 0 0 ∙ rw (add-zero i)
-
--- the byte behind the one at i is the first of what follows it
-pub next : (s : List ℕ) (i : ℕ) → get_or (drop (suc i) s) 0 0 ≡ get_or s (i + 1) 0
-next s i = get_or-drop (suc i) s 0 0 ∙ simp (add-zero, add-one)
 
 -- a list that has no length is empty
 pub nil-of : {A : Type 0} (b : List A) → length b ≤ 0 → b ≡ []

@@ -1,7 +1,6 @@
 -- Parts of a store: the return of `part_of`, a part that is not there and one that is.
-use Rattle.std.proofs.Common.{◌≡◌, ap, sym, ◌∙◌, ℕ, ◌+◌, ◌-◌, ◌≤◌, ◌<◌, List, length, take, drop, min, arith}
-use lib.ListN.{length-take, length-drop, drop_of_length-le}
-use lib.Seq.{take-nil}
+use Rattle.std.proofs.Common.{◌≡◌, ap, ◌∙◌, ℕ, ◌+◌, ◌-◌, ◌≤◌, List, length, take, drop, min, arith}
+use lib.ListN.{length-take, length-drop}
 use Rattle.std.proofs.lemmas.List.{take_min, drop_min}
 use Rattle.combinators.specs.Part.{part}
 use Rattle.combinators.proofs.Lists.{rest}
@@ -25,11 +24,6 @@ part-least store start n a m ea em =
     ∙ ap (take n) (rest store a ∙ ap (λ i. drop i store) ea ∙ drop_min start store)
 
 module _ {A : Type 0} (store : List A) (start n : ℕ) where
-  -- the start lies past the end
-  pub part_none : length store < start → take 0 store ≡ part store start n
-  unfolding part
-  part_none h = sym (ap (take n) (drop_of_length-le store {i = start} (omega arith)) ∙ take-nil n)
-
   -- a part that ends within the store is lent whole
   pub part-whole : take (start + n - start) (drop start store) ≡ part store start n
   unfolding part

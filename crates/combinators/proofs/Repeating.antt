@@ -1,5 +1,5 @@
 -- A loop that repeats a reader u over a text and counts what it took.
-use mathlib.Core.Path.{◌≡◌, refl, ap, sym, ◌∙◌}
+use mathlib.Core.Path.{◌≡◌, ap, sym, ◌∙◌}
 use mathlib.Core.List.{List}
 use Prim.Native.Nat.{ℕ, ◌+◌, ◌-◌, ◌≤◌}
 use native.Mathlib.Omega.{arith}
@@ -13,10 +13,6 @@ pub record Repeating (u : List ℕ → ℕ) (s : List ℕ) (i : ℕ) : Type 0 wh
   pub within_text : i ≤ length s
   pub left : many u i 0 (drop i s) ≡ many u 0 0 s
 
--- at the start of the text
-pub repeat-begin : (u : List ℕ → ℕ) (s : List ℕ) → Repeating u s 0
-repeat-begin u s = record { within_text = omega arith; left = refl }
-
 -- what u took of the part of the text that it was lent, it takes of the rest of the text
 pub lent : (u : List ℕ → ℕ) (s : List ℕ) (i n : ℕ) → n ≡ u (take (length s - i) (drop i s)) → u (drop i s) ≡ n
 lent u s i n e = ap u (sym (rest s i)) ∙ sym e
@@ -25,10 +21,6 @@ lent u s i n e = ap u (sym (rest s i)) ∙ sym e
 pub lent-le : (u : List ℕ → ℕ) → ((l : List ℕ) → u l ≤ length l) → (s : List ℕ) (i n : ℕ) → i ≤ length s
     → n ≡ u (take (length s - i) (drop i s)) → i + n ≤ length s
 lent-le u le s i n h e = let p = lent u s i n e in omega (arith, le (drop i s), length-drop i s)
-
--- what u takes, with its bound
-pub bounded : (u : List ℕ → ℕ) → ((l : List ℕ) → u l ≤ length l) → (s : List ℕ) (n : ℕ) → n ≡ u s → (n ≡ u s) × (n ≤ length s)
-bounded u le s n e = (e, omega (arith, le s))
 
 module _ (u : List ℕ → ℕ) (s : List ℕ) (i : ℕ) (c : Repeating u s i) where
   -- where u takes n bytes, not 0, the repetition goes on behind them

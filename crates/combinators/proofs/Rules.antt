@@ -264,8 +264,5 @@ pub ruleset cases = (
   is-no-of,
 )
 
--- for choices by orders
-pub ruleset orders = (rules, at_most, above)
-
 -- for choices by orders, of a number that lies between two literals
 pub ruleset ranges = (at_most, above, past, refl, tt)

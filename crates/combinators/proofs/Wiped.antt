@@ -135,14 +135,6 @@ length-wiped = length-filled_part 0
 pub wiped-none : (f : ℕ) (l : List ℕ) → wiped f 0 l ≡ l
 wiped-none = part-none 0
 
--- none is left to write
-pub wiped-done : (f n : ℕ) (l : List ℕ) → n ≤ 0 → wiped f n l ≡ l
-wiped-done = part-done 0
-
--- past the end nothing is wiped
-pub wiped-out : (f n : ℕ) (l : List ℕ) → length l ≤ f → wiped f n l ≡ l
-wiped-out = part-out 0
-
 -- so many zeros, and more behind them
 pub wiped-add : (f m n : ℕ) (l : List ℕ) → wiped f (m + n) l ≡ wiped (f + m) n (wiped f m l)
 wiped-add = part-add 0

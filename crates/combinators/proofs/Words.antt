@@ -2,7 +2,7 @@
 use mathlib.Core.Path.{◌≡◌, refl, sym, ap, ◌∙◌}
 use mathlib.Core.List.{List, [], ◌∷◌, ◌++◌}
 use mathlib.Core.Bool.{Bool, true, false, ◌&&◌}
-use Prim.Native.Nat.{ℕ, suc, ◌≤◌}
+use Prim.Native.Nat.{ℕ, ◌≤◌}
 use native.Mathlib.Omega.{arith}
 use lib.ListN.{length, drop}
 use lib.Dec.{eqb}
@@ -10,7 +10,7 @@ use lib.Pointwise.{pointwise}
 use Rattle.std.specs.List as list
 use Rattle.combinators.specs.Choice.{and, is}
 use Rattle.combinators.specs.Word.{starts_with, same_text}
-use Rattle.combinators.proofs.Rules.{never, and_both, and_right, and-true, is_true, is-yes, same_test}
+use Rattle.combinators.proofs.Rules.{never, and_both, and-true, is_true, is-yes, same_test}
 use borrow.Author.Tests.{eq-eqb, eqb-true}
 
 -- ---- the library's comparisons
@@ -57,14 +57,6 @@ same-by [] [] = refl
 same-by [] (y ∷ t) = refl
 same-by (x ∷ s) [] = refl
 same-by (x ∷ s) (y ∷ t) = both-as _ _ _ _ refl (same-by s t)
-
--- texts of two lengths are not
-pub same-lengths : (s t : List ℕ) → ¬ (length s ≡ length t) → false ≡ same_text s t
-unfolding same_text
-same-lengths [] [] d = absurd (d refl)
-same-lengths [] (y ∷ t) d = refl
-same-lengths (x ∷ s) [] d = refl
-same-lengths (x ∷ s) (y ∷ t) d = sym (and_right (is x y) (same_text s t) (sym (same-lengths s t (λ e. d (ap suc e)))))
 
 -- texts are the same bytes only where they are equal
 pub same-is : (s t : List ℕ) → same_text s t ≡ true → s ≡ t

@@ -39,7 +39,7 @@ pub const BAD_LENGTH: u32 = 12;
 // The compiled sheet would exceed its buffer; no place.
 pub const NO_ROOM: u32 = 10;
 
-// A refusal's number, the text that it is in and its place; all 0 where nothing is refused.
+// A refusal's number, the text that it is in and its place, as C is told them: all 0 where nothing is refused, and no `Option`.
 #[derive(Clone, Copy)]
 pub struct Refusal {
     pub number: u32,

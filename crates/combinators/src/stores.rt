@@ -16,7 +16,8 @@ pub fn emit<T: Copy>(x: T, store: &mut [T], fill: usize) -> usize
     }
 }
 
-// All of `xs` from `fill` on, one behind the other; the fill behind them.
+// All of `xs` from `fill` on, one behind the other; the fill behind them. A loop over `emit`, since `copy_from_slice` would have to be told what fits, and the
+// fill past the end a second time.
 pub fn emit_all<T: Copy>(xs: &[T], store: &mut [T], fill: usize) -> usize
     requires { length store.old < 2 ^ 63 }
     ensures { record { bytes = store.new; fill = result } ≡ emits (record { bytes = store.old; fill = fill }) xs.now }
@@ -28,14 +29,11 @@ pub fn emit_all<T: Copy>(xs: &[T], store: &mut [T], fill: usize) -> usize
     f
 }
 
-// The number `k` places behind `at`, or 0 past the end.
+// The number `k` places behind `at`, or 0 past the end: no `Option`, since rows may hold any number, so that who reads one is right for a 0 too.
 pub fn number_at(rows: &[u32], at: usize, k: usize) -> u32
     ensures { result ≡ get_or rows.now (at + k) 0 }
 {
-    let Some(row) = rows.get(at..) else {
-        return 0;
-    };
-    row.get(k).copied().unwrap_or(0)
+    rows.get(at.saturating_add(k)).copied().unwrap_or(0)
 }
 
 // One value from a place on.

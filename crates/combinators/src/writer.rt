@@ -6,7 +6,7 @@ ghost use Rattle.combinators.specs.Writer.{written, SameStore};
 use crate::stores::{emit, emit_all};
 
 // A lent store, and how far it is filled. It is one of bytes: of any elements it would owe at each call that there are fewer than 2^63 of them, and what writes rows of numbers is told a
-// place in a store that it shares with others.
+// place in a store that it shares with others. A function that is lent one says that its store stays the same slice (`SameStore`), so that who lent the slice finds there what was written.
 #[derive(Drop)]
 pub struct Writer<'a> {
     pub store: &'a mut [u8],

@@ -1,5 +1,6 @@
 -- Returns of `comparison_style_attribute` and `comparison_color_attribute`: what is refused, and what is read in stores of the least lengths.
 use Prim.Native.Nat.{ℕ, ◌≤◌}
+use mathlib.Core.Bool.{Bool}
 use mathlib.Core.List.{List}
 use mathlib.Core.Path.{◌≡◌, refl, ap, sym, subst, ◌∙◌}
 use native.Mathlib.Omega.{arith}
@@ -29,19 +30,23 @@ Passes : ℕ → ℕ → ℕ → ℕ → ℕ → Result Unit ValueError → Type
 Passes n rules tokens brackets texts (Ok passed) = Passed n rules tokens brackets texts
 Passes n rules tokens brackets texts (Err e) = Unit
 
-passes : (n rules tokens brackets texts : ℕ) → Passes n rules tokens brackets texts (value_checked n rules tokens brackets texts)
+passes : (n rules tokens brackets texts : ℕ) → Passes n rules tokens brackets texts (value_checked n (stores_suffice n rules tokens brackets texts))
 unfolding value_checked Passes
 passes n rules tokens brackets texts =
     pick-holds (Passes n rules tokens brackets texts) (ltb text_limit n) _ _ (λ _. tt)
     (λ l. pick-holds (Passes n rules tokens brackets texts) (stores_suffice n rules tokens brackets texts) _ _ (λ e. record { within = ltb-false text_limit n l; least = least refl e }) (λ _. tt))
 
-passed : {n rules tokens brackets texts : ℕ} {v : Result Unit ValueError} → v ≡ value_checked n rules tokens brackets texts → v ≡ Ok tt → Passed n rules tokens brackets texts
+passed : {n rules tokens brackets texts : ℕ} {v : Result Unit ValueError} → v ≡ value_checked n (stores_suffice n rules tokens brackets texts) → v ≡ Ok tt → Passed n rules tokens brackets texts
 unfolding Passes
 passed {n} {rules} {tokens} {brackets} {texts} ev was = subst (Passes n rules tokens brackets texts) (sym ev ∙ was) (passes n rules tokens brackets texts)
 
+-- what a value is answered that is told whether the stores suffice
+pub told : (n : ℕ) {t b : Bool} {v : Result Unit ValueError} → v ≡ value_checked n t → t ≡ b → v ≡ value_checked n b
+told n ev et = ev ∙ ap (value_checked n) et
+
 -- ---- the returns of `read_styles`
 module _ (s rules tokens brackets texts : List ℕ) {v : Result Unit ValueError}
-    (ev : v ≡ value_checked (length s) (length rules) (length tokens) (length brackets) (length texts)) where
+    (ev : v ≡ value_checked (length s) (stores_suffice (length s) (length rules) (length tokens) (length brackets) (length texts))) where
   -- the return where the value is refused: the stores are as they were
   pub style-refused : {e : ValueError} → v ≡ Err e → (o : Result StylesRead ValueError) → IsErrAnd o (λ q. q ≡ e)
       → record { result = styles_result o; rules = rules; tokens = tokens; brackets = brackets; texts = texts } ≡ style_called s rules tokens brackets texts
@@ -65,7 +70,7 @@ module _ (s rules tokens brackets texts : List ℕ) {v : Result Unit ValueError}
 
 -- ---- the returns of `read_colour`
 module _ (s tokens brackets texts : List ℕ) {v : Result Unit ValueError}
-    (ev : v ≡ value_checked (length s) (length tokens) (length tokens) (length brackets) (length texts)) where
+    (ev : v ≡ value_checked (length s) (stores_suffice (length s) (length tokens) (length tokens) (length brackets) (length texts))) where
   -- the return where the value is refused: the stores are as they were
   pub colour-refused : {e : ValueError} → v ≡ Err e → (o : Result (Option ℕ) ValueError) → IsErrAnd o (λ q. q ≡ e)
       → record { result = colour_result o; tokens = tokens; brackets = brackets; texts = texts } ≡ colour_called s tokens brackets texts

@@ -1,6 +1,6 @@
 -- What `comparison_style_attribute` and `comparison_color_attribute` return and leave: what `parse_style_attribute` and `parse_color_attribute` do in
 -- stores of the least lengths, filled from 0 on.
-use Rattle.std.specs.Prelude.{ℕ, Option, Some, None, Result, Ok, Err, List, ltb, length}
+use Rattle.std.specs.Prelude.{ℕ, Bool, Option, Some, None, Result, Ok, Err, List, ltb, length}
 use Rattle.combinators.specs.Choice.{pick}
 use Rattle.combinators.specs.LeastLengths.{stores_suffice}
 use Rattle.combinators.specs.Refusal.{refused, too_long, short_store}
@@ -18,10 +18,9 @@ unfoldable pub value_refusal : ValueError → Refusal
 value_refusal TooLong = refused too_long
 value_refusal ShortStore = refused short_store
 
--- ---- a call with a text of n bytes: one over `text_limit` is refused first, then stores shorter than the least lengths
-unfoldable pub value_checked : ℕ → ℕ → ℕ → ℕ → ℕ → Result Unit ValueError
-value_checked n rules tokens brackets texts =
-    pick (ltb text_limit n) (Err TooLong) (pick (stores_suffice n rules tokens brackets texts) (Ok tt) (Err ShortStore))
+-- ---- a call with a text of n bytes: one over `text_limit` is refused first, then stores that do not suffice for it
+unfoldable pub value_checked : ℕ → Bool → Result Unit ValueError
+value_checked n suffice = pick (ltb text_limit n) (Err TooLong) (pick suffice (Ok tt) (Err ShortStore))
 
 -- what it leaves where it is refused, or what reading leaves
 unfoldable pub refused_or : {A : Type 0} → Result Unit ValueError → (ValueError → A) → A → A
@@ -47,7 +46,7 @@ style_read l = record { result = styles_result (Ok l.answer); rules = l.rules; t
 -- a refusal leaves the stores as they were
 unfoldable pub style_called : List ℕ → List ℕ → List ℕ → List ℕ → List ℕ → StyleCalled
 style_called s rules tokens brackets texts =
-    refused_or (value_checked (length s) (length rules) (length tokens) (length brackets) (length texts))
+    refused_or (value_checked (length s) (stores_suffice (length s) (length rules) (length tokens) (length brackets) (length texts)))
     (λ e. record { result = styles_result (Err e); rules = rules; tokens = tokens; brackets = brackets; texts = texts })
     (style_read (style_left s rules tokens brackets texts 0))
 
@@ -69,6 +68,6 @@ colour_read l = record { result = colour_result (Ok l.answer); tokens = l.tokens
 
 unfoldable pub colour_called : List ℕ → List ℕ → List ℕ → List ℕ → ColourCalled
 colour_called s tokens brackets texts =
-    refused_or (value_checked (length s) (length tokens) (length tokens) (length brackets) (length texts))
+    refused_or (value_checked (length s) (stores_suffice (length s) (length tokens) (length tokens) (length brackets) (length texts)))
     (λ e. record { result = colour_result (Err e); tokens = tokens; brackets = brackets; texts = texts })
     (colour_read (colour_left s tokens brackets texts 0))

@@ -135,7 +135,7 @@ fn match_lent(selector: Selector<'_>, page: Page<'_>, row: usize) -> Result<Matc
 
 // Whether the first `count` components, with their texts in `texts`, match a row of the page: `do_matches` and `specificity` of a selector whose
 // components lie in reading order. A component whose kind is none of document 01's, above 8, is read as an attribute selector.
-// It is exported: C lends each list by itself, and may lend more components than the selector has, so `count` comes beside them.
+// crates/comparison_c exports it: C lends each list by itself, and may lend more components than the selector has, so `count` comes beside them.
 #[unsafe(no_mangle)]
 pub extern "C" fn comparison_matches(
     components: &[u32],

@@ -91,21 +91,16 @@ impl From<Result<Option<u32>, ValueError>> for ColourResult {
     }
 }
 
-// Refuses a value that a page cannot have, and then stores that do not suffice for it. It is told lengths, since one of its two callers is lent no rules.
+// Refuses a value of more bytes than a page can have, and then one for which the stores do not suffice. It is told whether they do, since one of its two callers is
+// lent no rules.
 #[tactic(auto, unfolding(crate::specs::Attributes::value_checked, combinators::specs::Choice::pick))]
-fn check_value(
-    n: usize,
-    rules: usize,
-    tokens: usize,
-    brackets: usize,
-    texts: usize,
-) -> Result<(), ValueError>
-    ensures { result ≡ value_checked n rules tokens brackets texts }
+fn check_value(n: usize, suffice: bool) -> Result<(), ValueError>
+    ensures { result ≡ value_checked n suffice }
 {
     if n > TEXT_LIMIT {
         return Err(ValueError::TooLong);
     }
-    if !stores_suffice(n, rules, tokens, brackets, texts) {
+    if !suffice {
         return Err(ValueError::ShortStore);
     }
     Ok(())
@@ -117,13 +112,8 @@ fn read_styles(value: &[u8], stores: &mut Stores<'_>) -> Result<StylesRead, Valu
     ensures called { record { result = styles_result result; rules = stores.new.rules.now; tokens = stores.new.tokens.now; brackets = stores.new.brackets.now; texts = stores.new.texts.now }
         ≡ style_called value.now stores.old.rules.now stores.old.tokens.now stores.old.brackets.now stores.old.texts.now }
 {
-    check_value(
-        value.len(),
-        stores.rules.len(),
-        stores.tokens.len(),
-        stores.brackets.len(),
-        stores.texts.len(),
-    )?;
+    let n = value.len();
+    check_value(n, stores.suffice(n))?;
     Ok(parse_style_attribute(value, stores, 0))
 }
 
@@ -133,13 +123,10 @@ fn read_colour(value: &[u8], stores: &mut Stores<'_>) -> Result<Option<u32>, Val
     ensures called { record { result = colour_result result; tokens = stores.new.tokens.now; brackets = stores.new.brackets.now; texts = stores.new.texts.now }
         ≡ colour_called value.now stores.old.tokens.now stores.old.brackets.now stores.old.texts.now }
 {
-    check_value(
-        value.len(),
-        stores.tokens.len(),
-        stores.tokens.len(),
-        stores.brackets.len(),
-        stores.texts.len(),
-    )?;
+    let n = value.len();
+    let tokens = stores.tokens.len();
+    let suffice = stores_suffice(n, tokens, tokens, stores.brackets.len(), stores.texts.len());
+    check_value(n, suffice)?;
     Ok(parse_color_attribute(value, stores, 0))
 }
 

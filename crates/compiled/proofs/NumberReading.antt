@@ -4,7 +4,7 @@ use mathlib.Core.Bool.{Bool, true, false}
 use mathlib.Core.List.{List}
 use mathlib.Core.Logic.{⊎_elim}
 use Prim.Native.Nat.{ℕ, zero, suc, ◌+◌, ◌-◌, ◌*◌, ◌≤◌, ◌<◌}
-use native.Mathlib.Nat.{mul-le-mul, mul-le-mul_left, mul-le-mul_right}
+use native.Mathlib.Nat.{mul-le-mul_right}
 use native.Mathlib.Omega.{arith}
 use borrow.Author.Tests.{lt-ltb, le-ltb, le-leb}
 use lib.Dec.{leb}
@@ -50,11 +50,6 @@ power (suc k) = group_values * power k
 abbrev pub all_groups : ℕ
 all_groups = 34359738368
 
--- k groups have at least one value
-power-some : (k : ℕ) → 1 ≤ power k
-power-some zero = omega arith
-power-some (suc k) = omega (arith, power-some k)
-
 pub record Reading (s : List ℕ) (at value scale i left : ℕ) : Type 0 where
   pub work : groups_at left s at value scale i ≡ number_at s at
   pub small : value < scale
@@ -64,13 +59,6 @@ pub record Reading (s : List ℕ) (at value scale i left : ℕ) : Type 0 where
 pub reading-begin : (s : List ℕ) (at : ℕ) → Reading s at 0 1 at most_groups
 unfolding number_at
 reading-begin s at = record { work = refl; small = omega arith; scaled = refl }
-
--- before the last group a bit is worth at most 2^28
-scale-le : (left scale : ℕ) → 0 < left → scale * power left ≡ all_groups → scale ≤ 268435456
-scale-le zero scale h e = absurd (omega arith)
-scale-le (suc k) scale h e =
-    let q : 128 ≤ 128 * power k = omega (arith, power-some k) in
-    omega (arith, mul-le-mul_left scale q)
 
 -- with one group read, what is left still covers the values of five groups
 scaled-more : (left scale : ℕ) → 0 < left → scale * power left ≡ all_groups → scale * group_values * power (left - 1) ≡ all_groups
@@ -88,15 +76,7 @@ module _ (s : List ℕ) (at value scale i left : ℕ) (c : Reading s at value sc
       short zero h = absurd (omega arith)
       short (suc k) h = pick_true _ _ _ _ (le-leb (length s) i l) refl
 
-  -- a bit is worth at most 2^28, and no group overflows
-  pub reading-scale : scale ≤ 268435456
-  reading-scale = scale-le left scale more c.scaled
-
   module _ (b : ℕ) (e : b ≡ get_or s i 0) (l : i < length s) where
-    -- what the byte is worth
-    pub reading-worth : b < 256 → b * scale ≤ 68451041280
-    reading-worth h = let m : b ≤ 255 = omega arith in omega (arith, mul-le-mul m reading-scale)
-
     -- what a group is worth that is not the last
     pub reading-part : b < 256 → (b - group_values) * scale ≤ 127 * scale
     reading-part h = mul-le-mul_right {n = 127} scale (omega arith)

@@ -125,22 +125,6 @@ module _ (t : List ℕ) (kind f a b : ℕ) where
       → component_bytes (component_from t kind f a b) ≡ number_bytes attribute_equal_kind ++ (text_bytes (part t f a) ++ text_bytes (part t (f + a) b))
   equal-bytes m k n = ap component_bytes (equal_is m k n) ∙ both-bytes _ _
 
--- ---- styles
--- the number 0 stays 0 as a word of `white-space`: normal
-pub word-normal : (n : ℕ) → n ≡ 0 → 0 ≡ white_space_number (white_space_of n)
-unfolding white_space_number white_space_of
-word-normal n e = ap white_space_number (pick_true _ _ _ _ (is-yes n 0 e) refl)
-
--- the number 1 stays 1 as a word of `white-space`: pre
-pub word-pre : (n : ℕ) → ¬ (n ≡ 0) → n ≡ 1 → 1 ≡ white_space_number (white_space_of n)
-unfolding white_space_number white_space_of
-word-pre n d e = ap white_space_number (pick-false _ _ _ _ (is-no n 0 d) (pick_true _ _ _ _ (is-yes n 1 e) refl))
-
--- any other number becomes 2: pre-wrap
-pub word-pre-wrap : (n : ℕ) → ¬ (n ≡ 0) → ¬ (n ≡ 1) → 2 ≡ white_space_number (white_space_of n)
-unfolding white_space_number white_space_of
-word-pre-wrap n d e = ap white_space_number (pick-false _ _ _ _ (is-no n 0 d) (pick-false _ _ _ _ (is-no n 1 e) refl))
-
 -- so its length can be told
 pub part-short : (t : List ℕ) (start size : ℕ) (x : List ℕ) → x ≡ part t start size → size < number_limit → length x < number_limit
 part-short t start size x e h = omega (arith, ap length e, part-le t start size)

@@ -111,14 +111,13 @@ pub fn short_size(s: &[u8], at: usize) -> Option<usize>
     if is_mark(kind) {
         return Some(MARK_SIZE);
     }
-    let left = s.len() - at;
-    if is_name(kind) && left > TO_LENGTH && u64::from(s[at + TO_LENGTH]) < GROUP_VALUES {
-        let size = usize::from(s[at + TO_LENGTH]) + TO_TEXT;
-        if size <= left {
-            return Some(size);
-        }
+    let length = *s.get(at + TO_LENGTH)?;
+    let size = usize::from(length) + TO_TEXT;
+    if is_name(kind) && u64::from(length) < GROUP_VALUES && size <= s.len() - at {
+        Some(size)
+    } else {
+        None
     }
-    None
 }
 
 // The place behind the component at `at`. Most are short, of which the size alone is asked.

@@ -10,7 +10,8 @@ pub struct Fault {
     pub place: usize,
 }
 
-// A value that was read, and the place behind it.
+// A value that was read, and the place behind it. It is no `Taken`, which counts bytes from where a text begins: faults are told by their places in the sheet, so
+// a reader is lent the whole of it.
 #[derive(Clone, Copy, PartialEq, Eq)]
 pub struct Read<T> {
     pub next: usize,

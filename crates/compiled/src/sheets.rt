@@ -28,23 +28,18 @@ pub struct Head {
 // A reader is told a place in the sheet and how much the bytes there say is left of it. A reader of a head is told besides the origin of the selector
 // before, which changes from one to the next, so the three are no struct.
 
-// The numbers at `at` before a selector's components, of whatever length, where the selector before is of the origin `least`. (No `map`: three numbers of as
-// many readers make the value.)
+// The numbers at `at` before a selector's components, of whatever length, where the selector before is of the origin `least`.
 fn read_long_head(s: &[u8], at: usize, least: u32) -> Result<Read<Head>, Fault>
     ensures value { result ≡ read_answer (head_at s.now least at) }
     ensures read_within { read_within (length s.now) result }
 {
     let origin = read_ranged(s, at, least, AUTHOR_ORIGIN)?;
     let pseudo = read_ranged(s, origin.next, PSEUDO_NONE, PSEUDO_AFTER)?;
-    let count = read_number(s, pseudo.next)?;
-    Ok(Read {
-        next: count.next,
-        value: Head {
-            origin: origin.value,
-            pseudo: pseudo.value,
-            count: count.value,
-        },
-    })
+    Ok(read_number(s, pseudo.next)?.map(|count| Head {
+        origin: origin.value,
+        pseudo: pseudo.value,
+        count,
+    }))
 }
 
 // The numbers at `at` before a selector's components, where the selector before is of the origin `least`. Most are one byte each, and told at once.
@@ -130,9 +125,9 @@ impl SheetBytes<'_> {
     }
 }
 
-// Writes the numbers before a selector's components: its origin, its pseudo element and how many components it has.
-pub fn emit_head(origin: u32, pseudo: u32, count: u32, writer: &mut Writer<'_>)
-    ensures { Wrote writer.old writer.new (head_bytes origin pseudo count) }
+// Writes the numbers before a selector's components.
+pub fn emit_head(head: Head, writer: &mut Writer<'_>)
+    ensures { Wrote writer.old writer.new (head_bytes head.origin head.pseudo head.count) }
 {
-    emit_numbers(&[origin, pseudo, count], writer);
+    emit_numbers(&[head.origin, head.pseudo, head.count], writer);
 }

@@ -65,7 +65,7 @@ impl SheetBytes<'_> {
         }
     }
 
-    // The style at `at`. (No `map`: four values of as many readers make it.)
+    // The style at `at`.
     pub fn read_style(self, at: usize) -> Result<Read<StyleNumbers>, Fault>
         ensures value { result ≡ read_answer (style_numbers_at self.entry.bytes.now at) }
         ensures read_within { read_within (length self.entry.bytes.now) result }
@@ -74,14 +74,11 @@ impl SheetBytes<'_> {
         let start = read_number(self.bytes, important.next)?;
         let slot = read_ranged(self.bytes, start.next, COLOUR_SLOT, LAST_SLOT)?;
         let value = self.read_value(slot.next, start.value, slot.value)?;
-        Ok(Read {
-            next: value.next,
-            value: StyleNumbers {
-                slot: slot.value,
-                important: important.value == FLAG_TRUE,
-                value: value.value,
-            },
-        })
+        Ok(value.map(|value| StyleNumbers {
+            slot: slot.value,
+            important: important.value == FLAG_TRUE,
+            value,
+        }))
     }
 
     // The place behind the style at `at`.

@@ -40,10 +40,6 @@ module _ {A : Type 0} (u : List ℕ → Read A) (w : A → List ℕ) (rows : Lis
   pub record Emitting (n place : ℕ) (o : Store ℕ) : Type 0 where
     pub left : emits o (texts_many w (read_many u n (drop place rows)).value) ≡ emits o₀ (texts_many w (read_many u count (drop at rows)).value)
 
-  -- with none read so far all of them are left
-  pub emitting-all : Emitting (count - 0) at o₀
-  emitting-all = let e : count - 0 ≡ count = omega arith in record { left = rw e }
-
   -- the bytes of n values are those of the first and of the n - 1 behind it
   one_less : (n place next : ℕ) → 0 < n → drop next rows ≡ (u (drop place rows)).rest
       → texts_many w (read_many u n (drop place rows)).value ≡ w (u (drop place rows)).value ++ texts_many w (read_many u (n - 1) (drop next rows)).value

@@ -20,11 +20,10 @@ use Rattle.declarations.proofs.StyleLaws.{count-styles}
 use Rattle.combinators.proofs.ZeroLaws.{zeros-back}
 use Rattle.origins.specs.Rules.{selectors_read, rule_styles, EachRoom}
 use Rattle.origins.proofs.WalkLaws.{many-length}
-use Rattle.compiled.specs.Number.{number_limit}
 use Rattle.compiled.specs.Sheet.{selector_bytes}
 use Rattle.compiler.specs.Selectors.{compiled_selector, styled_selectors, rule_selectors, sheet_selectors}
-use Rattle.compiler.specs.Writing.{styled_bytes, rule_bytes, SelectorsFew, RuleLent, RulesLent}
-use Rattle.compiler.proofs.EmittingLaws.{Emitting, emitting-all, emitting-more, emitting-done, emitting-past}
+use Rattle.compiler.specs.Writing.{styled_bytes, rule_bytes, RuleLent, RulesLent}
+use Rattle.compiler.proofs.EmittingLaws.{Emitting, emitting-more, emitting-done, emitting-past}
 
 -- ---- selectors of a rule with its styles
 module _ (origin : ℕ) where
@@ -148,12 +147,6 @@ module _ (rows : List ℕ) (count at origin : ℕ) (tokens₀ texts : List ℕ) 
     pub lent : RulesLent n (drop place rows) tokens
     pub same : tokens ≡ tokens₀
 
-  -- with none written so far all of them are left
-  pub writing-all : RulesLent count (drop at rows) tokens₀ → Writing (count - 0) at tokens₀ o₀
-  writing-all l =
-      let e : count - 0 ≡ count = omega arith in
-      record { emitted = emitting-all (read_rule texts) (rule_bytes origin) rows count at o₀; lent = rw e l; same = refl }
-
   module _ (n place : ℕ) (tokens : List ℕ) (o : Store ℕ) (c : Writing n place tokens o) where
     -- a turn: one rule is written, and the rules behind it are left
     pub writing_more : 0 < n → (x : List ℕ) → x ≡ tokens → (o₁ : Store ℕ) → o₁ ≡ emits o (rule_bytes origin (read_rule texts (drop place rows)).value)
@@ -195,14 +188,6 @@ module _ (rows : List ℕ) (count at : ℕ) where
   pub record Counting (total place n : ℕ) : Type 0 where
     pub left : (origin : ℕ) (texts : List ℕ) → total + selectors_from origin texts n place ≡ selectors_from origin texts count at
 
-  -- before the first rule all of them are left to count
-  pub counting-begin : Counting 0 at count
-  counting-begin = record { left = λ origin texts. omega arith }
-
-  -- with none counted so far all of them are left
-  pub counting-all : Counting 0 at (count - 0)
-  counting-all = let e : count - 0 ≡ count = omega arith in rw e counting-begin
-
   -- n rules have the selectors of the first and of the n - 1 behind it
   one_less : (origin : ℕ) (texts : List ℕ) (n place next : ℕ) → 0 < n → drop next rows ≡ (read_rule texts (drop place rows)).rest
       → selectors_from origin texts n place ≡ length (rule_selectors origin (read_rule texts (drop place rows)).value) + selectors_from origin texts (n - 1) next
@@ -224,20 +209,6 @@ module _ (rows : List ℕ) (count at : ℕ) where
       -- with the rule's selectors added, the rules behind it are left to be counted
       pub counting_more : (next : ℕ) → ((texts : List ℕ) → drop next rows ≡ (read_rule texts (drop place rows)).rest) → Counting (total + r) next (n - 1)
       counting_more next d = record { left = λ origin texts. omega (arith, c.left origin texts, one_less origin texts n place next h (d texts), e origin texts) }
-
-      -- the count so far is below 2^32
-      pub counting-fits : SelectorsFew (drop at rows) count → total + r < number_limit
-      unfolding read_many sheet_selectors
-      counting-fits few = omega (arith, c.left few.origin few.texts, at_least n h, e few.origin few.texts, few.few)
-        where
-          at_least : (n : ℕ) → 0 < n → length (rule_selectors few.origin (read_rule few.texts (drop place rows)).value) ≤ selectors_from few.origin few.texts n place
-          at_least zero h = absurd (omega arith)
-          at_least (suc k) h =
-              omega (
-                arith,
-                length-append (rule_selectors few.origin (read_rule few.texts (drop place rows)).value)
-                    (sheet_selectors few.origin (read_many (read_rule few.texts) k (read_rule few.texts (drop place rows)).rest).value),
-              )
 
     -- with no rule left the selectors of all rules are counted
     pub counting-done : n ≤ 0 → (origin : ℕ) (texts : List ℕ) → total ≡ selectors_from origin texts count at

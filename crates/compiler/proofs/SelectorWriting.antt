@@ -1,14 +1,12 @@
 -- Returns and turns of the functions that write a selector.
-use Rattle.combinators.specs.Choice.{pick, is}
 use mathlib.Core.Path.{◌≡◌, refl, sym, ap, ◌∙◌}
 use mathlib.Core.List.{List, [], ◌∷◌, ◌++◌, reverse, reverse-append}
-use Prim.Native.Nat.{ℕ, ◌+◌, ◌*◌, ◌-◌, ◌≤◌, ◌<◌, zero, suc, min}
+use Prim.Native.Nat.{ℕ, ◌+◌, ◌*◌, ◌-◌, ◌≤◌, ◌<◌}
 use native.Mathlib.Omega.{arith}
 use lib.ListN.{length, get_or, drop, length-reverse}
 use lib.Seq.{get_or-drop, drop-drop}
 use Rattle.combinators.specs.Store.{Store, emits}
 use Rattle.combinators.proofs.Emitted.{emits_none, onto, then}
-use Rattle.combinators.proofs.Rules.{pick-false, is-no}
 use Rattle.syntax.specs.RuleLayout.{component_width, component_kind_at, component_text_at, component_first_at, component_second_at, component_from, read_component, selector_head, selector_components, selector_pseudo, pseudo_number, pseudo_from, read_selector}
 use Rattle.syntax.specs.Selector.{Component}
 use Rattle.syntax.specs.Stream.{read_many, texts_many}
@@ -77,26 +75,11 @@ module _ (rows : List ℕ) (at count : ℕ) (texts : List ℕ) (o₀ : Store ℕ
     pub returning-done : n ≤ 0 → o ≡ emits o₀ (backwards count)
     returning-done h = sym (ap (emits o) (none_left n h) ∙ emits_none _) ∙ c.left
 
--- ---- pseudo elements
--- a number above that of `::after` stands for it
-pub pseudo-least : (n : ℕ) → min n 2 ≡ pseudo_number (pseudo_from n)
-unfolding pseudo_number pseudo_from pick is
-pseudo-least zero = refl
-pseudo-least (suc zero) = refl
-pseudo-least (suc (suc n)) =
-    let e : min (suc (suc n)) 2 ≡ 2 = omega arith in
-    e ∙ ap pseudo_number (pick-false _ _ _ _ (is-no (suc (suc n)) 0 (λ h. absurd (omega arith))) (pick-false _ _ _ _ (is-no (suc (suc n)) 1 (λ h. absurd (omega arith))) refl))
-
 -- ---- the bytes of a selector at a place
 module _ (rows : List ℕ) (at origin : ℕ) (o₀ o₁ : Store ℕ) where
   -- what stands before the components of one at a place
   abbrev pub head_at : List ℕ
   head_at = head_bytes origin (pseudo_number (pseudo_from (get_or (drop at rows) selector_pseudo 0))) (get_or (drop at rows) selector_components 0)
-
-  -- the head that was written, of the pseudo element and the count that were read, is that of the selector at the place
-  pub head_at_lem : (p q n : ℕ) → p ≡ get_or rows (at + selector_pseudo) 0 → q ≡ pseudo_number (pseudo_from p) → n ≡ get_or rows (at + selector_components) 0
-      → o₁ ≡ emits o₀ (head_bytes origin q n) → o₁ ≡ emits o₀ head_at
-  head_at_lem p q n ep eq en e = e ∙ rw (eq, ep, en, get_or-drop at rows selector_pseudo 0, get_or-drop at rows selector_components 0)
 
   -- head, components and styles, one behind the other, are the bytes of the selector
   pub selector-written : o₁ ≡ emits o₀ head_at → (n first : ℕ) → n ≡ get_or rows (at + selector_components) 0 → drop first rows ≡ drop (at + selector_head) rows

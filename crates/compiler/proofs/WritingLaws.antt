@@ -6,7 +6,7 @@ use Prim.Native.Nat.{ℕ, ◌+◌, ◌-◌, ◌^◌, ◌≤◌, ◌<◌, min}
 use native.Mathlib.Nat.{zero-add}
 use native.Mathlib.Omega.{arith}
 use borrow.Author.Tests.{lt-ltb, le-ltb, le-leb, lt-leb}
-use lib.ListN.{length, take, drop, length-append, length-drop}
+use lib.ListN.{length, take, drop, length-append}
 use lib.Seq.{length-take-le}
 use Rattle.combinators.specs.Store.{Store, emits}
 use Rattle.combinators.proofs.Emitted.{then, emits-fill, emits-over, sets-emitted}
@@ -24,7 +24,7 @@ use Rattle.compiler.specs.Selectors.{sheet_selectors, selectors_of}
 use Rattle.compiled.specs.Sheet.{compiled_limit}
 use Rattle.compiler.specs.CompileAnswer.{room_of}
 use Rattle.compiler.specs.Writing.{SelectorsFew}
-use Rattle.compiler.specs.Written.{selectors_from, SheetLying, fill_of, written_in}
+use Rattle.compiler.specs.Written.{selectors_from, fill_of, written_in}
 
 -- ---- the room of a buffer
 -- a buffer above the limit has the limit as its room
@@ -62,10 +62,6 @@ pub sheet-written : (rows texts : List ℕ) (s : SheetRules) (origin : ℕ) (o�
 unfolding rules_from rules_at
 sheet-written rows texts s origin o₀ o₁ e =
     e ∙ ap (λ (t : List ℕ). emits o₀ (texts_many selector_bytes (sheet_selectors origin (read_many (read_rule t) s.count (drop s.place rows)).value))) (rest texts s.from)
-
--- it can be written with a store of tokens that is the same
-pub lies_same : (rows texts tokens x : List ℕ) (s : SheetRules) → x ≡ tokens → SheetLying rows texts tokens s → SheetLying rows texts x s
-lies_same rows texts tokens x s e l = rw e l
 
 -- ---- three sheets: the count of their selectors, then the agent's, the user's and the author's
 module _ (rows texts : List ℕ) (s : SheetsRules) where
@@ -156,10 +152,6 @@ module _ (l : List ℕ) {r : ℕ} (e : r ≡ room_of (length l)) where
   -- the part of the buffer that is the room has that length
   pub room-long : r ≡ length (take r l)
   room-long = sym (length-take-le r l room_fits)
-
-  -- what comes back of it leaves the buffer as long as it was
-  pub same_length : (ys : List ℕ) → length ys ≡ length (take r l) → length (ys ++ drop r l) ≡ length l
-  same_length ys h = omega (arith, h, room-long, room_fits, length-append ys (drop r l), length-drop r l)
 
   -- the fill tells whether the bytes fit, and what fits is there
   pub within : (bytes ys : List ℕ) (f : ℕ) → record { bytes = ys; fill = f } ≡ emits (record { bytes = take r l; fill = 0 }) bytes

@@ -35,7 +35,7 @@ fn emit_selectors(
 {
     let mut place = at;
     for _ in 0..selectors {
-        if is_past(writer) {
+        if is_past(writer.store.len(), writer.fill) {
             return;
         }
         emit_selector(rows, place, given, writer);
@@ -92,7 +92,7 @@ pub fn emit_rules(
 {
     let mut place = at;
     for _ in 0..count {
-        if is_past(writer) {
+        if is_past(writer.store.len(), writer.fill) {
             return;
         }
         emit_rule(rows, place, origin, tokens, writer);

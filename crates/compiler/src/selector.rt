@@ -13,10 +13,11 @@ use crate::styles::emit_styles;
 use combinators::stores::number_at;
 use combinators::writer::Writer;
 use compiled::components::emit_component;
-use compiled::sheets::emit_head;
+use compiled::sheets::{Head, emit_head};
+use origins::walk::selector_pseudo;
 use syntax::rows::{
     COMPONENT_FIRST, COMPONENT_KIND, COMPONENT_SECOND, COMPONENT_TEXT, COMPONENT_WIDTH,
-    PSEUDO_AFTER, SELECTOR_COMPONENTS, SELECTOR_HEAD, SELECTOR_PSEUDO,
+    SELECTOR_COMPONENTS, SELECTOR_HEAD,
 };
 use syntax::walk::forward;
 
@@ -44,24 +45,16 @@ fn emit_components(rows: Rows<'_>, at: usize, count: u32, writer: &mut Writer<'_
     }
 }
 
-// The number of the pseudo element that a selector row has: any other than none and `::before` is `::after`, the last.
-fn pseudo_number(pseudo: u32) -> u32
-    ensures { result ≡ pseudo_number (pseudo_from pseudo) }
-{
-    pseudo.min(PSEUDO_AFTER)
-}
-
 // Writes what stands before the components of the selector whose row starts at `at`.
 fn emit_selector_head(rows: &[u32], at: usize, origin: u32, writer: &mut Writer<'_>)
     ensures { Wrote writer.old writer.new (head_bytes origin (pseudo_number (pseudo_from (get_or (drop at rows.now) selector_pseudo 0))) (get_or (drop at rows.now) selector_components 0)) }
 {
-    let pseudo = pseudo_number(number_at(rows, at, SELECTOR_PSEUDO));
-    emit_head(
+    let head = Head {
         origin,
-        pseudo,
-        number_at(rows, at, SELECTOR_COMPONENTS),
-        writer,
-    );
+        pseudo: selector_pseudo(rows, at),
+        count: number_at(rows, at, SELECTOR_COMPONENTS),
+    };
+    emit_head(head, writer);
 }
 
 // Writes the selector whose row starts at `at`, with what its rule gives it.

@@ -55,7 +55,7 @@ fn emit_style_rows(rows: Rows<'_>, count: u32, writer: &mut Writer<'_>)
 {
     let mut place = 0;
     for _ in 0..count {
-        if is_past(writer) {
+        if is_past(writer.store.len(), writer.fill) {
             return;
         }
         emit_style_at(rows, place, writer);

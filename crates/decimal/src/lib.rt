@@ -28,15 +28,12 @@ pub struct ZeroTest {
     pub looked: usize,
 }
 
-// What a digit is worth; any other byte counts as 0. The arms are the definition's own.
+// What a digit is worth; any other byte counts as 0.
 #[tactic(auto, unfolding(crate::specs::Decimal::digit, combinators::specs::Choice::pick, combinators::specs::Choice::within, combinators::specs::Choice::and))]
 fn digit_of(b: u8) -> u8
     ensures { result ≡ digit b }
 {
-    match b {
-        b'0'..=b'9' => b - b'0',
-        _ => 0,
-    }
+    char::from(b).to_digit(10).unwrap_or(0) as u8
 }
 
 // Whether digits are at most those of `table`, behind which stand zeros. The first that differ decide, and none behind them is looked

@@ -414,10 +414,6 @@ module _ (names : Bool) (at : ℕ) (s rules : List ℕ) (place : ℕ) (tokens br
     module _ {r : RulesRead} {y' x' b' z' : List ℕ}
         (em : record { answer = r; rules = y'; tokens = x'; brackets = b'; store = z' } ≡ more_left names at s n y (place + declaration_width) x b z (fill + k))
         (mr : MoreRead s n r) where
-      -- the count of all declarations fits a word
-      pub count_fits : r.count + 1 < 2 ^ 64
-      count_fits = omega (arith, mr.count, one-took.some, o.start-bits)
-
       -- the length of all their texts fits a word
       pub text-fits : r.text + k < 2 ^ 64
       text-fits = omega (arith, mr.text, one-took.text, one-said.keeps, one-took.within, o.start-bits)

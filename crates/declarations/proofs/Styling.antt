@@ -101,11 +101,6 @@ unfolding and
 and_is true b = refl
 and_is false b = refl
 
--- where both hold the first does
-both_left : (a b : Bool) → (a && b) ≡ true → a ≡ true
-both_left true b e = refl
-both_left false b e = e
-
 -- ---- a declaration less
 
 -- the rows that are left

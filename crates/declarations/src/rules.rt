@@ -37,7 +37,8 @@ pub struct NoProperty {
     pub name: usize,
 }
 
-// The bytes that a declaration takes, and the bytes of text that it keeps.
+// The bytes that a declaration takes, and the bytes of text that it keeps: what `RulesRead` says, of one, and in its words, so that it is no `Written` of the
+// lexer.
 #[derive(Clone, Copy)]
 pub struct DeclarationRead {
     pub taken: usize,
@@ -58,9 +59,7 @@ fn parse_property(s: &[u8], store: &mut [u8], fill: usize) -> Result<PropertyHea
     ensures value { result ≡ property_answer s.now }
     ensures store_after { store.new ≡ sets store.old fill (name_text (ident_of s.now)) }
 {
-    let Some(name) = parse_ident(s, store, fill) else {
-        return Err(NoProperty { name: 0 });
-    };
+    let name = parse_ident(s, store, fill).ok_or(NoProperty { name: 0 })?;
     let colon = skip_from(s, name.taken);
     if byte_is(s, colon, b':') {
         Ok(PropertyHead {

@@ -5,7 +5,7 @@ ghost use Rattle.std.specs.Prelude.{◌≡◌, List, ℕ, ◌+◌, ◌*◌, ◌�
 ghost use Rattle.std.specs.Bool.{then_some};
 ghost use Rattle.combinators.specs.Store.{emits};
 ghost use Rattle.syntax.specs.Layout.{declaration_start, row_of_numbers, style_width};
-ghost use Rattle.declarations.specs.StyleNumbers.{no_value, added_style, style_for, own_numbers, own_numbers_at, own_row, has_value, zero_row, hidden_row, Cut, StylesLeft};
+ghost use Rattle.declarations.specs.StyleNumbers.{no_value, added_style, own_numbers, own_numbers_at, own_row, has_value, zero_row, hidden_row, Cut, StylesLeft};
 
 use combinators::stores::{emit_all, number_at};
 use syntax::rows::{
@@ -38,31 +38,23 @@ fn added_style(start: u32) -> StyleNumbers
     }
 }
 
-// The style of a slot and what it gives the slot.
-fn style_for(slot: u32, important: bool, value: Value) -> Option<StyleNumbers>
-    ensures { result ≡ style_for slot important value }
+// The style that a declaration's kind and value ask for. The kind is the number in a row, which may be any.
+fn own_style(kind: u32, important: bool, value: Value) -> Option<StyleNumbers>
+    ensures { result ≡ own_numbers kind important value }
 {
+    let (slot, value) = match kind {
+        COLOR => (COLOUR_SLOT, value),
+        BACKGROUND_COLOR => (BACKGROUND_SLOT, value),
+        DISPLAY if value.number == FLAG_TRUE => (DISPLAY_SLOT, no_value(value.start)),
+        WHITE_SPACE => (WHITE_SPACE_SLOT, value),
+        CONTENT => (CONTENT_SLOT, value),
+        _ => return None,
+    };
     Some(StyleNumbers {
         slot,
         important,
         value,
     })
-}
-
-// The style that a declaration's kind and value ask for. The kind is the number in a row, which may be any.
-fn own_style(kind: u32, important: bool, value: Value) -> Option<StyleNumbers>
-    ensures { result ≡ own_numbers kind important value }
-{
-    match kind {
-        COLOR => style_for(COLOUR_SLOT, important, value),
-        BACKGROUND_COLOR => style_for(BACKGROUND_SLOT, important, value),
-        DISPLAY if value.number == FLAG_TRUE => {
-            style_for(DISPLAY_SLOT, important, no_value(value.start))
-        }
-        WHITE_SPACE => style_for(WHITE_SPACE_SLOT, important, value),
-        CONTENT => style_for(CONTENT_SLOT, important, value),
-        _ => None,
-    }
 }
 
 // The style that the declaration asks for whose row starts at `at`.

@@ -24,6 +24,7 @@ pub struct RunResult {
 impl From<Result<usize, RunError>> for RunResult {
     ghost from_gives = { λ answer told. answer_in told ≡ numbers_of answer };
 
+    // (The `match` is that of `StyleResult`: a function for both would be generic in the error, and so its contract in what the error tells.)
     fn from(answer: Result<usize, RunError>) -> RunResult {
         let (refusal, texts) = match answer {
             Ok(texts) => (no_refusal(), texts),

@@ -1,5 +1,6 @@
 // The functions that programs in C call (include/hicsolmab.h), exported from a static library: those of crates/engine, with its clauses, and nothing else. They
-// stand twice, since a crate is a library or a static library and not both, and crates/replay calls the library.
+// stand twice, since a crate is a library or a static library and not both, a `pub use` exports nothing, and crates/replay calls the library. C lends each slice
+// by itself.
 #![tactic(auto)]
 
 mod sheet; // sheet.rt: a sheet into lent stores

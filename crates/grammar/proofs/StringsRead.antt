@@ -15,14 +15,13 @@ use Rattle.combinators.specs.Parsed.{ok}
 use Rattle.combinators.specs.Repeat.{many, texts}
 use Rattle.combinators.proofs.Repeats.{many-took, many-from, texts-took}
 use Rattle.combinators.proofs.Rules.{never, and-true, is-yes, is-no}
-use Rattle.lexer.specs.Quoted.{escaped_byte, quoted_of, taken_of, text_of, quoted_taken, quoted_text, string_end, string_text}
+use Rattle.lexer.specs.Quoted.{one_byte, no_byte, escaped_byte, quoted_of, taken_of, text_by, text_of, quoted_taken, quoted_text, string_end, string_text}
 use Rattle.lexer.specs.Token.{string, is_quote, string_from, string_of}
-use Rattle.lexer.specs.declared.strings.Quoted.TheVariants.{Byte, Skip}
 use Rattle.lexer.proofs.SyntaxString.{ordinary, plain, string-quote}
 use Rattle.grammar.specs.Selectors.{Within, nothing, byte, escaped, continued, Quoted}
 
 -- an ordinary byte is read as itself
-byte-read : (q x : ℕ) (r : List ℕ) → ordinary q x ≡ true → quoted_of q (x ∷ r) ≡ Some (Byte 1 x)
+byte-read : (q x : ℕ) (r : List ℕ) → ordinary q x ≡ true → quoted_of q (x ∷ r) ≡ Some (one_byte 1 x)
 unfolding ordinary quoted_of pick
 byte-read q x r h =
     let p = and-true (not (is x q)) _ h in
@@ -40,7 +39,7 @@ module _ (q : ℕ) (h : is_quote q ≡ true) where
   unquoted = is-no ascii.reverse_solidus q (λ e. let p : is_quote ascii.reverse_solidus ≡ false = unfold is_quote or is in refl in never (sym p ∙ ap is_quote e ∙ h))
 
   -- so what it stands before is read as itself
-  escaped-read : (x : ℕ) (r : List ℕ) → is x ascii.line_feed ≡ false → quoted_of q (ascii.reverse_solidus ∷ x ∷ r) ≡ Some (Byte 2 x)
+  escaped-read : (x : ℕ) (r : List ℕ) → is x ascii.line_feed ≡ false → quoted_of q (ascii.reverse_solidus ∷ x ∷ r) ≡ Some (one_byte 2 x)
   unfolding quoted_of escaped_byte pick
   escaped-read x r e =
       rw (
@@ -53,7 +52,7 @@ module _ (q : ℕ) (h : is_quote q ≡ true) where
       )
 
   -- and with a newline it is nothing
-  continued-read : (r : List ℕ) → quoted_of q (ascii.reverse_solidus ∷ ascii.line_feed ∷ r) ≡ Some (Skip 2)
+  continued-read : (r : List ℕ) → quoted_of q (ascii.reverse_solidus ∷ ascii.line_feed ∷ r) ≡ Some (no_byte 2)
   unfolding quoted_of escaped_byte pick
   continued-read r =
       rw (
@@ -94,7 +93,7 @@ module _ (q : ℕ) (h : is_quote q ≡ true) where
 
     -- and the text that it is
     within_text : {w b : List ℕ} → Within q w b → texts (quoted_taken q) (quoted_text q) 0 (w ++ (q ∷ u)) ≡ b
-    unfolding quoted_taken quoted_text taken_of text_of
+    unfolding quoted_taken quoted_text taken_of text_by text_of
     within_text nothing = quote-text
     within_text (byte {x} {w} e s) =
         let p = byte-read q x (w ++ (q ∷ u)) e in

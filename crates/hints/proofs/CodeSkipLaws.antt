@@ -13,10 +13,11 @@ use Rattle.segments.specs.Visits.{Visited, visit_at}
 use Rattle.segments.specs.Pass.{Passed, matched_here, pass_from}
 use Rattle.segments.proofs.PassLaws.{pass-none}
 use Rattle.std.proofs.Common.{Option, Some, None}
+use Rattle.visits.specs.Visiting.{IsMarked}
 use Rattle.hints.specs.Hints.{Fits, TestsFail}
-use Rattle.hints.specs.Skipping.{StepFails, IsMarked, left_to_pass}
+use Rattle.hints.specs.Skipping.{StepFails, left_to_pass}
 use Rattle.hints.specs.declared.hints.Hint.{Hint}
-use Rattle.hints.specs.declared.skipping.Marked.{Marked}
+use Rattle.visits.specs.declared.blocks.Marked.{Marked}
 use Rattle.hints.specs.declared.skipping.Skipped.{Skipped}
 use Rattle.visits.proofs.CodePassLaws.{pass-turn}
 use Rattle.hints.proofs.CodeStayLaws.{Stays, copied, length-copied, one-stays, two-stay}
@@ -51,7 +52,7 @@ module _ (code : List ℕ) (h : Hint) (above own₀ : List ℕ) (first count : �
       let o : record { part = own; matched = [] } ≡ pass_from code (e ∷ []) above 0 p own = unfold pass_from in refl in
       o ∙ ap (λ (n : ℕ). pass_from code (e ∷ []) above n p own) d ∙ v.skips e fit
 
-module _ (code : List ℕ) (h : Hint) (above own₀ : List ℕ) (first count : ℕ) (own : List ℕ) (p left : ℕ) (v : Skipping code h above own₀ first count own p left) (more : 0 < left)
+module _ (code : List ℕ) (h : Hint) (above own₀ : List ℕ) (first count : ℕ) (own : List ℕ) (p left : ℕ) (v : Skipping code h above own₀ first count own p left) (more : 0 < left) (some : 0 < p)
     (m : Marked) (own₁ : List ℕ) where
   -- the selector is passed over, and the loop goes on at the next one with one fewer left
   skip-on : (steps : ℕ) → IsMarked above p steps m → own₁ ≡ copied m steps own → ((e : Element) → Fits h e → Stays code above p e own own₁)
@@ -70,7 +71,7 @@ module _ (code : List ℕ) (h : Hint) (above own₀ : List ℕ) (first count : �
       on e fit =
           let s = stays e fit in
           let others : Passed = pass_from code (e ∷ []) above (left - 1) m.block.next own₁ in
-          pass-turn code (e ∷ []) above own p left more (λ q. let z = b.some in omega arith) m.block.next b.next own₁ s.1
+          pass-turn code (e ∷ []) above own p left more (λ q. omega arith) m.block.next b.next own₁ s.1
           ∙ ap (λ (x : List ℕ). record { part = others.part; matched = x ++ others.matched }) (none (visit_at code (e ∷ []) above p) s.0)
 
   -- a selector that awaits one compound, with a mark

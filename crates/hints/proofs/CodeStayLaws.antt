@@ -10,11 +10,11 @@ use Rattle.page.specs.Path.{Element}
 use Rattle.segments.specs.Sweep.{pair_at, pair_bytes, with_tests}
 use Rattle.segments.specs.Visits.{to_next, to_flags, block_bytes, Visited, decided, visit_at}
 use Rattle.segments.specs.Pass.{block_set}
-use Rattle.visits.specs.Visiting.{to_tests}
+use Rattle.visits.specs.Visiting.{to_tests, IsMarked}
 use Rattle.hints.specs.Hints.{Fits, TestsFail}
-use Rattle.hints.specs.Skipping.{StepFails, IsMarked}
+use Rattle.hints.specs.Skipping.{StepFails}
 use Rattle.hints.specs.declared.hints.Hint.{Hint}
-use Rattle.hints.specs.declared.skipping.Marked.{Marked}
+use Rattle.visits.specs.declared.blocks.Marked.{Marked}
 use Rattle.visits.proofs.CodeVisitLaws.{marked-stays, visit-mark}
 use Rattle.hints.proofs.CodeFailLaws.{part-first}
 use Rattle.hints.proofs.CodeStepLaws.{step-sweep, decided-stays}

@@ -24,7 +24,7 @@ use Rattle.sweeps.specs.Swept.{swept_one, swept_behind}
 use Rattle.hints.specs.Hints.{TestFails, TestsFail}
 use Rattle.std.proofs.Common.{Option, Some, None}
 use Rattle.std.specs.Bool.{then_some}
-use Rattle.std.specs.Option.{IfSome, MatchOption, is_some}
+use Rattle.std.specs.Option.{IfSome, MatchOption}
 use Rattle.compiled.specs.Answer.{ShortSize}
 use Rattle.hints.specs.Skipping.{TestThere, BehindChild, BehindStep, StepFails}
 use Rattle.hints.specs.declared.hints.Hint.{Hint}
@@ -113,12 +113,6 @@ module _ (code : List ℕ) where
           there = (let x = f.there in omega arith);
           fails = λ e fit. ap (λ (n : ℕ). tests_pass code (e ∷ []) n at) d ∙ second-fails (e ∷ []) (at + size) (suc (tests - 2)) t.asks t.told (f.fails e fit (tests - 2));
         }
-
-  -- ---- the return of `behind_child`
-  -- what is made where a condition holds
-  pub made-if : (P Q : ℕ → Type 0) (t : Bool) (r : Option ℕ) → is_some r ≡ t → IfSome r Q → (t ≡ true → (x : ℕ) → Q x → P x) → IfSome r P
-  made-if P Q t (Some x) v q f = f (sym v) x q
-  made-if P Q t None v q f = tt
 
   -- a byte of the child combinator's kind is read as a child step
   pub child-there : (at : ℕ) → at < length code → get_or code at 0 ≡ child_kind → BehindChild code at (at + 1)

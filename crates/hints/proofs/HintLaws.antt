@@ -6,7 +6,7 @@ use mathlib.Core.List.{List, [], ◌∷◌}
 use native.Mathlib.Omega.{arith}
 use lib.ListN.{length, get_or}
 use Rattle.combinators.specs.Choice.{pick, or, is}
-use Rattle.combinators.proofs.Rules.{never, either, or_left, or-none, and-true, is-no, or-second, and_yes}
+use Rattle.combinators.proofs.Rules.{never, either, or_left, and-true, or-second, and_yes}
 use Rattle.combinators.proofs.Words.{same-is}
 use Rattle.characters.specs.Literal.{text}
 use Rattle.characters.specs.Utf8.{utf8}
@@ -17,18 +17,11 @@ use Rattle.page.specs.Rows.{attribute_width, attribute_rows}
 use Rattle.matching.specs.Matches.{any_attribute, is_class, is_id, is_named, has_class, has_id, has_attribute, name_is, here, step}
 use Rattle.compiled.specs.Component.{is_name, named_of}
 use Rattle.segments.specs.Segments.{tested}
-use Rattle.segments.specs.Sweep.{byte_values}
 use Rattle.sweeps.specs.Met.{handed_element, handed}
 use Rattle.sweeps.specs.declared.elements.Handed.{Handed}
-use Rattle.hints.specs.Hints.{any_byte, may_begin, ClassesBegin, NamesBegin, Fits, NameFails}
+use Rattle.hints.specs.Hints.{may_begin, ClassesBegin, NamesBegin, Fits, NameFails}
 use Rattle.hints.specs.declared.hints.Starts.{Starts}
 use Rattle.hints.specs.declared.hints.Hint.{Hint}
-
--- ---- the return of `begins_none`
--- where neither byte is the one, and not any may be
-pub begins-none : (s : Starts) (b : ℕ) → b < byte_values → ¬ (s.one ≡ any_byte) → ¬ (s.one ≡ b) → ¬ (s.two ≡ b) → may_begin s b ≡ false
-unfolding may_begin
-begins-none s b h x y z = or-none _ _ (is-no _ _ (λ e. omega arith)) (or-none _ _ (is-no _ _ x) (or-none _ _ (is-no _ _ y) (is-no _ _ z)))
 
 -- ---- what a component of one text asks for
 module _ (e : Element) (x : List ℕ) where

@@ -7,9 +7,8 @@ use mathlib.Core.Logic.{◌⊎◌, inl, inr, ⊎_elim}
 use native.Mathlib.Omega.{arith}
 use lib.ListN.{get_or}
 use Rattle.combinators.specs.Word.{same_text}
-use Rattle.combinators.proofs.Rules.{never, either, or_left, or-gives, is-yes, is_true, or-second}
+use Rattle.combinators.proofs.Rules.{never, or_left, or-gives, is-yes, or-second}
 use Rattle.combinators.proofs.Words.{same-is}
-use Rattle.combinators.proofs.Lists.{first}
 use Rattle.page.specs.Path.{Attribute}
 use Rattle.page.specs.PathOf.{attributes_from}
 use Rattle.page.specs.Rows.{attribute_name, attribute_value}
@@ -18,62 +17,34 @@ use Rattle.matching.specs.Rows.{attribute_of}
 use Rattle.matching.specs.Texts.{NoWord, FirstWord, has_word}
 use Rattle.matching.proofs.AttributeLaws.{class-named, class-other}
 use Rattle.matching.proofs.Words.{Splitting, split-begin, split-end, split-more}
-use Rattle.hints.specs.Hints.{no_byte, any_byte, may_begin, Keeps}
+use Rattle.hints.specs.Hints.{may_begin, Keeps}
 use Rattle.hints.specs.declared.hints.Starts.{Starts}
+use Rattle.hints.specs.declared.hints.Starts.TheVariants.{Nothing, One, Two, Any}
 
--- ---- bytes that may be the first
-module _ (s : Starts) (b : ℕ) where
-  -- what is no byte
-  pub may_none : b ≡ no_byte → may_begin s b ≡ true
-  unfolding may_begin
-  may_none e = or_left _ _ (is-yes _ _ e)
-
-  -- where any byte may be the first, this one may
-  pub may-any : s.one ≡ any_byte → may_begin s b ≡ true
-  unfolding may_begin
-  may-any e = or-second _ _ (or_left _ _ (is-yes _ _ e))
-
-  -- the first byte that is kept may be the first
-  may-one : s.one ≡ b → may_begin s b ≡ true
-  unfolding may_begin
-  may-one e = or-second _ _ (or-second _ _ (or_left _ _ (is-yes _ _ e)))
-
-  -- the second byte that is kept may be the first
-  may-two : s.two ≡ b → may_begin s b ≡ true
-  unfolding may_begin
-  may-two e = or-second _ _ (or-second _ _ (or-second _ _ (is-yes _ _ e)))
-
-  -- a byte that may be the first is one of these cases
-  may-by : (P : Type 0) → may_begin s b ≡ true → (b ≡ no_byte → P) → (s.one ≡ any_byte → P) → (s.one ≡ b → P) → (s.two ≡ b → P) → P
-  unfolding may_begin
-  may-by P t f g h k =
-      either P _ _ t (λ x. f (is_true _ _ x)) (λ y. either P _ _ y (λ x. g (is_true _ _ x)) (λ z. either P _ _ z (λ x. h (is_true _ _ x)) (λ x. k (is_true _ _ x))))
+-- where any byte may be the first, this one may
+pub may-any : (b : ℕ) → may_begin Any b ≡ true
+unfolding may_begin
+may-any b = refl
 
 -- ---- the returns of `with_start`
-module _ (s : Starts) (byte : ℕ) where
-  -- what is told: all bytes that might be the first still may, and this one may
-  abbrev With : Starts → Type 0
-  With r = Keeps s r × (may_begin r byte ≡ true)
+-- what is told: all bytes that might be the first still may, and this one may
+abbrev pub With : Starts → ℕ → Starts → Type 0
+With s byte r = Keeps s r × (may_begin r byte ≡ true)
 
-  -- where no byte is kept, it becomes the first that is kept
-  pub with_first : s.one ≡ no_byte → With (record { one = byte; two = s.two })
-  with_first e = ((λ b t. may-by s b _ t (may_none _ b) (λ x. absurd (omega (arith, e, x))) (λ x. may_none _ b (sym x ∙ e)) (may-two _ b)), may-one _ byte refl)
+module _ (byte : ℕ) where
+  -- where there was none, it is the one
+  pub with-one : (s : Starts) → s ≡ Nothing → With s byte (One byte)
+  unfolding may_begin
+  with-one s e = ((λ b t. never (ap (λ (x : Starts). may_begin x b) (sym e) ∙ t)), is-yes byte byte refl)
 
-  -- where it is the first that is kept, nothing changes
-  pub with-one : s.one ≡ byte → With s
-  with-one e = ((λ b t. t), may-one s byte e)
+  -- where there was one, it is the other
+  pub with-two : (s : Starts) (one : ℕ) → s ≡ One one → With s byte (Two one byte)
+  unfolding may_begin
+  with-two s one e = ((λ b t. or_left _ _ (ap (λ (x : Starts). may_begin x b) (sym e) ∙ t)), or-second _ _ (is-yes byte byte refl))
 
-  -- where one place is free, it becomes the second that is kept
-  pub with_second : s.two ≡ no_byte → With (record { one = s.one; two = byte })
-  with_second e = ((λ b t. may-by s b _ t (may_none _ b) (may-any _ b) (may-one _ b) (λ x. may_none _ b (sym x ∙ e))), may-two _ byte refl)
-
-  -- where it is the second that is kept, nothing changes
-  pub with_two : s.two ≡ byte → With s
-  with_two e = ((λ b t. t), may-two s byte e)
-
-  -- a third byte is not kept: any byte may be the first then
-  pub with-any : With (record { one = any_byte; two = no_byte })
-  with-any = ((λ b t. may-any _ b refl), may-any _ byte refl)
+  -- a third is not kept: any byte may be the first then
+  pub with-any : (s : Starts) → With s byte Any
+  with-any s = ((λ b t. may-any b), may-any byte)
 
 -- ---- the loop of `with_words`
 pub record Wording (s : List ℕ) (begun starts : Starts) (left : List ℕ) : Type 0 where

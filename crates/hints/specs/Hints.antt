@@ -7,22 +7,18 @@ use Rattle.compiled.specs.Component.{is_name, named_of}
 use Rattle.segments.specs.Segments.{tested}
 use Rattle.segments.specs.Sweep.{tests_pass}
 use Rattle.hints.specs.declared.hints.Starts.{Starts}
+use Rattle.hints.specs.declared.hints.Starts.TheVariants.{Nothing, One, Two, Any}
 use Rattle.hints.specs.declared.hints.Hint.{Hint}
 
--- no byte has these numbers: in place of a byte that there is none, and that there may be any
-abbrev pub no_byte : ℕ
-no_byte = 256
-
-abbrev pub any_byte : ℕ
-any_byte = 257
-
--- a text among those that are told of may begin with b; of what is no byte nothing is told
+-- a text among those that are told of may begin with b
 unfoldable pub may_begin : Starts → ℕ → Bool
-may_begin s b = or (is b no_byte) (or (is s.one any_byte) (or (is s.one b) (is s.two b)))
+may_begin Nothing b = false
+may_begin (One x) b = is b x
+may_begin (Two x y) b = or (is b x) (is b y)
+may_begin Any b = true
 
 -- the classes `item odd` begin with `i` and `o`; of three words that begin otherwise nothing is told
-test-begin : (may_begin (record { one = 0x69; two = 0x6f }) 0x6f ≡ true) × (may_begin (record { one = 0x69; two = 0x6f }) 0x6e ≡ false)
-    × (may_begin (record { one = any_byte; two = no_byte }) 0x6e ≡ true)
+test-begin : (may_begin (Two 0x69 0x6f) 0x6f ≡ true) × (may_begin (Two 0x69 0x6f) 0x6e ≡ false) × (may_begin Any 0x6e ≡ true)
 unfolding may_begin or is
 test-begin = (refl, refl, refl)
 

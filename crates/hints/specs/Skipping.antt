@@ -1,19 +1,14 @@
 -- Passing over selectors that surely fail at an element: their blocks stay as they are.
-use Rattle.std.specs.Prelude.{ℕ, suc, ◌+◌, ◌≤◌, ◌<◌, false, List, [], ◌∷◌, ◌≡◌, Option, Some, None, length, get_or, replicate}
-use Rattle.combinators.specs.Part.{part}
+use Rattle.std.specs.Prelude.{ℕ, suc, ◌+◌, ◌≤◌, ◌<◌, false, List, [], ◌∷◌, ◌≡◌, Option, Some, None, length}
 use Rattle.syntax.specs.Selector.{Component}
 use Rattle.page.specs.Path.{Element, Path}
 use Rattle.compiled.specs.Decoded.{read}
 use Rattle.segments.specs.Segments.{direct, test}
 use Rattle.compiled.specs.Sheet.{compiled_limit}
-use Rattle.segments.specs.Sweep.{pair_at, piece_at, compound_at, with_tests}
-use Rattle.segments.specs.Visits.{to_next, to_awaited, to_flags}
+use Rattle.segments.specs.Sweep.{piece_at, compound_at}
 use Rattle.segments.specs.Pass.{Passed, pass_from}
-use Rattle.segments.specs.Parts.{pair_limit}
-use Rattle.visits.specs.Visiting.{to_tests, to_end}
 use Rattle.hints.specs.Hints.{TestsFail}
 use Rattle.hints.specs.declared.hints.Hint.{Hint}
-use Rattle.hints.specs.declared.skipping.Marked.{Marked}
 use Rattle.hints.specs.declared.skipping.Skipped.{Skipped}
 
 -- a component at a place is a test, whatever it asks for, and takes so many bytes
@@ -42,18 +37,6 @@ pub record StepFails (code : List ℕ) (at tests : ℕ) (h : Hint) : Type 0 wher
   pub far : 0 < place
   pub behind : (row : Path) → compound_at code row (length code) false at ≡ record { ends = false; place = place }
   pub fails : TestsFail code place tests h
-
--- the block of the selector at p, in the part above: the part holds it whole, the flags of `steps` compounds say that they may not end here, and behind them stands the mark of the leftmost
-pub record IsMarked (above : List ℕ) (p steps : ℕ) (m : Marked) : Type 0 where
-  pub some : 0 < p
-  pub inside : p + to_end + steps ≤ length above
-  pub flags : part above (p + to_flags) steps ≡ replicate steps 0
-  pub mark : get_or above (p + to_flags + steps) 0 ≡ with_tests
-  pub place : m.block.place ≡ p
-  pub next : m.block.next ≡ pair_at above (p + to_next)
-  pub next_low : m.block.next < pair_limit
-  pub awaited : m.block.awaited ≡ pair_at above (p + to_awaited)
-  pub tests : m.tests ≡ pair_at above (p + to_tests + steps)
 
 -- where some of so many selectors are left: the first of them is there, and how many stand behind it
 pub record FewLeft (count : ℕ) (s : Skipped) : Type 0 where

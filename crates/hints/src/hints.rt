@@ -16,23 +16,19 @@ use page::rows::{ATTRIBUTE_WIDTH, attribute_name, attribute_value};
 use sweeps::elements::Handed;
 use syntax::rows::{ATTRIBUTE, CLASS, ELEMENT, HASH};
 
-// In place of a byte: there is none, and there may be any. They are numbers beside those of bytes, so `begins_none` is one condition and `with_start` has no arm
-// for any; of `enum { Any, AtMost(Option<u8>, Option<u8>) }` both would be a `match` first.
-const NO_BYTE: usize = 256;
-
-const ANY_BYTE: usize = 257;
-
 // From so many selectors on it pays to look at the attributes.
 const SELECTORS: u32 = 8;
 
 // What the name of an id begins with.
 const ID_START: u8 = b'i';
 
-// What texts begin with: at most two bytes, or any.
+// What texts begin with: nothing, as there are none, one byte, two, or any.
 #[derive(Clone, Copy, PartialEq, Eq)]
-pub struct Starts {
-    pub one: usize,
-    pub two: usize,
+pub enum Starts {
+    Nothing,
+    One(u8),
+    Two(u8, u8),
+    Any,
 }
 
 // What is told of an element: how long its name is and what it begins with, and what its classes and the names of its attributes begin with.
@@ -45,22 +41,17 @@ pub struct Hint {
 }
 
 impl Starts {
-    const NONE: Self = Self {
-        one: NO_BYTE,
-        two: NO_BYTE,
-    };
-
-    const ANY: Self = Self {
-        one: ANY_BYTE,
-        two: NO_BYTE,
-    };
-
-    // Whether none of the texts surely begins with `byte`.
-    fn begins_none(self, byte: u8) -> bool
-        ensures { result ≡ true → may_begin self byte ≡ false }
+    // Whether one of the texts may begin with `byte`.
+    #[tactic(auto, unfolding(crate::specs::Hints::may_begin, combinators::specs::Choice::or, combinators::specs::Choice::is))]
+    fn may_begin(self, byte: u8) -> bool
+        ensures { result ≡ may_begin self byte }
     {
-        let byte = usize::from(byte);
-        self.one != ANY_BYTE && self.one != byte && self.two != byte
+        match self {
+            Starts::Nothing => false,
+            Starts::One(one) => byte == one,
+            Starts::Two(one, two) => byte == one || byte == two,
+            Starts::Any => true,
+        }
     }
 
     // The same with one byte more; of three, any may be.
@@ -68,15 +59,13 @@ impl Starts {
         ensures keeps { Keeps self result }
         ensures byte_value { may_begin result byte ≡ true }
     {
-        let byte = usize::from(byte);
-        if self.one == byte || self.two == byte {
-            self
-        } else if self.one == NO_BYTE {
-            Self { one: byte, ..self }
-        } else if self.two == NO_BYTE {
-            Self { two: byte, ..self }
-        } else {
-            Self::ANY
+        if self.may_begin(byte) {
+            return self;
+        }
+        match self {
+            Starts::Nothing => Starts::One(byte),
+            Starts::One(one) => Starts::Two(one, byte),
+            _ => Starts::Any,
         }
     }
 
@@ -112,9 +101,9 @@ fn starts_by_count(attributes: &[u32]) -> Starts
     ensures names { (text : List ℕ) → NamesBegin result (attributes_from attributes.now text (attribute_rows attributes.now) 0) }
 {
     if attributes.len() < ATTRIBUTE_WIDTH {
-        return Starts::NONE;
+        return Starts::Nothing;
     }
-    Starts::ANY
+    Starts::Any
 }
 
 // What the classes of attributes begin with, and what their names do.
@@ -122,8 +111,8 @@ fn class_and_name_starts(attributes: Attributes<'_>) -> (Starts, Starts)
     ensures classes { ClassesBegin result.0 (attributes_from attributes.entry.rows.now attributes.entry.text.now attributes.entry.count 0) }
     ensures names { NamesBegin result.1 (attributes_from attributes.entry.rows.now attributes.entry.text.now attributes.entry.count 0) }
 {
-    let mut classes = Starts::NONE;
-    let mut names = Starts::NONE;
+    let mut classes = Starts::Nothing;
+    let mut names = Starts::Nothing;
     for row in 0..attributes.count {
         classes = classes.with_classes(attributes, row);
         let name = attribute_name(attributes.rows, attributes.text, row);
@@ -136,21 +125,15 @@ fn class_and_name_starts(attributes: Attributes<'_>) -> (Starts, Starts)
 pub fn hint_of(element: &Handed<'_>, selectors: u32) -> Hint
     ensures { (place : ℕ) → Fits result (handed_element element.now.name.now element.now.attributes.now element.now.text.now place) }
 {
-    let size = element.name.len();
-    let first = peek(element.name, 0);
-    if selectors < SELECTORS {
+    let (classes, names) = if selectors < SELECTORS {
         let starts = starts_by_count(element.attributes);
-        return Hint {
-            size,
-            first,
-            classes: starts,
-            names: starts,
-        };
-    }
-    let (classes, names) = class_and_name_starts(element.attributes());
+        (starts, starts)
+    } else {
+        class_and_name_starts(element.attributes())
+    };
     Hint {
-        size,
-        first,
+        size: element.name.len(),
+        first: peek(element.name, 0),
         classes,
         names,
     }
@@ -164,9 +147,9 @@ impl Hint {
     {
         match kind {
             ELEMENT => size != self.size || byte != self.first,
-            CLASS => self.classes.begins_none(byte),
-            HASH => self.names.begins_none(ID_START),
-            ATTRIBUTE => self.names.begins_none(byte),
+            CLASS => !self.classes.may_begin(byte),
+            HASH => !self.names.may_begin(ID_START),
+            ATTRIBUTE => !self.names.may_begin(byte),
             _ => false,
         }
     }

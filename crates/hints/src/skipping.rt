@@ -4,16 +4,15 @@ ghost use Rattle.page.specs.Path.{Element};
 ghost use Rattle.compiled.specs.Sheet.{compiled_limit};
 ghost use Rattle.segments.specs.Pass.{pass_from};
 ghost use Rattle.hints.specs.Hints.{Fits, TestFails, TestsFail};
-ghost use Rattle.hints.specs.Skipping.{TestThere, BehindChild, BehindStep, StepFails, IsMarked, FewLeft, left_to_pass};
+ghost use Rattle.hints.specs.Skipping.{TestThere, BehindChild, BehindStep, StepFails, FewLeft, left_to_pass};
 
 use crate::hints::Hint;
 use compiled::components::{MARK_SIZE, TO_LENGTH, TO_TEXT, short_size};
 use compiled::numbers::GROUP_VALUES;
 use sweeps::elements::Row;
-use sweeps::parts::{WITH_TESTS, pair_there};
 use syntax::rows::{CHILD, NTH};
-use visits::blocks::{Block, NO_PLACE};
-use visits::visiting::{TO_AWAITED, TO_END, TO_FLAGS, TO_NEXT, TO_TESTS, put_marked};
+use visits::blocks::{Marked, NO_PLACE};
+use visits::visiting::{marked_block, put_marked};
 
 // From the place of an nth-child to its two numbers, and how many bytes it takes, where they are of one group.
 const TO_FIRST: usize = 1;
@@ -30,13 +29,6 @@ const ONE_GROUP: usize = GROUP_VALUES as usize;
 pub struct Skipped {
     pub place: usize,
     pub behind: u32,
-}
-
-// A block whose leftmost compound has a mark, with the count of its tests.
-#[derive(Clone, Copy, PartialEq, Eq)]
-pub struct Marked {
-    pub block: Block,
-    pub tests: usize,
 }
 
 // How many bytes the test at `at` takes, if it is a component of one text whose kind and length are numbers of one group, or such an nth-child.
@@ -59,7 +51,8 @@ fn behind_child(compiled: &[u8], at: usize) -> Option<usize>
     (kind == CHILD).then_some(at + MARK_SIZE)
 }
 
-// The place behind the child step that the compound at `first` stands at, where the tests before it are short ones.
+// The place behind the child step that the compound at `first` stands at, where the tests before it are short ones. (A `while`: a test is as long as its bytes
+// say.)
 fn behind_step(compiled: &[u8], first: usize) -> Option<usize>
     ensures { IfSome result (λ place. BehindStep compiled.now first place) }
 {
@@ -107,34 +100,9 @@ impl Hint {
     }
 }
 
-// The block of the selector at `place`, where the part of the parent holds it whole and its leftmost compound has a mark behind the flags of `STEPS` others, none
-// of which may end here. (The clause `near` keeps sums of places small. A `Block` carries it; before one is read there is the number alone, here and in all that
-// are told the place of a selector.)
-fn marked_block<const STEPS: usize>(above: &[u8], place: usize) -> Option<Marked>
-    requires there { 0 < place }
-    requires near { place ≤ compiled_limit }
-    ensures { IfSome result (λ marked. IsMarked above.now place STEPS marked) }
-{
-    if place + TO_END > above.len().saturating_sub(STEPS) {
-        return None;
-    }
-    let mark = place + TO_FLAGS + STEPS;
-    if above[place + TO_FLAGS..mark] != [0; STEPS] || above[mark] != WITH_TESTS {
-        return None;
-    }
-    let block = Block {
-        place,
-        next: pair_there(above, place + TO_NEXT),
-        awaited: pair_there(above, place + TO_AWAITED),
-    };
-    Some(Marked {
-        block,
-        tests: pair_there(above, place + TO_TESTS + STEPS),
-    })
-}
-
 // At most `count` selectors from the one at `first` on, at an element for which the hint is: those are passed over that surely fail, up to the first other one.
-// Their blocks are copied. A block says where the next one is, so that no slice of `own` holds `count` of them.
+// Their blocks are copied. A block says where the next one is, so that no slice of `own` holds `count` of them. (Place and count are told as two: the loop takes
+// the count alone, and a place comes from a block, from `first_styled` or from a `Skipped`.)
 pub fn skip_failing(
     row: &Row<'_>,
     own: &mut [u8],

@@ -1,4 +1,3 @@
-pub mod NumberLaws
 pub mod NumeralLaws
 pub mod DimensionLaws
 pub mod TokenLaws

@@ -97,30 +97,18 @@ module _ (v₀ : ℕ) (t : List ℕ) (v i : ℕ) (c : capped (worth v₀ t) ≡ 
 
 -- ---- `unsigned_numeral`: n digits, worth w
 module _ (negative : Bool) (u : List ℕ) (n : ℕ) (e : n ≡ digits u) (w : ℕ) (ew : w ≡ capped (worth 0 (take n u))) where
-  -- the parts, where f stands behind the point
-  parts : (f : List ℕ) → f ≡ drop (n + 1) u → (d v : ℕ) → d ≡ length f → v ≡ capped (worth w f)
-      → ◌≡◌ {A = Numeral} (record { negative = negative; decimals = d; digits = v }) (unsigned_numeral negative u)
+  -- what stands behind the point, or nothing, are its decimals
+  pub parts : (f : List ℕ) → f ≡ drop (n + 1) u → (v : ℕ) → v ≡ capped (worth w f)
+      → ◌≡◌ {A = Numeral} (record { negative = negative; decimals = length f; digits = v }) (unsigned_numeral negative u)
   unfolding unsigned_numeral
-  parts f ef d v ed ev =
+  parts f ef v ev =
       let p : drop (n + 1) u ≡ drop (digits u + 1) u = ap (λ (k : ℕ). drop (k + 1) u) e in
-      let q : d ≡ length (drop (digits u + 1) u) = ed ∙ ap length (ef ∙ p) in
+      let q : length f ≡ length (drop (digits u + 1) u) = ap length (ef ∙ p) in
       let r : v ≡ capped (worth 0 (take (digits u) u ++ drop (digits u + 1) u)) =
       ev ∙ ap (λ (x : ℕ). capped (worth x f)) ew ∙ capped-worth (worth 0 (take n u)) f ∙ ap capped (sym (worth-append 0 (take n u) f))
       ∙ ap (λ (k : ℕ). capped (worth 0 (take k u ++ f))) e ∙ ap (λ (l : List ℕ). capped (worth 0 (take (digits u) u ++ l))) (ef ∙ p)
       in
       rw (q, r) refl
-
-  -- the digits are all of the text
-  pub whole-numeral : n ≡ length u → ◌≡◌ {A = Numeral} (record { negative = negative; decimals = 0; digits = w }) (unsigned_numeral negative u)
-  unfolding numeral
-  whole-numeral h =
-      let x = worth 0 (take n u) in
-      parts [] (sym (drop_of_length-le u {i = n + 1} (omega arith))) 0 w refl (ew ∙ sym (capped-worth x []) ∙ ap capped (sym ew))
-
-  -- where a point follows the digits, those behind it are its decimals
-  pub point-numeral : (f : List ℕ) → f ≡ take (length u - (n + 1)) (drop (n + 1) u) → (v : ℕ) → v ≡ capped (worth w f)
-      → ◌≡◌ {A = Numeral} (record { negative = negative; decimals = length f; digits = v }) (unsigned_numeral negative u)
-  point-numeral f ef v ev = parts f (ef ∙ rest u (n + 1)) (length f) v refl ev
 
 -- ---- `numeral_of`: w bytes of white space, and a sign of k
 -- the number behind white space and its sign, read without a sign, is that of the whole text

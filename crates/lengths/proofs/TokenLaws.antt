@@ -80,13 +80,12 @@ module _ (place : ℕ) (n t : List ℕ) where
 
         -- nothing stands behind the unit
         pub unit-alone : b ≡ true → (u : List ℕ) → u ≡ part z 0 l → (r : (Result (Option Length) LengthError)) → r ≡ dimension_length place n u
-            → (r ≡ length_behind place n t) × (z ≡ sets st 0 (name_text (ident_of t)))
-        unit-alone e u eu r er =
-            (er ∙ ap (dimension_length place n) (eu ∙ unit-back) ∙ pick_true _ _ _ _ (alone true e) refl ∙ sym (behind-unit m name read.0), w.1)
+            → r ≡ length_behind place n t
+        unit-alone e u eu r er = er ∙ ap (dimension_length place n) (eu ∙ unit-back) ∙ pick_true _ _ _ _ (alone true e) refl ∙ sym (behind-unit m name read.0)
 
         -- where something stands behind the unit, the value is no length
-        pub unit-followed : b ≡ false → (Ok None ≡ length_behind place n t) × (z ≡ sets st 0 (name_text (ident_of t)))
-        unit-followed e = (pick-false _ _ _ _ (alone false e) refl ∙ sym (behind-unit m name read.0), w.1)
+        pub unit-followed : b ≡ false → Ok None ≡ length_behind place n t
+        unit-followed e = pick-false _ _ _ _ (alone false e) refl ∙ sym (behind-unit m name read.0)
 
     module _ (q : x ≡ None) (b : Bool) (eb : b ≡ only_whitespace t) where
       -- no name reads behind the number
@@ -94,12 +93,12 @@ module _ (place : ℕ) (n t : List ℕ) where
       none = unnamed-from (ident_of t) (sym q ∙ w.0)
 
       -- nothing stands behind the number
-      pub number-alone : b ≡ true → (r : Option Length) → Ok r ≡ number_length n → (Ok r ≡ length_behind place n t) × (z ≡ sets st 0 (name_text (ident_of t)))
-      number-alone e r er = (er ∙ pick_true _ _ _ _ (told _ _ _ eb e) refl ∙ sym (behind-none none), w.1)
+      pub number-alone : b ≡ true → (r : Option Length) → Ok r ≡ number_length n → Ok r ≡ length_behind place n t
+      number-alone e r er = er ∙ pick_true _ _ _ _ (told _ _ _ eb e) refl ∙ sym (behind-none none)
 
       -- where something stands behind the number, the value is no length
-      pub number-followed : b ≡ false → (Ok None ≡ length_behind place n t) × (z ≡ sets st 0 (name_text (ident_of t)))
-      number-followed e = (pick-false _ _ _ _ (told _ _ _ eb e) refl ∙ sym (behind-none none), w.1)
+      pub number-followed : b ≡ false → Ok None ≡ length_behind place n t
+      number-followed e = pick-false _ _ _ _ (told _ _ _ eb e) refl ∙ sym (behind-none none)
 
 -- ---- the length of each kind of token
 module _ (place : ℕ) (n u : List ℕ) where

@@ -22,7 +22,7 @@ const UNITS: [(&str, (Kind, u32)); 8] = [
 // What the last digit of a number is worth in ten-thousandths, by its decimals. No length has more than four.
 const SCALES: [u64; 5] = [10000, 1000, 100, 10, 1];
 
-// The length of a number that starts at `place`, in a unit of the kind of which a ten-thousandth is the factor.
+// The length of a number that starts at `place`, in a unit of the kind of which a ten-thousandth is the factor. `place` goes with the number for the error alone.
 fn with_unit(place: usize, n: &[u8], kind: Kind, factor: u32) -> Result<Option<Length>, LengthError>
     ensures { result ≡ with_unit place n.now kind factor }
 {
@@ -31,11 +31,8 @@ fn with_unit(place: usize, n: &[u8], kind: Kind, factor: u32) -> Result<Option<L
         return Err(LengthError::BadLength(place)); // five decimals or more
     };
     let amount = numeral.digits * scale;
-    if amount > MOST_DIGITS {
-        return Err(LengthError::BadLength(place)); // above 10,000
-    }
-    if numeral.negative && amount > 0 {
-        return Err(LengthError::BadLength(place)); // below zero
+    if amount > MOST_DIGITS || numeral.negative && amount > 0 {
+        return Err(LengthError::BadLength(place)); // above 10,000, or below zero
     }
     Ok(Some(Length {
         kind,

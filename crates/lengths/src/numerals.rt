@@ -15,7 +15,8 @@ const TEN: u64 = 10;
 // The most that the digits of a length can make: 10,000, with its four decimals. More digits only make it more.
 pub const MOST_DIGITS: u64 = 100000000;
 
-// A number: whether a '-' stands before it, how many decimals it has, and its digits read as one number, or one above the most.
+// A number: whether a '-' stands before it, how many decimals it has, and its digits read as one number, or one above the most, which
+// is compared with the most and with zero as any other number is.
 #[derive(Clone, Copy)]
 pub struct Numeral {
     pub negative: bool,
@@ -42,19 +43,11 @@ fn unsigned_numeral(u: &[u8], negative: bool) -> Numeral
     ensures { result ≡ unsigned_numeral negative u.now }
 {
     let n = parse_integer(u);
-    let integer = digits_from(0, &u[..n]);
-    if n == u.len() {
-        return Numeral {
-            negative,
-            decimals: 0,
-            digits: integer,
-        };
-    }
-    let fraction = &u[n + 1..];
+    let fraction = u.get(n + 1..).unwrap_or(&[]); // no point: no decimals
     Numeral {
         negative,
         decimals: fraction.len(),
-        digits: digits_from(integer, fraction),
+        digits: digits_from(digits_from(0, &u[..n]), fraction),
     }
 }
 

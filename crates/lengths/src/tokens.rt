@@ -41,16 +41,13 @@ fn length_behind(
     ensures value { result ≡ length_behind place number.now rest.now }
     ensures texts_after { texts.new ≡ sets texts.old 0 (name_text (ident_of rest.now)) }
 {
-    let Some(unit) = parse_ident(rest, texts, 0) else {
-        if only_whitespace(rest) {
-            return Ok(number_length(number));
+    match parse_ident(rest, texts, 0) {
+        None if only_whitespace(rest) => Ok(number_length(number)),
+        Some(unit) if only_whitespace(&rest[unit.taken..]) => {
+            dimension_length(place, number, part_of(texts, 0, unit.length))
         }
-        return Ok(None);
-    };
-    if only_whitespace(&rest[unit.taken..]) {
-        return dimension_length(place, number, part_of(texts, 0, unit.length));
+        _ => Ok(None),
     }
-    Ok(None)
 }
 
 // The length that a value is.

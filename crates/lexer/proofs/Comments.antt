@@ -9,7 +9,7 @@ use Rattle.std.proofs.lemmas.Bool.Decides.{nat_tests}
 use mathlib.Core.Path.{◌≡◌, refl, ap, sym, ◌∙◌}
 use mathlib.Core.List.{List, [], ◌∷◌}
 use mathlib.Core.Bool.{Bool, true, false, ◌&&◌}
-use Prim.Native.Nat.{ℕ, suc, ◌+◌, ◌-◌, ◌<◌, ◌≤◌, zero-le}
+use Prim.Native.Nat.{ℕ, suc, ◌+◌, ◌<◌, ◌≤◌, zero-le}
 use native.Mathlib.Omega.{arith}
 use lib.Dec.{eqb, ltb}
 use lib.Pointwise.{pointwise}
@@ -17,7 +17,7 @@ use lib.ListN.{length, get_or, take, drop, length-drop}
 use Rattle.combinators.specs.Choice.{and, or, pick, is}
 use Rattle.combinators.specs.Ascii.{asterisk, solidus, space}
 use Rattle.combinators.proofs.Rules.{never, pick_true, is-no, and-true, or-none, pick-holds}
-use Rattle.combinators.proofs.Lists.{test-there, byte-there, rest}
+use Rattle.combinators.proofs.Lists.{test-there, byte-there}
 use Rattle.combinators.proofs.Repeats.{many-le}
 use Rattle.lexer.specs.Taken.{taken_answer}
 use Rattle.std.proofs.lemmas.Option.{same_Some, none-some}
@@ -113,10 +113,6 @@ skip-le s = omega (arith, many-le whitespace_item s 0 0)
 
 -- ---- `skip_from`: the place behind white space and comments from a place on
 module _ (s : List ℕ) (at : ℕ) where
-  -- what is skipped of the lent rest is what is skipped from the place on
-  pub skipped-from : {w : ℕ} → w ≡ skip_whitespace (take (length s - at) (drop at s)) → at + w ≡ at + skip_whitespace (drop at s)
-  skipped-from e = ap (λ x. at + x) (e ∙ ap skip_whitespace (rest s at))
-
   -- skipping from a place within the text ends within the text
   pub skip-from-le : at ≤ length s → at + skip_whitespace (drop at s) ≤ length s
   skip-from-le h = omega (arith, skip-le (drop at s), length-drop at s)

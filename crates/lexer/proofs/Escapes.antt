@@ -13,11 +13,11 @@ use lib.ListN.{length, get_or, take, drop}
 use lib.Seq.{drop-drop}
 use Rattle.combinators.specs.Choice.{is}
 use Rattle.combinators.specs.Ascii.{digit_zero, digit_nine, capital_a, capital_f, small_a, small_f, reverse_solidus}
-use Rattle.combinators.proofs.Rules.{cases, pick-holds, pick_true, pick-false, told, is-no, is-yes-of, is-no-of, within-true}
+use Rattle.combinators.proofs.Rules.{pick-holds, pick_true, pick-false, told, is-no, is-no-of, within-true}
 use Rattle.combinators.proofs.Lists.{first}
-use Rattle.characters.specs.Utf8.{or_replacement, scalar_of, replacement_character}
+use Rattle.characters.specs.Utf8.{or_replacement}
 use Rattle.combinators.specs.declared.taken.Taken.{Taken}
-use Rattle.lexer.specs.Name.{lower, is_hex_digit, hex_digit, hex_run, maximum_digits, hex_count, hex_value, escaped_of, ident_escape_of, behind_one, folded_char, either}
+use Rattle.lexer.specs.Name.{lower, is_hex_digit, hex_digit, hex_run, maximum_digits, hex_count, hex_value, escaped_of, ident_escape_of, folded_char, either}
 
 -- ---- how large the number is that hex digits write
 -- what k of them write is below this
@@ -92,11 +92,6 @@ module _ (s : List ℕ) (n v i : ℕ) (c : Reading s n v i) where
 
 -- ---- the returns of `hex_count`
 module _ (t : List ℕ) (n : ℕ) (e : n ≡ hex_run 0 maximum_digits t) where
-  -- the digits run to the end of the text
-  pub to_end : n ≡ length t → 1 ≡ hex_count t
-  unfolding hex_count
-  to_end h = pick_true _ _ _ _ (is-yes-of _ _ _ e h) refl
-
   -- where the run ends before the end of the text, all its digits are taken
   pub short-of : ¬ (n ≡ length t) → n ≡ hex_count t
   unfolding hex_count
@@ -114,34 +109,13 @@ module _ (p : ℕ → Bool) (s : List ℕ) (b : ℕ) (eb : b ≡ get_or s 0 0) (
   unfolding folded_char
   char-no e = pick-false _ _ _ _ (told _ _ _ (er ∙ ap p eb) e) refl
 
--- ---- the returns of `escaped`
-module _ (t : List ℕ) where
-  -- the end of the text
-  pub escaped-end : length t ≡ 0 → Some (record { taken = 1; value = replacement_character }) ≡ escaped_of t
-  unfolding escaped_of
-  escaped-end h = search cases
-
-  module _ (d : ¬ (length t ≡ 0)) (b : ℕ) (eb : b ≡ get_or t 0 0) (r : Bool) (er : r ≡ is_hex_digit b) where
-    -- hex digits behind the backslash stand for the scalar value that they write, or U+FFFD
-    pub escaped-hex : r ≡ true → (n m v : ℕ) → n ≡ hex_count t → m ≡ hex_value 0 n t → v ≡ or_replacement m → Some (record { taken = 1 + n; value = v }) ≡ escaped_of t
-    unfolding escaped_of
-    escaped-hex e n m v en em ev =
-        pick-false _ _ _ _ (is-no _ _ d) (pick_true _ _ _ _ (told _ _ _ (er ∙ ap is_hex_digit eb) e) (rw (ev, em, en)))
-
-    -- where no hex digit stands behind the backslash, the escape is the character that stands there, with the backslash counted
-    other : r ≡ false → behind_one (scalar_of t) ≡ escaped_of t
-    unfolding escaped_of
-    other e = pick-false _ _ _ _ (is-no _ _ d) (pick-false _ _ _ _ (told _ _ _ (er ∙ ap is_hex_digit eb) e) refl)
-
-    -- a character that is read behind the backslash is what the escape stands for
-    pub escaped-char : r ≡ false → (x : Option (Taken ℕ)) → x ≡ scalar_of t → (n v : ℕ) → x ≡ Some (record { taken = n; value = v }) → Some (record { taken = 1 + n; value = v }) ≡ escaped_of t
-    unfolding behind_one
-    escaped-char e x ex n v h = ap behind_one (sym h ∙ ex) ∙ other e
-
-    -- where no well-formed sequence stands behind the backslash, there is no escape
-    pub escaped-none : r ≡ false → (x : Option (Taken ℕ)) → x ≡ scalar_of t → x ≡ None → None ≡ escaped_of t
-    unfolding behind_one
-    escaped-none e x ex h = ap behind_one (sym h ∙ ex) ∙ other e
+-- ---- a return of `escaped`
+-- hex digits behind the backslash stand for the scalar value that they write, or U+FFFD
+pub escaped-hex : (t : List ℕ) → ¬ (length t ≡ 0) → (b : ℕ) → b ≡ get_or t 0 0 → (r : Bool) → r ≡ is_hex_digit b → r ≡ true
+    → (n m v : ℕ) → n ≡ hex_count t → m ≡ hex_value 0 n t → v ≡ or_replacement m → Some (record { taken = 1 + n; value = v }) ≡ escaped_of t
+unfolding escaped_of
+escaped-hex t d b eb r er e n m v en em ev =
+    pick-false _ _ _ _ (is-no _ _ d) (pick_true _ _ _ _ (told _ _ _ (er ∙ ap is_hex_digit eb) e) (rw (ev, em, en)))
 
 -- ---- the returns of `ident_escape`
 -- the library's test of the first byte

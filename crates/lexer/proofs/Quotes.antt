@@ -15,27 +15,26 @@ use Rattle.combinators.proofs.Rules.{pick-holds, is_true, is_false}
 use Rattle.combinators.proofs.Lists.{rest, first}
 use Rattle.combinators.proofs.Repeats.{many-le}
 use Rattle.combinators.proofs.Emitted.{emits_none}
-use Rattle.lexer.specs.Quoted.{escaped_byte, quoted_of, taken_of, text_of, quoted_answer, quoted_taken, quoted_text, string_end, string_text}
-use Rattle.lexer.specs.declared.strings.Quoted.{Quoted}
-use Rattle.lexer.specs.declared.strings.Quoted.TheVariants.{Byte, Skip}
+use Rattle.lexer.specs.Quoted.{one_byte, no_byte, escaped_byte, quoted_of, taken_of, text_by, text_of, quoted_answer, quoted_taken, quoted_text, string_end, string_text}
+use Rattle.combinators.specs.declared.taken.Taken.{Taken}
 use Rattle.lexer.specs.declared.Written.{Written}
 use Rattle.lexer.proofs.Bounds.{repeated-short, many-stops}
 use Rattle.lexer.proofs.Writing.{Writing, Wrote, writing_more, writing-none}
 
 -- a character takes no more than there is, and stands for no more than it takes
-record Fine (s : List ℕ) (c : Option Quoted) : Type 0 where
+record Fine (s : List ℕ) (c : Option (Taken (Option ℕ))) : Type 0 where
   pub within_text : taken_of c ≤ length s
   pub small : length (text_of c) ≤ taken_of c
-  pub some : (k : Quoted) → c ≡ Some k → 1 ≤ taken_of c
+  pub some : (k : Taken (Option ℕ)) → c ≡ Some k → 1 ≤ taken_of c
 
 -- by the cases of a turn
-fine-byte : (s : List ℕ) (n b : ℕ) → n ≤ length s → 1 ≤ n → Fine s (Some (Byte n b))
-unfolding taken_of text_of
+fine-byte : (s : List ℕ) (n b : ℕ) → n ≤ length s → 1 ≤ n → Fine s (Some (one_byte n b))
+unfolding taken_of text_of text_by
 fine-byte s n b h l = record { within_text = h; small = l; some = λ _ _. l }
 
 -- bytes that stand for nothing, no more than there are, are fine
-fine-skip : (s : List ℕ) (n : ℕ) → n ≤ length s → 1 ≤ n → Fine s (Some (Skip n))
-unfolding taken_of text_of
+fine-skip : (s : List ℕ) (n : ℕ) → n ≤ length s → 1 ≤ n → Fine s (Some (no_byte n))
+unfolding taken_of text_of text_by
 fine-skip s n h l = record { within_text = h; small = omega arith; some = λ _ _. l }
 
 -- the end of a string, which takes nothing, is fine
@@ -72,18 +71,18 @@ unfolding quoted_taken quoted_text
 quoted-short q s = (fine q s).small
 
 -- ---- the returns of `emit_quoted`
-module _ (q : ℕ) (s : List ℕ) (x : Option Quoted) (e : x ≡ quoted_of q s) where
+module _ (q : ℕ) (s : List ℕ) (x : Option (Taken (Option ℕ))) (e : x ≡ quoted_of q s) where
   -- where a byte of text was read: so many bytes are taken, for one byte
-  pub turn_byte : (c : Quoted) → x ≡ Some c → (n b : ℕ) → c ≡ Byte n b
-      → (Some (record { taken = n; length = 1 }) ≡ quoted_answer (quoted_of q s)) × (b ∷ [] ≡ quoted_text q s)
-  unfolding quoted_answer quoted_text text_of
-  turn_byte c h n b k = rw (← e, h, k) (refl, refl)
+  pub turn_byte : (c : Taken (Option ℕ)) → x ≡ Some c → (b : ℕ) → c.value ≡ Some b
+      → (Some (record { taken = c.taken; length = 1 }) ≡ quoted_answer (quoted_of q s)) × (b ∷ [] ≡ quoted_text q s)
+  unfolding quoted_answer quoted_text text_of text_by
+  turn_byte c h b k = rw (← e, h, k) (refl, refl)
 
   -- bytes that stand for nothing
-  pub turn-skip : (c : Quoted) → x ≡ Some c → (n : ℕ) → c ≡ Skip n
-      → (Some (record { taken = n; length = 0 }) ≡ quoted_answer (quoted_of q s)) × ([] ≡ quoted_text q s)
-  unfolding quoted_answer quoted_text text_of
-  turn-skip c h n k = rw (← e, h, k) (refl, refl)
+  pub turn-none : (c : Taken (Option ℕ)) → x ≡ Some c → c.value ≡ None
+      → (Some (record { taken = c.taken; length = 0 }) ≡ quoted_answer (quoted_of q s)) × ([] ≡ quoted_text q s)
+  unfolding quoted_answer quoted_text text_of text_by
+  turn-none c h k = rw (← e, h, k) (refl, refl)
 
   -- the end of the string
   pub turn-stop : x ≡ None → (None ≡ quoted_answer (quoted_of q s)) × ([] ≡ quoted_text q s)
@@ -91,21 +90,17 @@ module _ (q : ℕ) (s : List ℕ) (x : Option Quoted) (e : x ≡ quoted_of q s) 
   turn-stop h = rw (← e, h) (refl, refl)
 
 -- what an answer says of the character
-answer-some : (c : Option Quoted) (k m : ℕ) → Some (record { taken = k; length = m }) ≡ quoted_answer c → (taken_of c ≡ k) × (m ≡ length (text_of c)) × (¬ (c ≡ None))
+answer-some : (c : Option (Taken (Option ℕ))) (k m : ℕ) → Some (record { taken = k; length = m }) ≡ quoted_answer c → (taken_of c ≡ k) × (m ≡ length (text_of c)) × (¬ (c ≡ None))
 unfolding quoted_answer taken_of text_of
-answer-some (Some (Byte n b)) k m e =
-    let q : record { taken = k; length = m } ≡ record { taken = n; length = 1 } = same_Some _ _ e in
-    (sym (ap (λ w. w.taken) q), ap (λ w. w.length) q, (λ z. none-some _ (sym z)))
-answer-some (Some (Skip n)) k m e =
-    let q : record { taken = k; length = m } ≡ record { taken = n; length = 0 } = same_Some _ _ e in
+answer-some (Some c) k m e =
+    let q : record { taken = k; length = m } ≡ record { taken = c.taken; length = length (text_by c.value) } = same_Some _ _ e in
     (sym (ap (λ w. w.taken) q), ap (λ w. w.length) q, (λ z. none-some _ (sym z)))
 answer-some None k m e = absurd (none-some _ (sym e))
 
 -- where there is no answer, the string is at its end
-answer-none : (c : Option Quoted) → None ≡ quoted_answer c → c ≡ None
+answer-none : (c : Option (Taken (Option ℕ))) → None ≡ quoted_answer c → c ≡ None
 unfolding quoted_answer
-answer-none (Some (Byte n b)) e = absurd (none-some _ e)
-answer-none (Some (Skip n)) e = absurd (none-some _ e)
+answer-none (Some c) e = absurd (none-some _ e)
 answer-none None e = refl
 
 -- nothing is written where the text is empty
@@ -133,7 +128,7 @@ quoted-some : (q : ℕ) (s : List ℕ) → ¬ (quoted_of q s ≡ None) → ¬ (q
 unfolding quoted_taken
 quoted-some q s d = go (quoted_of q s) d (fine q s)
   where
-    go : (c : Option Quoted) → ¬ (c ≡ None) → Fine s c → ¬ (taken_of c ≡ 0)
+    go : (c : Option (Taken (Option ℕ))) → ¬ (c ≡ None) → Fine s c → ¬ (taken_of c ≡ 0)
     go (Some c) d f z = let l = f.some c refl in omega arith
     go None d f z = d refl
 
@@ -146,14 +141,14 @@ quoted-stop q s =
     (λ _. pick-holds P _ _ _ (λ e _. inr (inr (is_true _ _ e)))
     (λ _. pick-holds P _ _ _ (λ _ e. absurd (none-some _ (sym e))) (λ _ e. absurd (none-some _ (sym e))))))
   where
-    P : Option Quoted → Type 0
+    P : Option (Taken (Option ℕ)) → Type 0
     P c = c ≡ None → Ends q s
 
 -- a character that takes nothing is none
 taken-stop : (q : ℕ) (s : List ℕ) → quoted_taken q s ≡ 0 → quoted_of q s ≡ None
 taken-stop q s h = go (quoted_of q s) refl
   where
-    go : (c : Option Quoted) → quoted_of q s ≡ c → quoted_of q s ≡ None
+    go : (c : Option (Taken (Option ℕ))) → quoted_of q s ≡ c → quoted_of q s ≡ None
     go (Some c) e = absurd (quoted-some q s (λ z. none-some _ (sym z ∙ e)) h)
     go None e = e
 

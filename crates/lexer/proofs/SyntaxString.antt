@@ -14,8 +14,7 @@ use Rattle.combinators.specs.Ascii.{line_feed, reverse_solidus}
 use Rattle.combinators.specs.Repeat.{many, texts, took}
 use Rattle.combinators.proofs.Rules.{pick-holds, pick_true, pick-false, and-true, is-yes, is-no}
 use Rattle.combinators.proofs.Repeats.{many-stop, texts-stop}
-use Rattle.lexer.specs.Quoted.{quoted_of, taken_of, text_of, quoted_taken, quoted_text, string_end, string_text}
-use Rattle.lexer.specs.declared.strings.Quoted.TheVariants.{Byte}
+use Rattle.lexer.specs.Quoted.{one_byte, quoted_of, taken_of, text_by, text_of, quoted_taken, quoted_text, string_end, string_text}
 
 -- x is not the quote q, a newline or a backslash
 unfoldable pub ordinary : ℕ → ℕ → Bool
@@ -27,7 +26,7 @@ plain q [] = true
 plain q (x ∷ r) = and (ordinary q x) (plain q r)
 
 -- an ordinary byte is read as itself
-itself : (q x : ℕ) (r : List ℕ) → ordinary q x ≡ true → Some (Byte 1 x) ≡ quoted_of q (x ∷ r)
+itself : (q x : ℕ) (r : List ℕ) → ordinary q x ≡ true → Some (one_byte 1 x) ≡ quoted_of q (x ∷ r)
 unfolding ordinary quoted_of
 itself q x r h =
     let p = and-true (not (is x q)) _ h in
@@ -40,7 +39,7 @@ itself q x r h =
 
 -- it takes one byte and stands for itself
 itself-read : (q x : ℕ) (r : List ℕ) → ordinary q x ≡ true → (quoted_taken q (x ∷ r) ≡ 1) × (quoted_text q (x ∷ r) ≡ x ∷ [])
-unfolding quoted_taken quoted_text taken_of text_of
+unfolding quoted_taken quoted_text taken_of text_of text_by
 itself-read q x r h = rw (← itself q x r h) (refl, refl)
 
 -- a plain text before t, where no character begins, ends there

@@ -114,7 +114,7 @@ string-from q t h =
 pub string-bounded : (t : List ℕ) → Bounded t (string_of t)
 unfolding string_of
 string-bounded t =
-    pick-holds (Bounded t) _ _ _ (λ e. string-from (get_or t 0 0) t (quote-there t _ refl _ refl e)) (λ _. tt)
+    pick-holds (Bounded t) _ _ _ (λ e. string-from (get_or t 0 0) t (quote-there t e)) (λ _. tt)
 
 -- ---- by the first character
 module _ (c n : ℕ) (t : List ℕ) (i : 1 ≤ n) (h : n ≤ length t) where

@@ -1,14 +1,15 @@
 -- The returns of the readers of tokens that a first character selects.
 use Rattle.std.specs.Option.{IsSomeAnd}
 use Rattle.std.proofs.Common.{Some, None, Option, MatchOption}
+use Rattle.std.proofs.lemmas.List.{nil_from_length}
 use mathlib.Core.Path.{◌≡◌, refl, ap, sym, ◌∙◌}
-use mathlib.Core.List.{List, []}
+use mathlib.Core.List.{List, [], ◌∷◌}
 use mathlib.Core.Bool.{Bool, true, false}
 use Prim.Native.Nat.{ℕ, ◌+◌, ◌-◌, ◌≤◌}
 use native.Mathlib.Omega.{arith}
-use lib.ListN.{length, get_or, take, drop, length-drop}
+use lib.ListN.{length, get_or, take, drop}
 use lib.Seq.{sets, length-take-le}
-use Rattle.combinators.specs.Choice.{pick, is}
+use Rattle.combinators.specs.Choice.{pick, or, is}
 use Rattle.combinators.specs.Ascii.{percent_sign, left_parenthesis, quotation_mark, apostrophe}
 use Rattle.combinators.specs.Parsed.{ok, err, on_parsed, behind}
 use Rattle.combinators.specs.Word.{starts_with}
@@ -138,32 +139,38 @@ module _ (s st z : List ℕ) (fill : ℕ) (x : Option Written) (w : Named (ident
     unfolding coded text_of
     ident-like h = lexes-ok _ _ _ (like ∙ sym (pick-false _ _ _ _ (told _ _ _ er h) refl)) _ (rw read.1) st z fill w.1
 
--- ---- `parse_string_token`: q is the first byte, and c whether it is a quote
-module _ (t : List ℕ) (q : ℕ) (eq : q ≡ get_or t 0 0) (c : Bool) (ec : c ≡ is_quote q) where
-  -- a quote that is found stands before the end of the text
-  pub quote-there : c ≡ true → 1 ≤ length t
-  unfolding is_quote
-  quote-there h =
-      either (1 ≤ length t) _ _ (told _ _ _ (ec ∙ ap is_quote eq) h)
-      (λ e. byte-there t 0 quotation_mark (omega arith) e) (λ e. byte-there t 0 apostrophe (omega arith) e)
+-- ---- `parse_string_token`
+-- a quote that a text begins with stands before its end
+pub quote-there : (t : List ℕ) → is_quote (get_or t 0 0) ≡ true → 1 ≤ length t
+unfolding is_quote
+quote-there t h = either (1 ≤ length t) _ _ h (λ e. byte-there t 0 quotation_mark (omega arith) e) (λ e. byte-there t 0 apostrophe (omega arith) e)
+
+string-of-none : string_of [] ≡ err
+unfolding string_of is_quote or is pick
+string-of-none = refl
+
+-- where there is no first byte, there is no string and the store is as it was
+pub string-missing : (t : List ℕ) → length t ≡ 0 → (st : List ℕ) (fill : ℕ) → Lexes (string_of t) st fill None st
+string-missing t e st fill = lexes-err _ (ap string_of (nil_from_length t e) ∙ string-of-none) st st fill refl
+
+-- q is the first byte and u what stands behind it, and c whether q is a quote
+module _ (t : List ℕ) (q : ℕ) (u : List ℕ) (et : t ≡ q ∷ u) (c : Bool) (ec : c ≡ is_quote q) where
+  by_first : string_of t ≡ pick (is_quote q) (string_from q u (string_end q u) (string_text q u)) err
+  unfolding string_of
+  by_first = rw et refl
 
   -- where the first byte is no quote, there is no string and the store is as it was
   pub no-string : c ≡ false → (st : List ℕ) (fill : ℕ) → Lexes (string_of t) st fill None st
-  unfolding string_of
-  no-string h st fill = lexes-err _ (sym (pick-false _ _ _ _ (told _ _ _ (ec ∙ ap is_quote eq) h) refl)) st st fill refl
+  no-string h st fill = lexes-err _ (by_first ∙ sym (pick-false _ _ _ _ (sym ec ∙ h) refl)) st st fill refl
 
-  module _ (h : c ≡ true) (u : List ℕ) (eu : u ≡ take (length t - 1) (drop 1 t)) (st z : List ℕ) (fill n m : ℕ)
-      (w : ((n ≡ string_end q u) × (m ≡ length (string_text q u))) × (z ≡ sets st fill (string_text q u))) where
+  module _ (h : c ≡ true) (st z : List ℕ) (fill n m : ℕ) (w : ((n ≡ string_end q u) × (m ≡ length (string_text q u))) × (z ≡ sets st fill (string_text q u))) where
     -- by how the string ends
     quoted : string_of t ≡ string_from q u n (string_text q u)
-    unfolding string_of
-    quoted =
-        sym (pick_true _ _ _ _ (told _ _ _ (ec ∙ ap is_quote eq) h) refl)
-        ∙ rw (← eq, ← rest t 1, ← eu, ← w.0.0)
+    quoted = by_first ∙ sym (pick_true _ _ _ _ (sym ec ∙ h) refl) ∙ ap (λ k. string_from q u k (string_text q u)) (sym w.0.0)
 
-    -- what is taken behind the quote is in the text
-    pub string-within : n ≤ length t
-    string-within = omega (arith, w.0.0, string-le q u, ap length (eu ∙ rest t 1), length-drop 1 t)
+    -- what is taken behind the quote is there
+    pub string-within : n ≤ length u
+    string-within = omega (arith, w.0.0, string-le q u)
 
     -- at the end of the text
     pub string-ended : n ≡ length u → Lexes (string_of t) st fill (Some (record { taken = 1 + n; value = code.String m })) z

@@ -5,40 +5,48 @@ use Rattle.combinators.specs.Ascii.{line_feed, quotation_mark, reverse_solidus}
 use Rattle.combinators.specs.Repeat.{many, texts, took}
 use Rattle.characters.specs.Literal.{text}
 use Rattle.characters.specs.Utf8.{utf8, continuation}
-use Rattle.lexer.specs.declared.strings.Quoted.{Quoted}
-use Rattle.lexer.specs.declared.strings.Quoted.TheVariants.{Byte, Skip}
+use Rattle.combinators.specs.declared.taken.Taken.{Taken}
 use Rattle.lexer.specs.declared.Written.{Written}
 
+-- n bytes that stand for the byte b, and n that stand for nothing
+abbrev pub one_byte : ℕ → ℕ → Taken (Option ℕ)
+one_byte n b = record { taken = n; value = Some b }
+
+abbrev pub no_byte : ℕ → Taken (Option ℕ)
+no_byte n = record { taken = n; value = None }
+
 -- behind a backslash, where s begins with it: nothing at the end of the text, nothing for a line feed, else the next byte
-unfoldable pub escaped_byte : List ℕ → Quoted
+unfoldable pub escaped_byte : List ℕ → Taken (Option ℕ)
 escaped_byte s =
-    pick (is (length s) 1) (Skip 1)
-    (pick (is (get_or s 1 0) line_feed) (Skip 2)
-    (Byte 2 (get_or s 1 0)))
+    pick (is (length s) 1) (no_byte 1)
+    (pick (is (get_or s 1 0) line_feed) (no_byte 2)
+    (one_byte 2 (get_or s 1 0)))
 
 -- one turn, where q is the quote: it stops at the end of the text, at the quote and at a line feed
-unfoldable pub quoted_of : ℕ → List ℕ → Option Quoted
+unfoldable pub quoted_of : ℕ → List ℕ → Option (Taken (Option ℕ))
 quoted_of q s =
     pick (is (length s) 0) None
     (pick (is (get_or s 0 0) q) None
     (pick (is (get_or s 0 0) line_feed) None
     (pick (is (get_or s 0 0) reverse_solidus) (Some (escaped_byte s))
-    (Some (Byte 1 (get_or s 0 0))))))
+    (Some (one_byte 1 (get_or s 0 0))))))
 
-unfoldable pub taken_of : Option Quoted → ℕ
-taken_of (Some (Byte n b)) = n
-taken_of (Some (Skip n)) = n
+unfoldable pub taken_of : Option (Taken (Option ℕ)) → ℕ
+taken_of (Some c) = c.taken
 taken_of None = 0
 
-unfoldable pub text_of : Option Quoted → List ℕ
-text_of (Some (Byte n b)) = b ∷ []
-text_of (Some (Skip n)) = []
+-- a byte, or nothing, as a text
+unfoldable pub text_by : Option ℕ → List ℕ
+text_by (Some b) = b ∷ []
+text_by None = []
+
+unfoldable pub text_of : Option (Taken (Option ℕ)) → List ℕ
+text_of (Some c) = text_by c.value
 text_of None = []
 
 -- as the code answers: the bytes taken and the length of the text, which lies in the store
-unfoldable pub quoted_answer : Option Quoted → Option Written
-quoted_answer (Some (Byte n b)) = Some (record { taken = n; length = 1 })
-quoted_answer (Some (Skip n)) = Some (record { taken = n; length = 0 })
+unfoldable pub quoted_answer : Option (Taken (Option ℕ)) → Option Written
+quoted_answer (Some c) = Some (record { taken = c.taken; length = length (text_by c.value) })
 quoted_answer None = None
 
 unfoldable pub quoted_taken : ℕ → List ℕ → ℕ
@@ -59,5 +67,5 @@ test-string : (string_end quotation_mark (text "a\\") ≡ 2) × (string_text quo
     × (string_end quotation_mark (text "a\\\"b\"") ≡ 4) × (string_text quotation_mark (text "a\\\"b\"") ≡ text "a\"b")
     × (string_text quotation_mark (text "a\\\nb\"") ≡ text "ab") × (string_text quotation_mark (text "é\"") ≡ text "é")
     × (string_end quotation_mark (text "a\nb\"") ≡ 1)
-unfolding string_end string_text quoted_taken quoted_text taken_of text_of quoted_of escaped_byte many texts took pick is text utf8 continuation
+unfolding string_end string_text quoted_taken quoted_text taken_of text_of text_by quoted_of escaped_byte many texts took pick is text utf8 continuation
 test-string = (refl, refl, refl, refl, refl, refl, refl)

@@ -9,7 +9,8 @@ pub mod names; // names.rt: names, with escapes
 pub mod tokens; // tokens.rt: tokens
 pub mod rows; // rows.rt: tokens written to lent numbers
 
-// What was read takes so many bytes of the text, and stands for so many in the store, from the fill on.
+// What was read takes so many bytes of the text, and stands for so many in the store, from the fill on. It is no `Taken<usize>`, whose `value` would not say
+// that it is the length of a text.
 #[derive(Clone, Copy)]
 pub struct Written {
     pub taken: usize,

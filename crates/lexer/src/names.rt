@@ -74,17 +74,12 @@ pub fn is_hex_digit(b: u8) -> bool
     b.is_ascii_hexdigit()
 }
 
-// What a hex digit is worth. The arms are the definition's own.
+// What a hex digit is worth; any other byte counts as 0.
 #[tactic(auto, unfolding(crate::specs::Name::hex_digit, combinators::specs::Choice::pick, combinators::specs::Choice::within, combinators::specs::Choice::and))]
 pub fn hex_digit_of(b: u8) -> u32
     ensures { result ≡ hex_digit b }
 {
-    match b {
-        b'0'..=b'9' => u32::from(b - b'0'),
-        b'a'..=b'f' => u32::from(b - b'a') + 10,
-        b'A'..=b'F' => u32::from(b - b'A') + 10,
-        _ => 0,
-    }
+    char::from(b).to_digit(16).unwrap_or(0)
 }
 
 // How many hex digits `t` begins with, up to six.
@@ -119,16 +114,17 @@ fn hex_value_of(t: &[u8], n: usize) -> u32
 }
 
 // What an escape stands for, from behind its backslash on; the backslash counts among the bytes taken.
+#[tactic(auto, unfolding(crate::specs::Name::escaped_of, crate::specs::Name::behind_one, combinators::specs::Choice::pick, combinators::specs::Choice::is))]
 fn escaped(t: &[u8]) -> Option<Taken<char>>
     ensures { result ≡ escaped_of t.now }
 {
-    if t.is_empty() {
+    let Some(b) = t.first() else {
         return Some(Taken {
             taken: 1,
             value: char::REPLACEMENT_CHARACTER,
         });
-    }
-    if is_hex_digit(peek(t, 0)) {
+    };
+    if is_hex_digit(*b) {
         let n = hex_count(t);
         return Some(Taken {
             taken: 1 + n,

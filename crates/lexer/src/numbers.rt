@@ -47,7 +47,7 @@ fn parse_unsigned(s: &[u8]) -> Option<usize>
     }
 }
 
-// A sign or none.
+// How many bytes a sign takes, a count likewise: without one there are none.
 #[tactic(auto, unfolding(crate::specs::Number::sign, combinators::specs::Choice::pick, combinators::specs::Choice::or, combinators::specs::Choice::is))]
 pub fn parse_sign(s: &[u8]) -> usize
     ensures value { result ≡ sign s.now }

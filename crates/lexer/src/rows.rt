@@ -159,7 +159,7 @@ fn token_of(kind: u32, first: u32, second: u32) -> Token
     }
 }
 
-// The token whose row starts at `at`.
+// The token whose row starts at `at`. It is told a place and no row, since any place may be asked: behind the end of the rows all numbers are 0.
 pub fn token_at(rows: &[u32], at: usize) -> Token
     ensures { result ≡ token_in rows.now at }
 {

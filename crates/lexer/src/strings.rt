@@ -7,54 +7,56 @@ ghost use Rattle.lexer.specs.Quoted.{escaped_byte, quoted_answer, quoted_of, quo
 
 use crate::Written;
 use combinators::bytes::peek;
+use combinators::taken::Taken;
 use combinators::writer::Writer;
 
-// One turn of the string's loop: a byte of its text for so many bytes read, or bytes read that stand for nothing.
-#[derive(Clone, Copy)]
-pub enum Quoted {
-    Byte(usize, u8),
-    Skip(usize),
-}
-
-// What stands behind the backslash that `s` begins with.
+// What stands behind the backslash that `s` begins with: a byte of the string's text, or bytes that stand for nothing.
 #[tactic(auto, unfolding(crate::specs::Quoted::escaped_byte, combinators::specs::Choice::pick, combinators::specs::Choice::is))]
-fn escaped_byte(s: &[u8]) -> Quoted
+fn escaped_byte(s: &[u8]) -> Taken<Option<u8>>
     ensures { result ≡ escaped_byte s.now }
 {
     if s.len() == 1 {
-        return Quoted::Skip(1);
+        return Taken {
+            taken: 1,
+            value: None,
+        };
     }
-    match peek(s, 1) {
-        b'\n' => Quoted::Skip(2),
-        b => Quoted::Byte(2, b),
+    let b = peek(s, 1);
+    Taken {
+        taken: 2,
+        value: (b != b'\n').then_some(b),
     }
 }
 
-// The character that `s` begins with, unless the string ends there.
+// What `s` begins with, likewise, unless the string ends there.
 #[tactic(auto, unfolding(crate::specs::Quoted::quoted_of, combinators::specs::Choice::pick, combinators::specs::Choice::is))]
-fn quoted_byte(s: &[u8], quote: u8) -> Option<Quoted>
+fn quoted_byte(s: &[u8], quote: u8) -> Option<Taken<Option<u8>>>
     ensures { result ≡ quoted_of quote s.now }
 {
     match *s.first()? {
         b if b == quote => None,
         b'\n' => None,
         b'\\' => Some(escaped_byte(s)),
-        b => Some(Quoted::Byte(1, b)),
+        b => Some(Taken {
+            taken: 1,
+            value: Some(b),
+        }),
     }
 }
 
-// The character that `s` begins with, written.
+// What `s` begins with, written.
 fn emit_quoted(s: &[u8], quote: u8, writer: &mut Writer<'_>) -> Option<Written>
     ensures same_store { SameStore writer.old writer.new }
     ensures value { result ≡ quoted_answer (quoted_of quote s.now) }
     ensures written { written writer.new ≡ emits (written writer.old) (quoted_text quote s.now) }
 {
-    match quoted_byte(s, quote)? {
-        Quoted::Byte(taken, b) => {
+    let Taken { taken, value } = quoted_byte(s, quote)?;
+    match value {
+        Some(b) => {
             writer.emit(b);
             Some(Written { taken, length: 1 })
         }
-        Quoted::Skip(taken) => Some(Written { taken, length: 0 }),
+        None => Some(Written { taken, length: 0 }),
     }
 }
 

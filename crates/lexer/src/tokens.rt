@@ -11,11 +11,12 @@ use crate::numbers::parse_number;
 use crate::strings::emit_string;
 use crate::whitespace::skip_optional_whitespace;
 use characters::utf8::scalar_at;
-use combinators::bytes::{byte_is, peek, starts_with};
+use combinators::bytes::{byte_is, starts_with};
 use combinators::stores::emit_all;
 use combinators::taken::Taken;
 
-// A token, with the lengths of its texts, which lie in the store one behind the other, or the scalar value of a delimiter.
+// A token, with the lengths of its texts, which lie in the store one behind the other, or the scalar value of a delimiter. That is a number and no `char`,
+// since a token is read from lent rows too, which may hold any.
 #[derive(Clone, Copy)]
 pub enum Token {
     Ident(usize),
@@ -145,11 +146,10 @@ pub fn parse_string_token(t: &[u8], store: &mut [u8], fill: usize) -> Option<Tak
     ensures value { result ≡ token_answer (string_of t.now) }
     ensures store_after { store.new ≡ sets store.old fill (token_text (string_of t.now)) }
 {
-    let quote = peek(t, 0);
+    let (&quote, r) = t.split_first()?;
     if !is_quote(quote) {
         return None;
     }
-    let r = &t[1..];
     let w = emit_string(r, quote, store, fill);
     if w.taken == r.len() {
         return Some(Taken {
@@ -261,7 +261,8 @@ fn plus_token(t: &[u8], c: char, store: &mut [u8], fill: usize) -> Option<Taken<
     or_delim(number.map(|number| number.behind(1)), c)
 }
 
-// From '-' on: a number, the mark "-->", a name, or the delimiter.
+// From '-' on: a number, the mark "-->", a name, or the delimiter. A number returns by itself and through no `or_else`, behind whose closure nothing is known
+// of the store that it writes.
 fn minus_token(t: &[u8], c: char, store: &mut [u8], fill: usize) -> Option<Taken<Token>>
     ensures value { result ≡ token_answer (minus_of c t.now) }
     ensures store_after { store.new ≡ sets store.old fill (token_text (minus_of c t.now)) }

@@ -18,7 +18,6 @@ use Rattle.combinators.proofs.Rules.{or-none, within-false, within-past, within-
 use Rattle.characters.specs.Trim.{white_taken, word_taken}
 use Rattle.characters.specs.Utf8.{scalar_of}
 use Rattle.characters.specs.WhiteSpace.{is_white_space, in_ranges}
-use Rattle.characters.specs.declared.utf8.Lead.{Lead}
 use Rattle.characters.proofs.Reading.{at_ascii}
 use Rattle.characters.proofs.Trimming.{white-value, word_value}
 use Rattle.characters.proofs.WhiteSpaces.{white-space-ranges}

@@ -54,10 +54,6 @@ module _ (store components nodes attributes text : List ℕ) where
       pub rooted : Rooted nodes at
       pub same : Climb left row ≡ Climb n at
 
-    -- all of them, on the row itself
-    pub hand-begin : Rooted nodes row → Handed left row
-    hand-begin r = record { rooted = r; same = refl }
-
     module _ (n at : ℕ) (g : Handed n at) where
       -- with no component left the climb ends, and the selector matches
       pub none_left : n ≡ 0 → Ended Matches ≡ Climb left row
@@ -86,10 +82,6 @@ module _ (store components nodes attributes text : List ℕ) where
               }
 
         module _ (no-child : ¬ (k ≡ child_kind)) (no-descendant : ¬ (k ≡ descendant_kind)) where
-          -- a component that is neither combinator is a test
-          pub is-test : SimpleAt components (n - 1)
-          is-test = one.match-simple store components nodes attributes text n at no_zero k ek no-child no-descendant
-
           module _ (b : Bool) (eb : b ≡ matches (component_at store components (n - 1) ∷ []) (path_of nodes attributes text at)) where
             -- a test that the row passes hands the components before it to the row itself
             pub hand_on : b ≡ true → Handed (n - 1) at
@@ -251,20 +243,8 @@ module _ (store components nodes attributes text : List ℕ) where
       pub not-below : at ≤ row
       pub same : Above n row ≡ Above n at
 
-    -- none is tried yet
-    pub try-begin : Rooted nodes row → Trying row
-    try-begin r = record { rooted = r; not-below = omega arith; same = refl }
-
     module _ (at : ℕ) (d : Trying at) where
-      -- on no ancestor is more to come
-      pub none_above : NoneLeft store components nodes attributes text n at → FailsCompletely ≡ Above n row
-      none_above e = sym (d.same ∙ e.fails)
-
       module _ (q : ℕ) (next : NextAncestor store components nodes attributes text n at q) where
-        -- it stands above
-        pub falls : (t : ℕ) → n + row ≡ t → n + q < t
-        falls t e = omega (arith, d.not-below, next.higher)
-
         module _ (r : SelectorMatch) (er : r ≡ Result n q) where
           -- the ancestor's result decides, or else that of its own ancestors
           tried : Above n row ≡ or_else r (Above n q)

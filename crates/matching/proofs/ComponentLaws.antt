@@ -5,7 +5,7 @@ use mathlib.Core.Logic.{◌⊎◌, inl, inr}
 use mathlib.Core.List.{List, [], ◌∷◌, ◌++◌, reverse, reverse_aux-append}
 use mathlib.Core.Path.{◌≡◌, refl, sym, ap, ◌∙◌}
 use native.Mathlib.Omega.{arith}
-use lib.ListN.{length, get_or, drop, get_or-eq_default}
+use lib.ListN.{length, drop}
 use lib.Seq.{drop-drop, get_or-drop}
 use Rattle.combinators.specs.Choice.{pick, is}
 use Rattle.combinators.specs.Part.{part}
@@ -18,18 +18,7 @@ use Rattle.cascade.specs.declared.specificity.Specificity.{Specificity}
 use Rattle.matching.specs.Rows.{component_number, component_at, components_at, first_text, second_text}
 use Rattle.matching.specs.Specificity.{added, name_added, specificity}
 
--- ---- numbers and texts
-module _ (components : List ℕ) (i column : ℕ) where
-  -- a number of a row
-  pub number-there : (r : ℕ) → r ≡ get_or components (i * component_width + column) 0 → r ≡ component_number components i column
-  unfolding component_number
-  number-there r e = e
-
-  -- a row past the end has zeros
-  pub number_past : length components ≤ i → 0 ≡ component_number components i column
-  unfolding component_number
-  number_past h = sym (get_or-eq_default components 0 (omega arith))
-
+-- ---- texts
 module _ (store components : List ℕ) (i start first : ℕ) (es : start ≡ component_number components i component_text_at) (ef : first ≡ component_number components i component_first_at) where
   -- the first text of a component
   pub first_part : (r : List ℕ) → r ≡ part store start first → r ≡ first_text store components i
@@ -184,13 +173,6 @@ add_begin components n =
       classes = omega arith;
       types = omega arith;
     }
-
--- once all components were added the sum is the specificity
-pub add-end : (components : List ℕ) (n i : ℕ) (r : Specificity) → Adding components n i r → n ≤ i → (store : List ℕ) → r ≡ specificity (components_at store components n)
-add-end components n i r v h store =
-    let l = v.within_count in
-    let e : i ≡ n = omega arith in
-    v.total store ∙ ap (λ (m : ℕ). specificity (components_at store components m)) e
 
 -- x is what the i-th component adds
 module _ (components : List ℕ) (n i : ℕ) (r : Specificity) (v : Adding components n i r) (inside : i < n) (k : ℕ) (ek : k ≡ component_number components i component_kind_at)

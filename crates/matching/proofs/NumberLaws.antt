@@ -410,10 +410,6 @@ module _ (nodes attributes text : List ℕ) where
       pub rooted : Rooted nodes at
       pub same_first : First row ≡ First at
 
-    -- no row is asked yet
-    pub reach-begin : (row : ℕ) → Rooted nodes row → Reaching row row
-    reach-begin row r = record { rooted = r; same_first = refl }
-
     module _ (row at : ℕ) (g : Reaching row at) where
       -- with no element left, no row reaches a descendant combinator
       pub reach-end : at ≡ 0 → First row ≡ 0

@@ -1,7 +1,7 @@
 -- Signed numbers of 64 bits: sizes of differences and quotients, tests on the bits that a local holds, and the returns of `nth` and `signed_of`.
 use Prim.Native.Nat.{ℕ, zero, suc, ◌+◌, ◌-◌, ◌/◌, ◌%◌, ◌^◌, ◌≤◌, ◌<◌}
 use mathlib.Core.Bool.{Bool, true, false, cond}
-use mathlib.Core.Path.{◌≡◌, refl, sym, ap, ap₂, ◌∙◌, subst}
+use mathlib.Core.Path.{◌≡◌, refl, sym, ap, ◌∙◌, subst}
 use native.Mathlib.Nat.{div-le_self, zero-add}
 use native.Mathlib.Omega.{arith}
 use lib.Dec.{ltb, eqb}
@@ -175,10 +175,6 @@ module _ {v : ℕ} {h : ℤ} (fv : Fits w32 v) (fh : SFits w64 h) (e : h ≡ pos
   unfolding signed_of
   signed-even z = pick_true _ _ _ (is (v % 2) 0) (is-yes (v % 2) 0 z) even_is
 
-  -- the number that an even one stands for is in size at most 2^31
-  pub even-size : nat_abs (to_z w64 (of_z w64 h)) ≤ 2 ^ 31
-  even-size = subst (λ (x : ℤ). nat_abs x ≤ 2 ^ 31) (sym even_is) (omega (arith, half))
-
   -- the negative number that an odd one stands for fits 64 bits
   pub odd-computed : SFits w64 (negsuc 0 -ℤ to_z w64 (of_z w64 h))
   odd-computed = subst (SFits w64) (sym odd_is) (record { sfits = omega (arith, half) })
@@ -191,33 +187,3 @@ module _ {v : ℕ} {h : ℤ} (fv : Fits w32 v) (fh : SFits w64 h) (e : h ≡ pos
   pub signed_odd : ¬ (v % 2 ≡ 0) → to_z w64 (of_z w64 (negsuc 0 -ℤ to_z w64 (of_z w64 h))) ≡ signed_of v
   unfolding signed_of
   signed_odd z = pick-false _ _ _ (is (v % 2) 0) (is-no (v % 2) 0 z) back_is
-
-  -- the number that an odd one stands for is in size at most 2^31
-  pub odd-size : nat_abs (to_z w64 (of_z w64 (negsuc 0 -ℤ to_z w64 (of_z w64 h)))) ≤ 2 ^ 31
-  odd-size = subst (λ (x : ℤ). nat_abs x ≤ 2 ^ 31) (sym back_is) (omega (arith, half))
-
--- ---- `nth` of numbers that calls gave
-module _ (a b : ℤ) (ha : nat_abs a ≤ 2 ^ 31) (hb : nat_abs b ≤ 2 ^ 31) (idx : ℕ) where
-  -- a, of a size of at most 2^31, fits 64 bits with its sign
-  fits-a : SFits w64 a
-  fits-a = fits-by-size a (omega arith)
-
-  -- b, of a size of at most 2^31, fits 64 bits with its sign
-  fits-b : SFits w64 b
-  fits-b = fits-by-size b (omega arith)
-
-  -- numbers of 32 bits and a place below 2^62 are small enough
-  pub both_small : idx ≤ 2 ^ 62 → Small (to_z w64 (of_z w64 a)) (to_z w64 (of_z w64 b)) idx
-  both_small h =
-      record {
-        a_small = subst (λ (x : ℤ). nat_abs x ≤ 2 ^ 31) (sym (to_z-of_z fits-a)) ha;
-        b-small = subst (λ (x : ℤ). nat_abs x ≤ 2 ^ 31) (sym (to_z-of_z fits-b)) hb;
-        idx-small = h;
-      }
-
-  -- and it is asked of what they stand for
-  pub nth-of-both : (r : Bool) → r ≡ nth_matches (to_z w64 (of_z w64 a)) (to_z w64 (of_z w64 b)) idx → (x y : ℕ) → a ≡ signed_of x → b ≡ signed_of y
-      → (x' y' place : ℕ) → x ≡ x' → y ≡ y' → idx ≡ place → r ≡ nth_matches (signed_of x') (signed_of y') place
-  nth-of-both r e x y ea eb x' y' place ex ey ei =
-      e ∙ ap₂ (λ (u v : ℤ). nth_matches u v idx) (to_z-of_z fits-a ∙ ea ∙ ap signed_of ex) (to_z-of_z fits-b ∙ eb ∙ ap signed_of ey)
-      ∙ ap (nth_matches (signed_of x') (signed_of y')) ei

@@ -40,11 +40,11 @@ impl<'a> Element<'a> {
     {
         let nodes = self.page.nodes;
         let parent = parent_of(nodes, self.row);
-        let behind = (parent + 1) * NODE_WIDTH;
-        if parent < self.row && behind <= nodes.len() {
-            element_children(&nodes[behind..], parent, self.row - parent)
-        } else {
-            place_among(nodes, self.row)
+        match nodes.get((parent + 1) * NODE_WIDTH..) {
+            Some(behind) if parent < self.row => {
+                element_children(behind, parent, self.row - parent)
+            }
+            _ => place_among(nodes, self.row),
         }
     }
 
@@ -94,7 +94,7 @@ impl<'a> Attributes<'a> {
         }
     }
 
-    // Whether the attribute in a row has a name.
+    // Whether the attribute in a row has a name. This and the next compare one of its two texts each.
     pub fn is_named(self, row: usize, name: &[u8]) -> bool
         ensures { result ≡ is_named name.now (attribute_of self.entry.rows.now self.entry.text.now row) }
     {

@@ -1,13 +1,15 @@
 -- Values that are read one behind the other, and the returns and turns of the functions that pass over them.
 use mathlib.Core.Path.{◌≡◌, refl, sym, ap, ◌∙◌}
 use mathlib.Core.List.{List, [], ◌∷◌, ◌++◌}
-use Prim.Native.Nat.{ℕ, zero, suc, ◌+◌, ◌*◌, ◌-◌, ◌≤◌, ◌<◌}
+use Prim.Native.Nat.{ℕ, zero, suc, ◌+◌, ◌*◌, ◌-◌, ◌≤◌, ◌<◌, min}
 use native.Mathlib.Nat.{mul-zero, mul-suc}
 use native.Mathlib.Omega.{arith}
 use lib.ListN.{length, get_or, drop}
 use lib.Seq.{get_or-drop, drop-drop}
+use Rattle.combinators.specs.Choice.{pick, is}
+use Rattle.combinators.proofs.Rules.{pick-false, is-no}
 use Rattle.syntax.specs.Layout.{declaration_width, read_declaration}
-use Rattle.syntax.specs.RuleLayout.{component_width, selector_components, selector_head, rule_head, rule_selectors, rule_declarations, read_component, read_selector, read_rule}
+use Rattle.syntax.specs.RuleLayout.{component_width, selector_components, selector_pseudo, selector_head, pseudo_number, pseudo_from, rule_head, rule_selectors, rule_declarations, read_component, read_selector, read_rule}
 use Rattle.syntax.specs.Stream.{Read, read_many}
 use Rattle.declarations.proofs.StyleLaws.{read_behind}
 use Rattle.origins.specs.Rules.{selectors_read}
@@ -76,6 +78,20 @@ module _ (rows : List ℕ) (at : ℕ) where
       ∙ sym (declaration-rest texts n (drop declarations rows))
       ∙ rw (d texts, e, get_or-drop at rows rule_declarations 0)
 
+-- ---- pseudo elements
+-- a number above that of `::after` stands for it
+pseudo-least : (n : ℕ) → min n 2 ≡ pseudo_number (pseudo_from n)
+unfolding pseudo_number pseudo_from pick is
+pseudo-least zero = refl
+pseudo-least (suc zero) = refl
+pseudo-least (suc (suc n)) =
+    let e : min (suc (suc n)) 2 ≡ 2 = omega arith in
+    e ∙ ap pseudo_number (pick-false _ _ _ _ (is-no (suc (suc n)) 0 (λ h. absurd (omega arith))) (pick-false _ _ _ _ (is-no (suc (suc n)) 1 (λ h. absurd (omega arith))) refl))
+
+-- that of the selector at a place
+pub pseudo-there : (rows : List ℕ) (at n : ℕ) → n ≡ get_or rows (at + selector_pseudo) 0 → min n 2 ≡ pseudo_number (pseudo_from (get_or (drop at rows) selector_pseudo 0))
+pseudo-there rows at n e = pseudo-least n ∙ rw (e, get_or-drop at rows selector_pseudo 0)
+
 -- ---- a loop that passes over values, whatever the texts
 module _ {A : Type 0} (u : List ℕ → List ℕ → Read A) (rows : List ℕ) (count at : ℕ) where
   -- what is left to pass over is what was to be passed over
@@ -94,10 +110,6 @@ module _ {A : Type 0} (u : List ℕ → List ℕ → Read A) (rows : List ℕ) (
   unfolding read_many
   none-behind texts zero place h = refl
   none-behind texts (suc k) place h = absurd (omega arith)
-
-  -- before the first all are left
-  pub passing-all : Passing (count - 0) at
-  passing-all = let e : count - 0 ≡ count = omega arith in rw e (λ _. refl)
 
   module _ (left place : ℕ) (c : Passing left place) where
     -- with one value passed over, the others are left from behind it

@@ -12,7 +12,7 @@ use combinators::lent::{SheetTexts, Stores};
 use selectors::readings::{Panic, Read, take_back};
 use sheets::statements::parse_stylesheet;
 
-// The sheets by their numbers in a refusal.
+// The sheets by their numbers in a refusal, where alone they are told: an enum would be made here to be turned back into these numbers there.
 pub const AGENT_TEXT: usize = 0;
 
 pub const USER_TEXT: usize = 1;

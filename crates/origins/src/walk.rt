@@ -1,14 +1,14 @@
-// Places in rule rows, whatever numbers they hold: behind a selector, behind selectors, behind a rule. Places and no rests: callers hand one on
-// beside places in other rows, and read a head at it.
-ghost use Rattle.std.specs.Prelude.{◌≡◌, List, ℕ, drop};
+// Places in rule rows, whatever numbers they hold: behind a selector, behind selectors, behind a rule; and the pseudo element of a selector. Places
+// and no rests: callers hand one on beside places in other rows, and read a head at it.
+ghost use Rattle.std.specs.Prelude.{◌≡◌, List, ℕ, get_or, drop};
 ghost use Rattle.syntax.specs.Stream.{read_many};
-ghost use Rattle.syntax.specs.RuleLayout.{read_selector, read_rule};
+ghost use Rattle.syntax.specs.RuleLayout.{selector_pseudo, pseudo_number, pseudo_from, read_selector, read_rule};
 ghost use Rattle.origins.specs.Rules.{selectors_read};
 
 use combinators::stores::number_at;
 use syntax::rows::{
-    COMPONENT_WIDTH, DECLARATION_WIDTH, RULE_DECLARATIONS, RULE_HEAD, RULE_SELECTORS,
-    SELECTOR_COMPONENTS, SELECTOR_HEAD,
+    COMPONENT_WIDTH, DECLARATION_WIDTH, PSEUDO_AFTER, RULE_DECLARATIONS, RULE_HEAD, RULE_SELECTORS,
+    SELECTOR_COMPONENTS, SELECTOR_HEAD, SELECTOR_PSEUDO,
 };
 use syntax::walk::forward;
 
@@ -52,4 +52,11 @@ pub fn skip_rule(rows: &[u32], at: usize) -> usize
         rule_declarations(rows, at),
         DECLARATION_WIDTH * declarations,
     )
+}
+
+// The number of the pseudo element of the selector at `at`: any other than none and `::before` is `::after`, the last.
+pub fn selector_pseudo(rows: &[u32], at: usize) -> u32
+    ensures { result ≡ pseudo_number (pseudo_from (get_or (drop at rows.now) selector_pseudo 0)) }
+{
+    number_at(rows, at, SELECTOR_PSEUDO).min(PSEUDO_AFTER)
 }

@@ -7,7 +7,7 @@ use native.Mathlib.Omega.{arith}
 use native.Mathlib.Nat.{not-suc-le-zero}
 use native.Mathlib.Numerals.{add-one}
 use borrow.Author.Tests.{ltb-true, ltb-false, le-leb, lt-leb}
-use lib.Dec.{eqb, leb, ltb}
+use lib.Dec.{leb, ltb}
 use Rattle.std.specs.Prelude.{Option, Some, None}
 use Rattle.std.specs.Bool.{then_some}
 use Rattle.combinators.specs.Choice.{pick, or, and, is}
@@ -21,11 +21,6 @@ use Rattle.page.specs.declared.rules.Totals.{Totals}
 use Rattle.page.specs.declared.rules.Progress.{Progress}
 use Rattle.page.proofs.Ancestry.{below-depth, depth-most}
 use Rattle.page.proofs.FirstFault.{Seeking, seek-begin, seek-on, seek_stop, seek-done}
-
--- the code's own test that a number is k
-pub test-is : (y x k : ℕ) → y ≡ x → eqb y k ≡ is x k
-unfolding is
-test-is y x k e = ap (λ (z : ℕ). eqb z k) e
 
 -- ---- an answer that is there if a test holds
 module _ {A : Type 0} (t : Bool) (x : A) where

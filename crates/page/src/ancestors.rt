@@ -1,24 +1,30 @@
-// How deep a row lies, and its place among its siblings. Ancestors are gone over by parents, by a `loop` or a `while`: that is no step of a range, and
-// `successors` would be told a closure that answers an `Option` of what the loop tests anyway.
-ghost use Rattle.std.specs.Prelude.{◌≡◌, ◌≤◌};
+// How deep a row lies, and its place among its siblings. Ancestors are gone over by a `while`: up to a parent is no step of a range, and of `successors`
+// nothing tells that they end.
+ghost use Rattle.std.specs.Prelude.{◌≡◌, ◌≤◌, ◌<◌, MatchOption};
 ghost use Rattle.page.specs.Ancestors.{depth_of, climbed, is_element_child, element_children, place_of};
+ghost use Rattle.page.specs.Rows.{node_at};
 
 use crate::rows::{ELEMENT, kind_of, parent_of};
+
+// The parent of a row, if it stands before it.
+fn row_above(nodes: &[u32], row: usize) -> Option<usize>
+    ensures { MatchOption result (row ≤ (node_at nodes.now row).parent) (λ above. (above ≡ (node_at nodes.now row).parent) × (above < row)) }
+{
+    let parent = parent_of(nodes, row);
+    (parent < row).then_some(parent)
+}
 
 // How deep a row lies.
 pub fn depth_of(nodes: &[u32], row: usize) -> usize
     ensures { result ≡ depth_of nodes.now row }
 {
     let mut depth = 0;
-    let mut above = row;
-    loop {
-        let parent = parent_of(nodes, above);
-        if parent >= above {
-            return depth;
-        }
-        above = parent;
+    let mut at = row;
+    while let Some(above) = row_above(nodes, at) {
+        at = above;
         depth += 1;
     }
+    depth
 }
 
 // The depth of row `target`, if it is row `from`, which lies at `depth`, or an ancestor of it.
@@ -29,11 +35,7 @@ pub fn climb_to(nodes: &[u32], from: usize, depth: usize, target: usize) -> Opti
     let mut row = from;
     let mut left = depth;
     while row != target {
-        let parent = parent_of(nodes, row);
-        if parent >= row {
-            return None;
-        }
-        row = parent;
+        row = row_above(nodes, row)?;
         left -= 1;
     }
     Some(left)

@@ -6,21 +6,20 @@ use Prim.Native.Nat.{ℕ, ◌+◌, ◌-◌, ◌≤◌}
 use native.Mathlib.Omega.{arith}
 use borrow.Rule.Slice.PartMut.{put_mid, Post-is}
 use lib.ListN.{length, take, drop, replicate, drop_of_length-le, length-append}
-use lib.Seq.{take-add, take_at, take-append-add, length-take-le}
+use lib.Seq.{take-add, take-append-add, length-take-le}
 use Rattle.combinators.specs.Choice.{pick}
 use Rattle.combinators.proofs.Lists.{rest}
 use Rattle.syntax.specs.Stream.{texts_many}
 use Rattle.syntax.specs.Style.{agent_origin, user_origin, author_origin}
 use Rattle.syntax.specs.declared.styles.Value.{Value}
-use Rattle.cascade.specs.declared.rows.Handed as code
 use Rattle.cascade.specs.declared.slots.Cascade.{Cascade}
 use Rattle.cascade.specs.Record.{Declared, AttributeStyle, Sources, from_rule, declared_by, inherit_by, Handed, handed_by, cascade_by}
-use Rattle.cascade.specs.Row.{style_row_width, Inherited, Finished, Emptied, inherited_row, handed_says, handed_at, finished_row, row_of}
+use Rattle.cascade.specs.Row.{style_row_width, Inherited, Emptied, inherited_row, handed_at, finished_row, row_of}
 use Rattle.cascade.specs.Slot.{update_by}
 use Rattle.cascade.proofs.Cascading.{inherit-by-formed, merges-formed}
 use Rattle.cascade.proofs.Inheriting.{inherit-layout, handed-layout, finish-layout}
 use Rattle.cascade.proofs.RowBack.{merges-layout}
-use Rattle.origins.proofs.Parts.{lent_part, part_length}
+use Rattle.origins.proofs.Parts.{lent_part}
 use Rattle.page.specs.Path.{Attribute, Element, Path}
 use Rattle.page.specs.PathOf.{element_at, path_of}
 use Rattle.page.specs.Rows.{node_at}
@@ -37,8 +36,7 @@ use Rattle.styles.specs.StyleCall.{placed_attributes, attributes_contents, inlin
 use Rattle.styles.proofs.Called.{empty-row, cascaded-formed}
 use Rattle.styles.proofs.Room.{path-short}
 use Rattle.styles.proofs.Merging.{merged-append, merged-none, early-none, late-none, declared-parts}
-use Rattle.attributes.specs.Merging.{InlineRoom}
-use Rattle.path_styles.specs.Path.{kept_sheet, kept_sheets, SameKept, SheetsTops, Steady, EarlyRoom, ElementRoom, PathRoom}
+use Rattle.path_styles.specs.Path.{kept_sheet, kept_sheets, SameKept, Steady, EarlyRoom, ElementRoom, PathRoom}
 use Rattle.origins.specs.declared.reading.SheetRules.{SheetRules}
 use Rattle.path_styles.specs.Tops.{TextsIn}
 use Rattle.path_styles.specs.Tops.{ReadySheets}
@@ -51,20 +49,12 @@ pub begun : (c : Cascade) (xs a b ys : List ℕ) (ds es : List (Declared Value))
     → ys ≡ merged_row c (inherited_row c xs) (ds ++ es)
 begun c xs a b ys ds es h e k = rw (merged-append c (inherited_row c xs) ds es) (k ∙ ap (λ (r : List ℕ). merged_row c r es) (e ∙ ap (λ (r : List ℕ). merged_row c r ds) h.numbers))
 
--- and ends with what it inherits
-pub ended : (c : Cascade) (h : code.Handed) (xs ys zs row : List ℕ) → handed_says h ≡ handed_at xs → ys ≡ row → Finished c (handed_says h) ys zs → zs ≡ finished_row c (handed_at xs) row
-ended c h xs ys zs row e f g = g.numbers ∙ ap (λ (k : Handed Value). finished_row c k ys) e ∙ ap (finished_row c (handed_at xs)) f
-
 -- ---- a store lent from a place on
 module _ (l : List ℕ) (a : ℕ) (h : a ≤ length l) where
   -- what is written into the part stands behind what was before it
   part-returned : (ys : List ℕ) → put_mid a (length l - a) l ys ≡ take a l ++ ys
   part-returned ys =
       ap (λ (r : List ℕ). take a l ++ (ys ++ r)) (Post-is a (length l) l h ∙ drop_of_length-le l {i = length l} (omega arith)) ∙ ap (λ (r : List ℕ). take a l ++ r) (append-nil ys)
-
-  -- which is the same
-  pub part-before : (ys : List ℕ) → take a (put_mid a (length l - a) l ys) ≡ take a l
-  part-before ys = ap (take a) (part-returned ys) ∙ take_at (take a l) ys a (length-take-le a l h)
 
   -- as far as the part is known, with what lies behind that
   pub part_filled : (n m : ℕ) (ys more : List ℕ) → take n ys ≡ take m (lent_part l a h) ++ more → take (a + n) (put_mid a (length l - a) l ys) ≡ take (a + m) l ++ more
@@ -112,37 +102,6 @@ module _ (c : Cascade) (settings : Settings) (e : Element) where
   pub late-off : settings.document_styles ≡ false → (row : List ℕ) (f : ℕ) → row ≡ merged_row c row (late_declared c (placed_attributes f (counted_attributes settings e)))
   unfolding placed_attributes
   late-off h row f = rw (counted-off h, late-none {A = Value} c) (sym (merged-none c row))
-
--- ---- the room that they ask for, in the parts that are lent
-module _ (s : ReadySheets) (e : Element) (fill : ℕ) where
-  -- there is room for the colours that come before the author's rules
-  pub early-room : (tokens brackets texts : List ℕ) → EarlyRoom s e fill tokens brackets texts → (h : s.behind ≤ length tokens) (k : s.sheets.end ≤ length texts)
-      → InlineRoom e.attributes 0 fill (lent_part tokens s.behind h) (lent_part tokens s.behind h) brackets (lent_part texts s.sheets.end k)
-  early-room tokens brackets texts r h k =
-      let t = part_length tokens s.behind h in
-      let u = part_length texts s.sheets.end k in
-      record {
-        for-rules = omega (arith, t, r.for-tokens);
-        for-tokens = omega (arith, t, r.for-tokens);
-        for-brackets = r.for-brackets;
-        for-texts = omega (arith, u, r.for-texts);
-        bits = omega (arith, r.bits);
-      }
-
-  -- there is room for the attributes that come behind the author's rules
-  pub late-room : (rows tokens brackets texts : List ℕ) → ElementRoom s e fill rows tokens brackets texts → (j : s.rows ≤ length rows) (h : s.behind ≤ length tokens) (k : s.sheets.end ≤ length texts)
-      → InlineRoom e.attributes 0 fill (lent_part rows s.rows j) (lent_part tokens s.behind h) brackets (lent_part texts s.sheets.end k)
-  late-room rows tokens brackets texts r j h k =
-      let v = part_length rows s.rows j in
-      let t = part_length tokens s.behind h in
-      let u = part_length texts s.sheets.end k in
-      record {
-        for-rules = omega (arith, v, r.for-rules);
-        for-tokens = omega (arith, t, r.for-tokens);
-        for-brackets = r.for-brackets;
-        for-texts = omega (arith, u, r.for-texts);
-        bits = omega (arith, r.bits);
-      }
 
 -- what they say behind the author's rules, contents counted from the fill on
 pub late-here : (c : Cascade) (e : Element) (xs : List Attribute) → xs ≡ e.attributes → (row ys : List ℕ) (f : ℕ) → ys ≡ merged_row c row (late_declared c (placed_attributes (0 + f) xs))
@@ -229,10 +188,6 @@ module _ (s : ReadySheets) where
           user-in = h.user-in;
           author-in = h.author-in;
         }
-
-    -- the numbers of selectors as they lie now
-    pub tops-now : SheetsTops s nodes attributes text row rows tokens texts
-    tops-now = h.tops rows tokens texts (record { same_rows = refl; same-tokens = refl; same-texts = refl })
 
 -- ---- the row of an element
 module _ (c : Cascade) (rules : Rules (StyledRule Value)) (inline : List (AttributeStyle Value)) (p : Path) where

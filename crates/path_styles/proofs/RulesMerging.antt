@@ -7,7 +7,7 @@ use native.Mathlib.Omega.{arith}
 use lib.ListN.{get_or, drop}
 use lib.Seq.{get_or-drop, drop-drop}
 use Rattle.combinators.specs.Choice.{pick}
-use Rattle.combinators.proofs.Rules.{pick_true, pick-false, is-yes, is-no}
+use Rattle.combinators.proofs.Rules.{pick_true, pick-false}
 use Rattle.syntax.specs.Layout.{declaration_width, style_width, numbers_at}
 use Rattle.syntax.specs.RuleLayout.{selector_pseudo, rule_head, rule_selectors, rule_declarations, pseudo_number, pseudo_from, read_selector, read_rule}
 use Rattle.syntax.specs.Selector.{Component, Selector}
@@ -17,7 +17,7 @@ use Rattle.syntax.specs.declared.styles.Value.{Value}
 use Rattle.origins.proofs.WalkLaws.{many-rest, declaration-rest, Passing, passing-more, passing-done}
 use Rattle.cascade.specs.declared.slots.Cascade.{Cascade}
 use Rattle.cascade.specs.declared.specificity.Specificity.{Specificity}
-use Rattle.cascade.specs.Record.{main_record, before_record, after_record, Styled, RuleStyle, Declared, from_rule}
+use Rattle.cascade.specs.Record.{Styled, RuleStyle, Declared, from_rule}
 use Rattle.cascade.specs.Row.{Merged}
 use Rattle.page.specs.Path.{Path}
 use Rattle.matching.specs.Matches.{matches}
@@ -29,22 +29,6 @@ use Rattle.styles.proofs.Merging.{merged-none, merged-more, Merging, merging-beg
 use Rattle.rule_styles.specs.Placing.{kept_head, kept_count, read_styled, read_kept, rules_kept}
 use Rattle.path_styles.specs.Tops.{RightTops}
 use Rattle.path_styles.proofs.TopsLaws.{rule-selectors}
-
--- ---- pseudo elements
--- none is the main record
-pub main-named : (n : ℕ) → n ≡ 0 → main_record ≡ pseudo_number (pseudo_from n)
-unfolding pseudo_number pseudo_from
-main-named n e = ap pseudo_number (pick_true _ _ _ _ (is-yes n 0 e) refl)
-
--- `::before` is its own
-pub before-named : (n : ℕ) → ¬ (n ≡ 0) → n ≡ 1 → before_record ≡ pseudo_number (pseudo_from n)
-unfolding pseudo_number pseudo_from
-before-named n d e = ap pseudo_number (pick-false _ _ _ _ (is-no n 0 d) (pick_true _ _ _ _ (is-yes n 1 e) refl))
-
--- all others are `::after`
-pub after-named : (n : ℕ) → ¬ (n ≡ 0) → ¬ (n ≡ 1) → after_record ≡ pseudo_number (pseudo_from n)
-unfolding pseudo_number pseudo_from
-after-named n d e = ap pseudo_number (pick-false _ _ _ _ (is-no n 0 d) (pick-false _ _ _ _ (is-no n 1 e) refl))
 
 -- ---- turns of `merge_styles`
 module _ (c : Cascade) (pseudo origin : ℕ) (spec : Specificity) (styles : List ℕ) (count at : ℕ) (row₀ : List ℕ) where
@@ -59,10 +43,6 @@ module _ (c : Cascade) (pseudo origin : ℕ) (spec : Specificity) (styles : List
   -- what is left to merge of n styles from a place on is what was to be merged
   pub record StylesMerging (n place : ℕ) (row : List ℕ) : Type 0 where
     pub merging : Merging c row₀ (styles_declared count at) row (styles_declared n place)
-
-  -- nothing is merged yet
-  pub styles-begin : (n : ℕ) → n ≡ count → StylesMerging n at row₀
-  styles-begin n e = rw e (record { merging = merging-begin c row₀ _ })
 
   -- the first of them, and the others
   one-declared : (n place next : ℕ) → 0 < n → drop next styles ≡ drop (place + style_width) styles
@@ -138,15 +118,14 @@ module _ (c : Cascade) (origin : ℕ) (p : Path) (ds : List (Styled Value)) (tex
         sym (ap (λ (xs : List (RuleStyle Value)). merged_row c row (map (from_rule origin) xs)) (sym (pick-false _ _ _ _ (sym matched ∙ h) refl)) ∙ merged-none c row)
 
     -- it matches: what is merged for its pseudo element and specificity is what it declares
-    pub selector-holds : m ≡ true → (number pseudo : ℕ) → number ≡ get_or rows (at + selector_pseudo) 0 → pseudo ≡ pseudo_number (pseudo_from number)
+    pub selector-holds : m ≡ true → (pseudo : ℕ) → pseudo ≡ pseudo_number (pseudo_from (get_or (drop at rows) selector_pseudo 0))
         → (spec : Specificity) → spec ≡ specificity components → (row z : List ℕ)
         → z ≡ merged_row c row (map (from_rule origin) (map (rule_style pseudo spec) ds)) → z ≡ merged_row c row selector_declared
     unfolding selector_says read_selector
-    selector-holds h number pseudo e q spec es row z ez =
+    selector-holds h pseudo q spec es row z ez =
         let s = (read_selector texts (drop at rows)).value in
-        let k : pseudo ≡ pseudo_number s.pseudo = q ∙ ap (λ (x : ℕ). pseudo_number (pseudo_from x)) (e ∙ sym (get_or-drop at rows selector_pseudo 0)) in
         let l : spec ≡ specificity s.components = es ∙ ap specificity lent in
-        let g : map (rule_style pseudo spec) ds ≡ selector_says p ds s = pick_true _ _ _ _ (sym matched ∙ h) (rw (k, l)) in
+        let g : map (rule_style pseudo spec) ds ≡ selector_says p ds s = pick_true _ _ _ _ (sym matched ∙ h) (rw (q, l)) in
         ez ∙ ap (λ (xs : List (RuleStyle Value)). merged_row c row (map (from_rule origin) xs)) g
 
 -- ---- turns of `merge_selectors`

@@ -110,7 +110,8 @@ impl Styling {
         merge.merge_rules(out, sheet);
     }
 
-    // What an element begins with, and what the agent's and the user's rules say of it.
+    // What an element begins with, and what the agent's and the user's rules say of it. `SteadyOf`, here and below: what is kept, and that the selectors'
+    // numbers decide on the row, stays whatever is written behind it. It speaks of what lent stores hold, which no field of the sheets can.
     fn begin_element(&self, stores: &Stores<'_>, element: Element<'_>, out: &mut StyleRow)
         requires steady { SteadyOf self.now.kept element.page element.row stores.now }
         ensures { out.new ≡ merged_row self.now.cascade (inherited_row self.now.cascade out.old)
@@ -189,8 +190,7 @@ impl Styling {
         }
     }
 
-    // What an element begins with, and all that is declared for it; the fill behind its contents. `SteadyOf`, here and below: what is kept, and that the selectors'
-    // numbers decide on the row, stays whatever is written behind it. It speaks of what lent stores hold, which no field of the sheets can.
+    // What an element begins with, and all that is declared for it; the fill behind its contents.
     fn declare_element(
         &self,
         element: Element<'_>,

@@ -1,6 +1,6 @@
 // What the rules of a sheet say of an element, merged into its row. The styles of each rule are those that the call keeps for it, and so are the numbers of its selectors.
 ghost use Rattle.std.specs.Prelude.{◌≡◌, map, drop};
-ghost use Rattle.syntax.specs.RuleLayout.{pseudo_number, pseudo_from, read_selector, read_rule};
+ghost use Rattle.syntax.specs.RuleLayout.{read_selector, read_rule};
 ghost use Rattle.syntax.specs.Stream.{read_many};
 ghost use Rattle.cascade.specs.Record.{from_rule};
 ghost use Rattle.matching.specs.Topmost.{RightNumber};
@@ -11,33 +11,18 @@ ghost use Rattle.rule_styles.specs.Placing.{read_styled, read_kept, rules_select
 ghost use Rattle.path_styles.specs.Tops.{RightTopsOf};
 
 use crate::tops::{ReadySheet, TOP_WIDTH, selector_at, top_at};
-use cascade::rows::{AFTER, BEFORE, MAIN, StyleRow, merge_computed_style};
+use cascade::rows::{StyleRow, merge_computed_style};
 use cascade::slots::Cascade;
 use cascade::specificity::Specificity;
 use combinators::stores::number_at;
 use matching::components::specificity;
 use matching::elements::Element;
 use matching::topmost::matches_by_number;
-use origins::walk::{skip_rule, skip_selector};
+use origins::walk::{selector_pseudo, skip_rule, skip_selector};
 use rule_styles::rows::{KEPT_COUNT, KEPT_HEAD};
-use syntax::rows::{
-    DECLARATION_WIDTH, PSEUDO_BEFORE, PSEUDO_NONE, RULE_DECLARATIONS, RULE_HEAD, RULE_SELECTORS,
-    SELECTOR_PSEUDO, STYLE_WIDTH,
-};
+use syntax::rows::{DECLARATION_WIDTH, RULE_DECLARATIONS, RULE_HEAD, RULE_SELECTORS, STYLE_WIDTH};
 use syntax::styles::style_at;
 use syntax::walk::forward;
-
-// The record of a style row that a selector's pseudo element names. Both are numbers with names: the one stands in lent rows, of any content, the other counts records
-// of a style row.
-fn pseudo_of(number: u32) -> usize
-    ensures { result ≡ pseudo_number (pseudo_from number) }
-{
-    match number {
-        PSEUDO_NONE => MAIN,
-        PSEUDO_BEFORE => BEFORE,
-        _ => AFTER,
-    }
-}
 
 // The place behind the styles that are kept for a rule at `at`. As in `skip_selector` a head counts what follows; the rows of each kind have a column, a width
 // and a definition of their own.
@@ -104,7 +89,7 @@ impl SheetMerge<'_> {
     {
         let selector = selector_at(self.rows, at, self.texts);
         if matches_by_number(selector, top, self.element) {
-            let pseudo = pseudo_of(number_at(self.rows, at, SELECTOR_PSEUDO));
+            let pseudo = selector_pseudo(self.rows, at) as usize;
             let spec = specificity(selector.components, selector.left as u32);
             self.merge_styles(out, pseudo, spec, first, count);
         }

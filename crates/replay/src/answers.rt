@@ -103,7 +103,7 @@ fn answers_with_buffers<
         & is_expected(stream, buffers.out)
 }
 
-// Whether the results are those that come next.
+// Whether the results are those that come next. All are read, also behind one that differs, so no `all` asks them.
 fn are_expected(stream: &mut Stream<'_>, came: Results) -> bool {
     let mut same = true;
     for result in came {

@@ -47,7 +47,7 @@ pub fn lend<E: Element>(stream: &mut Stream<'_>, buffer: &mut [E]) {
 pub fn is_expected<E: Element>(stream: &mut Stream<'_>, buffer: &[E]) -> bool {
     let mut same = true;
     let taken = for_each(stream, |i: usize, element: E| {
-        same = same && buffer.get(i).is_some_and(|there| *there == element);
+        same = same && buffer.get(i) == Some(&element);
     });
     let Some(number) = stream.expected() else {
         return same;

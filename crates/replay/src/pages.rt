@@ -2,7 +2,6 @@
 use crate::buffers::Buffers;
 use crate::calls::{COMPONENTS, COUNT, ROW, Results};
 use crate::question::Question;
-use combinators::texts::part_of;
 use comparison::bytes::comparison_check_bytes;
 use comparison::matches::{MatchResult, comparison_matches};
 use engine::pages::hicsolmab_check_page;
@@ -32,6 +31,7 @@ fn match_row(question: &Question<'_>, components: &[u32], names: &[u8], row: usi
     )
 }
 
+// A function and no `From`: neither type is of this crate.
 fn match_numbers(came: MatchResult) -> Results {
     [
         came.refusal as usize,
@@ -51,8 +51,8 @@ pub fn ask_matches(question: &Question<'_>) -> Results {
 // The numbers of a row's answer: the refusal, whether it matches, and the specificity.
 const ROW_NUMBERS: usize = 5;
 
-// Puts them behind those of the rows before it, as far as `rules` go.
-fn put_row(came: MatchResult, rules: &mut [u32], row: usize) {
+// Puts them into the slots of the row, which may be fewer at the end of what is lent.
+fn put_row(came: MatchResult, slots: &mut [u32]) {
     let numbers: [u32; ROW_NUMBERS] = [
         came.refusal,
         came.matches,
@@ -60,31 +60,27 @@ fn put_row(came: MatchResult, rules: &mut [u32], row: usize) {
         came.classes,
         came.types,
     ];
-    for (slot, number) in rules
-        .iter_mut()
-        .skip(row.saturating_mul(ROW_NUMBERS))
-        .zip(numbers)
-    {
+    for (slot, number) in slots.iter_mut().zip(numbers) {
         *slot = number;
     }
 }
 
-/// Asks for each row of the page. The result is how many there are.
+/// Asks for each row of the page for which `rules` have slots. The result is how many rows there are.
 pub fn ask_rows(question: &Question<'_>, rules: &mut [u32]) -> Results {
     let components = question.components();
     let names = question.names();
     let rows = node_count(question.nodes());
-    for row in 0..rows {
+    for (row, slots) in rules.chunks_mut(ROW_NUMBERS).take(rows).enumerate() {
         let came = match_row(question, components, names, row);
-        put_row(came, rules, row);
+        put_row(came, slots);
     }
     [rows, 0, 0, 0, 0, 0]
 }
 
 // Whether components from a place of the rules on match the row, where the sheet's texts are read.
 fn match_rule(question: &Question<'_>, buffers: &Buffers<'_>) -> MatchResult {
-    let count = buffers.rules.len();
-    let components = part_of(buffers.rules, question.length(COMPONENTS), count);
+    let start = question.length(COMPONENTS);
+    let components = buffers.rules.get(start..).unwrap_or_default();
     match_row(question, components, buffers.texts, question.length(ROW))
 }
 

@@ -21,6 +21,7 @@ impl<'a> Question<'a> {
         numbers: &'a [u32],
     ) -> Question<'a> {
         let mut arguments = [0; ARGUMENTS];
+        // one behind those that are kept is read all the same
         for i in 0..stream.number() as usize {
             let argument = stream.number();
             if let Some(slot) = arguments.get_mut(i) {
@@ -35,7 +36,7 @@ impl<'a> Question<'a> {
         }
     }
 
-    /// The argument that has `k` before it, or 0 where there are fewer, as a vector leaves out zeros at the end.
+    /// The argument that has `k` before it, or 0 where there are fewer, as what is past the end reads as nothing.
     pub fn number(&self, k: usize) -> u32 {
         self.arguments.get(k).copied().unwrap_or(0)
     }

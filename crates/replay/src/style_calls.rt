@@ -6,7 +6,8 @@ use crate::question::Question;
 use engine::run::hicsolmab_run;
 use engine::style::{hicsolmab_style, hicsolmab_style_book};
 
-/// The style of an element, by the cascade of the call. Each arm writes the arguments of its function: a pointer to either would write their thirteen types instead.
+/// The style of an element, by the cascade of the call. Each arm writes the arguments of its function: of an `extern "C"` function there is no pointer, and a closure
+/// would write all thirteen too.
 pub fn ask_style(question: &Question<'_>, buffers: &mut Buffers<'_>) -> Results {
     let [agent, user, author] = question.sheets(question.length(THIRD), AGENT);
     let (nodes, attributes, page) = (question.nodes(), question.attributes(), question.page());

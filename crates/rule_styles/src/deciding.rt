@@ -13,7 +13,8 @@ use cascade::rows::SLOT_COUNT;
 use syntax::rows::STYLE_WIDTH;
 use syntax::styles::{StyleNumbers, style_at};
 
-// What is known of the styles for one slot so far: the last normal one, the last important one, and whether an important one stands behind a normal one.
+// What is known of the styles for one slot so far: the last normal one, the last important one, and whether an important one stands behind a normal one: that is their
+// order, and says of neither whether it is there.
 #[derive(Clone, Copy)]
 struct Sifted {
     normal: Option<StyleNumbers>,

@@ -10,7 +10,7 @@ use lib.Seq.{sets, sets-eq, length-sets, length-take-le, take_at, drop_at, drop-
 use Rattle.combinators.specs.Part.{part}
 use Rattle.combinators.proofs.Parts.{part-whole}
 use Rattle.combinators.proofs.Rules.{pick_true, pick-false, pick-holds}
-use Rattle.cascade.specs.Row.{style_row_width, TwoRooms}
+use Rattle.cascade.specs.Row.{style_row_width}
 use Rattle.page.specs.Accepted.{node_limit}
 use Rattle.page.specs.Ancestors.{depth_of}
 use Rattle.page.specs.Path.{Attribute, Element}
@@ -30,7 +30,7 @@ use Rattle.runner.specs.PageRows.{style_row_at}
 use Rattle.runner.specs.Run.{Handed, Stepped, Running, handed_from, document_step, element_step, open_step, step_on, handed_at, run_step, run_from, run_of}
 use Rattle.stepping.specs.Lent.{StepLent, Kept}
 use Rattle.runner.proofs.Handed.{attributes-all}
-use Rattle.running.specs.Ready.{RunReady, RowReady, PlaceRoom, texts_most, with_parent}
+use Rattle.running.specs.Ready.{RowReady, PlaceRoom, texts_most, with_parent}
 use Rattle.running.proofs.Handed as handed
 
 -- ---- the parent's row, copied
@@ -44,10 +44,6 @@ module _ (nodes rows : List ℕ) (i p : ℕ) (ep : p ≡ (node_at nodes i).paren
   pub parent-placed : p < i → (ys : List ℕ) → ys ≡ sets rows (i * style_row_width) (take style_row_width (drop (p * style_row_width) rows)) → ys ≡ with_parent nodes i rows
   unfolding with_parent style_row_at
   parent-placed h ys e = pick_true _ _ _ _ (rw (← ep) (lt-ltb p i h)) (e ∙ ap (λ (n : ℕ). sets rows (i * style_row_width) (take style_row_width (drop (n * style_row_width) rows))) ep)
-
--- a row and a parent before it lie apart in the rows, and the row has its place there
-pub two_rooms : (rows : List ℕ) (i p : ℕ) → PlaceRoom i rows → p < i → TwoRooms rows (p * style_row_width) (i * style_row_width)
-two_rooms rows i p r h = record { apart = omega (arith, h); room = r.room }
 
 -- ---- numbers stored where as many were stored before
 module _ (l : List ℕ) (a : ℕ) (xs : List ℕ) (h : a + length xs ≤ length l) where
@@ -292,30 +288,6 @@ module _ (code : List ℕ) (settings : Settings) (g : Page) where
       let a : node_count g.nodes - 0 ≡ node_count g.nodes = omega arith in
       ap (λ (m : ℕ). run_from code settings g m 0 (record { rows = rows; state = state; texts = [] })) a
 
--- what is asked holds as long as the lengths stay
-pub still-ready : {code : List ℕ} {g : Page} {rows₀ state₀ rules₀ tokens₀ brackets₀ texts₀ rows₁ state₁ rules₁ tokens₁ brackets₁ texts₁ : List ℕ}
-    → RunReady code g rows₀ state₀ rules₀ tokens₀ brackets₀ texts₀
-    → length rows₁ ≡ length rows₀ → length state₁ ≡ length state₀ → length rules₁ ≡ length rules₀ → length tokens₁ ≡ length tokens₀ → length brackets₁ ≡ length brackets₀ → length texts₁ ≡ length texts₀
-    → RunReady code g rows₁ state₁ rules₁ tokens₁ brackets₁ texts₁
-still-ready r er es eu et eb ex =
-    record {
-      sheet = r.sheet;
-      page = r.page;
-      lengths =
-          record {
-            few = r.lengths.few;
-            for-rows = omega (arith, er, r.lengths.for-rows);
-            for-state = omega (arith, es, r.lengths.for-state);
-            least =
-                record {
-                  for-texts = omega (arith, ex, r.lengths.least.for-texts);
-                  for-brackets = omega (arith, eb, r.lengths.least.for-brackets);
-                  for-rules = omega (arith, eu, r.lengths.least.for-rules);
-                  for-tokens = omega (arith, et, r.lengths.least.for-tokens);
-                };
-          };
-    }
-
 -- ---- what holds between two rows: the work left from here is the whole work
 pub record Looping (code : List ℕ) (settings : Settings) (g : Page) (rows₀ state₀ : List ℕ) (s₀ : Stores) (rows state : List ℕ) (s : Stores) (fill i : ℕ) : Type 0 where
   pub left : run_from code settings g (node_count g.nodes - i) i (record { rows = rows; state = state; texts = take fill s.texts.now }) ≡ run_of code settings g rows₀ state₀
@@ -336,15 +308,6 @@ begins code settings g rows state s =
     }
 
 module _ {code : List ℕ} {settings : Settings} {g : Page} {rows₀ state₀ : List ℕ} {s₀ : Stores} {rows₁ state₁ : List ℕ} {s₁ : Stores} {fill i : ℕ} (v : Looping code settings g rows₀ state₀ s₀ rows₁ state₁ s₁ fill i) where
-  -- a row that is there is next
-  pub row-ready : RunReady code g rows₀ state₀ s₀.rules.now s₀.tokens.now s₀.brackets.now s₀.texts.now → (count : ℕ) → count ≡ node_count g.nodes → i < count → RowReady code g rows₁ state₁ s₁.rules.now s₁.tokens.now s₁.brackets.now s₁.texts.now i fill
-  row-ready r count e h =
-      record {
-        ready = still-ready r v.rows_long v.state-long v.kept.lengths.rules v.kept.lengths.tokens v.kept.lengths.brackets v.kept.lengths.texts;
-        there = omega (arith, e, h);
-        filled = v.filled;
-      }
-
   -- behind a step the loop's invariant holds for the next row
   pub again : (count : ℕ) → count ≡ node_count g.nodes → i < count → (n : ℕ) (rows state : List ℕ) (s : Stores)
       → record { rows = rows; state = state; texts = take n s.texts.now } ≡ run_step code settings g i (record { rows = rows₁; state = state₁; texts = take fill s₁.texts.now })

@@ -2,7 +2,7 @@
 use mathlib.Core.Path.{◌≡◌, refl, ap, ap₂, sym, ◌∙◌}
 use mathlib.Core.Bool.{Bool, true, false}
 use mathlib.Core.List.{List, ◌++◌}
-use Prim.Native.Nat.{ℕ, ◌-◌, ◌*◌, ◌^◌, ◌≤◌, ◌<◌}
+use Prim.Native.Nat.{ℕ, ◌-◌, ◌*◌, ◌≤◌, ◌<◌}
 use native.Mathlib.Omega.{arith}
 use borrow.Author.Tests.{leb-true, lt-ltb, le-ltb}
 use lib.ListN.{length, take, drop, replicate}
@@ -72,10 +72,6 @@ filled-behind n l z h e = from-returns 0 n l n (omega arith) z e
 
 -- ---- a page that was styled
 module _ (settings : Settings) {code : List ℕ} {g : Page} {rows₀ state₀ rules₀ tokens₀ brackets₀ texts₀ : List ℕ} (r : RunReady code g rows₀ state₀ rules₀ tokens₀ brackets₀ texts₀) where
-  -- the end of the page's rows lies within the rows
-  pub rows_fit : (count : ℕ) → count ≡ node_count g.nodes → count * style_row_width < 2 ^ 64
-  rows_fit count e = omega (arith, e, (accepted g.nodes g.attributes g.text r.page).few)
-
   abbrev run : Running
   run = run_of code settings g rows₀ state₀
 

@@ -1,5 +1,5 @@
-// The rows of a run, one step for each, in order. Rows, state and stores are lent one by one, here and in run.rt: a struct of them would be lent by `&mut`, and
-// each function would owe that its slices are the same ones afterwards, as it does of the stores, of rows and state too, which a slice by itself says by its
+// The rows of a run, one step for each, in order. Rows, state and stores are lent one by one, here, in run.rt and in suffices.rt: a struct of them would be lent by
+// `&mut`, and each function would owe that its slices are the same ones afterwards, as it does of the stores, of rows and state too, which a slice by itself says by its
 // type.
 ghost use Rattle.std.specs.Prelude.{◌≡◌, ◌+◌, ◌≤◌, take};
 ghost use Rattle.runner.specs.Run.{run_step, run_of};

@@ -3,6 +3,7 @@ use mathlib.Core.Path.{◌≡◌, refl, ap, sym, ◌∙◌}
 use mathlib.Core.Bool.{Bool, true, false}
 use mathlib.Core.List.{List, [], ◌∷◌, ◌++◌}
 use Prim.Native.Nat.{ℕ, zero, suc, ◌+◌, ◌-◌, ◌*◌, ◌^◌, ◌≤◌, ◌<◌}
+use native.Mathlib.Numerals.{unary_clauses}
 use native.Mathlib.Omega.{arith}
 use lib.Dec.{eqb}
 use lib.ListN.{length, take, drop, length-drop, length-append}
@@ -10,7 +11,6 @@ use lib.Seq.{sets, drop-drop}
 use Rattle.std.specs.Prelude.{Some, None, Ok, Err, ltb}
 use Rattle.std.specs.Bool.{then_some}
 use Rattle.std.proofs.lemmas.Bool.{ltb-true, ltb-false}
-use Rattle.std.specs.Int.{from_bool}
 use Rattle.combinators.specs.Choice.{pick, is}
 use Rattle.combinators.specs.Store.{wiped}
 use Rattle.combinators.proofs.Lists.{rest}
@@ -38,7 +38,7 @@ use Rattle.combinators.specs.declared.columns.Columns.{Columns}
 use Rattle.combinators.specs.declared.taken.Taken.{Taken}
 use Rattle.selectors.specs.declared.readings.Panic.{Panic}
 use Rattle.selectors.proofs.ComponentEnds.{none_left}
-use Rattle.selectors.proofs.Gathering.{Gathered, gathered_none, gathered-more, gathered-as, none_yet, store-zeros, rules-long, store_long, all_read, all-panics}
+use Rattle.selectors.proofs.Gathering.{Gathered, gathered_none, gathered-more, gathered-as, none_yet, store-zeros, store_long, all_read, all-panics}
 use Rattle.selectors.proofs.ReadingLaws.{Reading, panic_at, sized, Left, left-fails}
 
 -- ---- a component as the code has it
@@ -211,14 +211,14 @@ begin s rules place store fill =
     }
 
 -- whether a row is kept, as a number
-from_picks : (start d : Bool) → from_bool (pick start (pick d false true) true) ≡ pick start (pick d 0 1) 1
+from_picks : (start d : Bool) → ◌≡◌ {A = ℕ} (pick (pick start (pick d false true) true) 1 0) (pick start (pick d 0 1) 1)
 unfolding pick
 from_picks true true = refl
 from_picks true false = refl
 from_picks false d = refl
 
 -- a row that is put down where it is kept, by either
-put-as : (b : Bool) (row : List ℕ) → pick b row [] ≡ pick (is (from_bool b) 0) [] row
+put-as : (b : Bool) (row : List ℕ) → pick b row [] ≡ pick (is (pick b 1 0) 0) [] row
 unfolding pick is
 put-as true row = refl
 put-as false row = refl
@@ -239,17 +239,9 @@ module _ {s rules₀ : List ℕ} {place : ℕ} {store₀ : List ℕ} {fill : ℕ
       rw (rest s taken)
       (record { zeros = store-zeros i.gathered q.zeros; room = omega (arith, q.for-texts, i.long, i.within, length-drop taken s, store_long i.gathered) })
 
-  -- the place behind the rows so far fits a word
-  pub place-fits : place + numbers < 2 ^ 64
-  place-fits = omega (arith, r.bits, i.wide, i.counted, i.within)
-
   -- the fill behind the texts so far fits a word
   pub fill-fits : fill + text < 2 ^ 64
   fill-fits = omega (arith, q.bits, i.long, i.within)
-
-  -- the rows keep their length
-  pub rows_long : length rules ≡ length rules₀
-  rows_long = rules-long i.gathered
 
   module _ {a : components.ComponentAnswer} {store₁ : List ℕ} (e : components.Left (next_of (eqb taken 0) lent) store (fill + text) a store₁) where
     abbrev found : Outcome Component
@@ -263,10 +255,6 @@ module _ {s rules₀ : List ℕ} {place : ℕ} {store₀ : List ℕ} {fill : ℕ
     -- where nothing was written the store is as it was
     unwritten : written component_text found ≡ [] → store₁ ≡ store
     unwritten w = answered.1 ∙ ap (sets store (fill + text)) w
-
-    -- the store keeps its length
-    pub texts-long : length store₁ ≡ length store → length store₁ ≡ length store₀
-    texts-long l = l ∙ store_long i.gathered
 
     -- no component reads here
     module _ (told : a ≡ Ok None) where
@@ -360,15 +348,18 @@ module _ {s rules₀ : List ℕ} {place : ℕ} {store₀ : List ℕ} {fill : ℕ
           rw columns-are (record { first_fits = omega (arith, b.0); second_fits = omega (arith, b.1); fill-fits = omega (arith, q.bits, i.long, i.within) })
 
       -- its row is kept, but for a blank at the start of the selector
-      module _ {b : Bool} (eb : b ≡ has_row (eqb taken 0) d) {kept : ℕ} (en : kept ≡ from_bool b) where
+      module _ {b : Bool} (eb : b ≡ has_row (eqb taken 0) d) where
+        abbrev kept : ℕ
+        kept = pick b 1 0
+
         -- as a number: none or one
         ek : kept ≡ pick (is taken 0) (pick (is (columns_of d).kind descendant_kind) 0 1) 1
         unfolding has_row is
-        ek = en ∙ ap from_bool eb ∙ from_picks (is taken 0) (is (columns_of d).kind descendant_kind)
+        ek = ap (λ (v : Bool). pick v 1 0) eb ∙ from_picks (is taken 0) (is (columns_of d).kind descendant_kind)
 
         -- the row that is put down, by that number
         put : (row : List ℕ) → pick b row [] ≡ pick (is kept 0) [] row
-        put row = rw en (put-as b row)
+        put row = put-as b row
 
         -- as many rows are kept as the definition keeps of the component
         kept-is : kept ≡ length (kept_of (is taken 0) c)
@@ -411,3 +402,15 @@ module _ {s rules₀ : List ℕ} {place : ℕ} {store₀ : List ℕ} {fill : ℕ
               long = omega (arith, text-short, et);
               sharp = λ h. omega (arith, et, text-is, bound-short keeps.0.bound (omega (arith, length-drop taken s, i.within)), i.sharp (omega (arith, taken_more, taken-within)));
             }
+
+      -- a row that is put down is one more
+      pub keeps-row : true ≡ has_row (eqb taken 0) d → {y : List ℕ} {t : ℕ} → y ≡ sets rules (place + numbers) (row_of (fill + text) d) → t ≡ text_length d
+          → Reading-on s rules₀ place store₀ fill y store₁ (taken + n) (count + 1) (numbers + component_width) (text + t)
+      unfolding pick
+      keeps-row eb ey et = goes eb ey et
+
+      -- a blank at the start leaves the rows as they are
+      pub drops-row : false ≡ has_row (eqb taken 0) d → {t : ℕ} → t ≡ text_length d
+          → Reading-on s rules₀ place store₀ fill rules store₁ (taken + n) count numbers (text + t)
+      unfolding pick
+      drops-row eb et = let h = goes eb refl et in simp unary_clauses at h

@@ -13,6 +13,7 @@ use lib.Seq.{drop-drop}
 use Rattle.combinators.specs.Ascii as ascii
 use Rattle.combinators.specs.Choice.{pick, and, is}
 use Rattle.combinators.specs.Word.{starts_with}
+use Rattle.combinators.specs.declared.taken.Taken.{Taken}
 use Rattle.combinators.proofs.Lists.{rest, first, byte-there}
 use Rattle.combinators.proofs.Rules.{pick_true, pick-false, told, and_both, and_left, and_right}
 use Rattle.characters.specs.Literal.{text}
@@ -34,8 +35,8 @@ use Rattle.selectors.proofs.ReadingLaws.{panic_at}
 use Rattle.selectors.proofs.AllLaws.{where-read, where-panics}
 
 -- the bytes that an argument takes and its two numbers, as they are answered
-abbrev pub numbers : ℕ → ℕ → ℕ → Nth
-numbers n a b = record { taken = n; a = a; b = b }
+abbrev pub numbers : ℕ → ℕ → ℕ → Taken Nth
+numbers n a b = record { taken = n; value = record { a = a; b = b } }
 
 -- the bounds of what was read
 module _ (o : Outcome selector.Nth) where
@@ -62,9 +63,16 @@ pub record Read (o : Outcome selector.Nth) (n a b : ℕ) : Type 0 where
   pub second_is : b ≡ signed_number value.b
 
 -- an answer with numbers says that the argument was read
-pub nth_read : (o : Outcome selector.Nth) (got : Nth) → Ok (Some got) ≡ nth_answer o → Read o got.taken got.a got.b
+pub nth_read : (o : Outcome selector.Nth) (got : Taken Nth) → Ok (Some got) ≡ nth_answer o → Read o got.taken got.value.a got.value.b
 unfolding nth_answer on_outcome
-nth_read (reads i x) got e = let q : got.taken ≡ i = cc in record { value = x; reading = rw q; first-is = cc; second_is = cc }
+nth_read (reads i x) got e =
+    let g : got ≡ numbers i (signed_number x.a) (signed_number x.b) = cc in
+    record {
+      value = x;
+      reading = rw g;
+      first-is = ap (λ (r : Taken Nth). r.value.a) g;
+      second_is = ap (λ (r : Taken Nth). r.value.b) g;
+    }
 nth_read fails got e = absurd (let z : ◌≡◌ {A = ℕ} 0 1 = cc in omega arith)
 nth_read (panics p) got e = absurd (let z : ◌≡◌ {A = ℕ} 0 1 = cc in omega arith)
 
@@ -333,14 +341,14 @@ module _ (s : List ℕ) (x : SignedInteger) (ex : x ≡ integer_of s) (t : Bool)
 
 -- ---- the returns of `parse_nth`
 -- the first of two that reads or panics: the first does
-or-first : (o o' : Outcome selector.Nth) (r : Result (Option Nth) Panic) → r ≡ nth_answer o → (r ≡ Ok None → ⊥) → r ≡ nth_answer (or_else o o')
+or-first : (o o' : Outcome selector.Nth) (r : Result (Option (Taken Nth)) Panic) → r ≡ nth_answer o → (r ≡ Ok None → ⊥) → r ≡ nth_answer (or_else o o')
 unfolding or_else nth_answer on_outcome
 or-first (reads n x) o' r e h = e
 or-first fails o' r e h = absurd (h e)
 or-first (panics p) o' r e h = e
 
 -- where the first alternative is not read, the answer is that of the second
-or-second : (o o' : Outcome selector.Nth) → Ok None ≡ nth_answer o → (r : Result (Option Nth) Panic) → r ≡ nth_answer o' → r ≡ nth_answer (or_else o o')
+or-second : (o o' : Outcome selector.Nth) → Ok None ≡ nth_answer o → (r : Result (Option (Taken Nth)) Panic) → r ≡ nth_answer o' → r ≡ nth_answer (or_else o o')
 unfolding or_else
 or-second o o' e r h = go o (not-read o e)
   where
@@ -392,7 +400,7 @@ module _ (s : List ℕ) (t : Bool) (et : t ≡ starts_with (0x65 ∷ 0x76 ∷ 0x
     odd-test = eq ∙ ap (λ (w : List ℕ). starts_with w s) (sym odd-bytes)
 
     -- where the text is not `even`, the other forms decide
-    no-even : (r : Result (Option Nth) Panic) → r ≡ nth_answer (or_else (worded s (text "odd") (pos 2) (pos 1)) (or_else (both_of s) (or_else (just_a s) (just_b s)))) → r ≡ nth_answer (nth_of s)
+    no-even : (r : Result (Option (Taken Nth)) Panic) → r ≡ nth_answer (or_else (worded s (text "odd") (pos 2) (pos 1)) (or_else (both_of s) (or_else (just_a s) (just_b s)))) → r ≡ nth_answer (nth_of s)
     unfolding nth_of
     no-even r h = or-second _ _ (word-missing s (text "even") (pos 2) (pos 0) t even-test e) r h
 
@@ -403,18 +411,18 @@ module _ (s : List ℕ) (t : Bool) (et : t ≡ starts_with (0x65 ∷ 0x76 ∷ 0x
         (or-first _ _ _
         (ap (λ (n : ℕ). Ok (Some (numbers n 4 2))) (sym (ap length odd-bytes)) ∙ word-there s (text "odd") (pos 2) (pos 1) q odd-test f 4 2 signed-numbers.2 signed-numbers.1) (λ e. cc))
 
-    module _ (f : q ≡ false) (r : Result (Option Nth) Panic) (er : r ≡ nth_answer (both_of s)) where
+    module _ (f : q ≡ false) (r : Result (Option (Taken Nth)) Panic) (er : r ≡ nth_answer (both_of s)) where
       -- where it is no word, an+b, an or b decides
-      no_word : (x : Result (Option Nth) Panic) → x ≡ nth_answer (or_else (both_of s) (or_else (just_a s) (just_b s))) → x ≡ nth_answer (nth_of s)
+      no_word : (x : Result (Option (Taken Nth)) Panic) → x ≡ nth_answer (or_else (both_of s) (or_else (just_a s) (just_b s))) → x ≡ nth_answer (nth_of s)
       no_word x h = no-even x (or-second _ _ (word-missing s (text "odd") (pos 2) (pos 1) q odd-test f) x h)
 
       -- an+b, where both numbers are there
       pub nth-both : (r ≡ Ok None → ⊥) → r ≡ nth_answer (nth_of s)
       nth-both h = no_word r (or-first _ _ r er h)
 
-      module _ (n : r ≡ Ok None) (r' : Result (Option Nth) Panic) (er' : r' ≡ nth_answer (just_a s)) where
+      module _ (n : r ≡ Ok None) (r' : Result (Option (Taken Nth)) Panic) (er' : r' ≡ nth_answer (just_a s)) where
         -- where it is not an+b either, an or b decides
-        no_both : (x : Result (Option Nth) Panic) → x ≡ nth_answer (or_else (just_a s) (just_b s)) → x ≡ nth_answer (nth_of s)
+        no_both : (x : Result (Option (Taken Nth)) Panic) → x ≡ nth_answer (or_else (just_a s) (just_b s)) → x ≡ nth_answer (nth_of s)
         no_both x h = no_word x (or-second _ _ (sym n ∙ er) x h)
 
         -- an, where the second is not
@@ -422,7 +430,7 @@ module _ (s : List ℕ) (t : Bool) (et : t ≡ starts_with (0x65 ∷ 0x76 ∷ 0x
         nth-a h = no_both r' (or-first _ _ r' er' h)
 
         -- b, where the first is not
-        pub nth-b : r' ≡ Ok None → (x : Result (Option Nth) Panic) → x ≡ nth_answer (just_b s) → x ≡ nth_answer (nth_of s)
+        pub nth-b : r' ≡ Ok None → (x : Result (Option (Taken Nth)) Panic) → x ≡ nth_answer (just_b s) → x ≡ nth_answer (nth_of s)
         nth-b h x ex = no_both x (or-second _ _ (sym h ∙ er') x ex)
 
 -- ---- the returns of `parse_nth_child_args`
@@ -437,7 +445,7 @@ module _ (s : List ℕ) (t : Bool) (et : t ≡ is (get_or s 0 0) ascii.left_pare
   bracket-there e = let h = byte-there s 0 ascii.left_parenthesis (omega arith) (told _ _ _ et e) in omega arith
 
   -- then white space up to w, and the reading from there on
-  module _ (e : t ≡ true) (w : ℕ) (ew : w ≡ 1 + skip_whitespace (drop 1 s)) (lw : w ≤ length s) (r : Result (Option Nth) Panic)
+  module _ (e : t ≡ true) (w : ℕ) (ew : w ≡ 1 + skip_whitespace (drop 1 s)) (lw : w ≤ length s) (r : Result (Option (Taken Nth)) Panic)
       (er : r ≡ nth_answer (nth_of (take (length s - w) (drop w s)))) where
     -- of the rest of the text
     lent : r ≡ nth_answer (nth_of (drop w s))

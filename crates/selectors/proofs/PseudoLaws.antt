@@ -30,6 +30,7 @@ use Rattle.syntax.specs.RuleLayout.{component_text}
 use Rattle.syntax.specs.Signed.{signed_number}
 use Rattle.syntax.proofs.Streams.{held-part, sets-held}
 use Rattle.lexer.proofs.NameAnswers.{NameRead, named-from, unnamed-from}
+use Rattle.combinators.specs.declared.taken.Taken.{Taken}
 use Rattle.selectors.specs.Outcome.{Outcome, reads, fails, panics, on_outcome, behind}
 use Rattle.selectors.specs.Selector as selector
 use Rattle.selectors.specs.Selector.{nth_args_of, nth_child_args, pseudo_class_of}
@@ -238,7 +239,7 @@ module _ (s st : List ℕ) (t : Bool) (et : t ≡ is (get_or s 0 0) ascii.colon)
       pseudo-is = rw (told _ _ _ et e, q.reading, q.same_name)
 
       -- by the answer for the arguments, which stand behind the name
-      module _ (r : Result (Option Nth) Panic) (er : r ≡ nth_answer (nth_args_of (take (length s - (1 + k)) (drop (1 + k) s)))) where
+      module _ (r : Result (Option (Taken Nth)) Panic) (er : r ≡ nth_answer (nth_args_of (take (length s - (1 + k)) (drop (1 + k) s)))) where
         -- of the rest of the text
         read : r ≡ nth_answer (nth_args_of (drop (1 + k) s))
         read = er ∙ ap (λ (u : List ℕ). nth_answer (nth_args_of u)) (rest s (1 + k))

@@ -2,7 +2,7 @@
 use mathlib.Core.Path.{◌≡◌, refl, ap, sym, subst, ◌∙◌}
 use mathlib.Core.Bool.{Bool, true, false}
 use mathlib.Core.List.{List, [], ◌∷◌}
-use Prim.Native.Nat.{ℕ, zero, suc, ◌+◌, ◌-◌, ◌*◌, ◌^◌, ◌≤◌, ◌<◌}
+use Prim.Native.Nat.{ℕ, zero, suc, ◌+◌, ◌-◌, ◌*◌, ◌≤◌, ◌<◌}
 use native.Mathlib.Nat.{zero-add}
 use native.Mathlib.Omega.{arith}
 use lib.ListN.{length, take, drop, get_or, length-drop}
@@ -164,22 +164,6 @@ module _ {s rules₀ : List ℕ} {place : ℕ} {store₀ : List ℕ} {fill : ℕ
         bits = omega (arith, v.bits, i.long, i.within, lent-long);
       }
 
-  -- the place behind the rows so far fits a word
-  pub place-fits : place + numbers < 2 ^ 64
-  place-fits = omega (arith, u.bits, i.wide, i.within)
-
-  -- the fill behind the texts so far fits a word
-  pub fill-fits : fill + text < 2 ^ 64
-  fill-fits = omega (arith, v.bits, i.long, i.within)
-
-  -- the stores keep their lengths
-  pub rules-kept : length rules ≡ length rules₀
-  rules-kept = rules-long i.gathered
-
-  -- the text store is as long as it was
-  pub store_kept : length store ≡ length store₀
-  store_kept = store_long i.gathered
-
   module _ {r : Reading} {y z : List ℕ} (e : Left (λ _. 1) (selector_row (fill + text)) selector_text (selector_of lent) rules (place + numbers) store (fill + text) r y z) where
     -- where no selector follows, those that were read so far are the whole list
     pub no-selector : r ≡ Ok None → Ends s rules₀ place store₀ fill (Ok (sized taken count numbers text)) y z
@@ -248,10 +232,6 @@ module _ {s rules₀ : List ℕ} {place : ℕ} {store₀ : List ℕ} {fill : ℕ
 
         -- a ',' follows: the list goes on behind it and the white space there
         module _ (f : b ≡ true) {next' : ℕ} (en : next' ≡ next + n + 1 + skip_whitespace (drop (next + n + 1) s)) (l : next' ≤ length s) where
-          -- the next selector may start further on than this one did
-          pub later : next < next'
-          later = omega (arith, en)
-
           -- with the ',' passed, the reader goes on at the next selector
           pub goes : Reading-on s rules₀ place store₀ fill y z (next + n) (count + 1) (numbers + row) (text + more) next'
           goes =

@@ -2,6 +2,7 @@
 use Rattle.std.specs.Prelude.{ℕ, ◌+◌, Bool, Option, Some, None, Result, Ok, Err, List, ◌≡◌, refl, leb, pos, negsuc, length, drop}
 use Rattle.combinators.specs.Choice.{pick, or, and, is, within}
 use Rattle.combinators.specs.Repeat.{many, took}
+use Rattle.combinators.specs.declared.taken.Taken.{Taken}
 use Rattle.characters.specs.Literal.{text}
 use Rattle.characters.specs.Utf8.{utf8}
 use Rattle.lexer.specs.Name.{hex_digit}
@@ -17,12 +18,12 @@ use Rattle.selectors.specs.declared.nth.SignedInteger.{SignedInteger}
 use Rattle.selectors.specs.declared.readings.Panic.{Panic}
 
 -- a reading, that there is none, or the byte where the crate panics
-unfoldable pub nth_answer : Outcome selector.Nth → Result (Option Nth) Panic
+unfoldable pub nth_answer : Outcome selector.Nth → Result (Option (Taken Nth)) Panic
 nth_answer o =
-    on_outcome o (λ n x. Ok (Some (record { taken = n; a = signed_number x.a; b = signed_number x.b }))) (Ok None) (λ p. Err (record { place = p }))
+    on_outcome o (λ n x. Ok (Some (record { taken = n; value = record { a = signed_number x.a; b = signed_number x.b } }))) (Ok None) (λ p. Err (record { place = p }))
 
 -- "-2n+3", and a panic at the second byte
-case : (nth_answer (reads 5 (record { a = negsuc 1; b = pos 3 })) ≡ Ok (Some (record { taken = 5; a = 3; b = 6 })))
+case : (nth_answer (reads 5 (record { a = negsuc 1; b = pos 3 })) ≡ Ok (Some (record { taken = 5; value = record { a = 3; b = 6 } })))
     × (nth_answer (panics 1) ≡ Err (record { place = 1 }))
 unfolding nth_answer on_outcome signed_number
 case = (refl, refl)

@@ -7,14 +7,14 @@ ghost use Rattle.selectors.specs.NthAnswer.{nth_answer, converted_answer, intege
 
 use crate::readings::{Panic, moved};
 use combinators::bytes::{byte_is, starts_with};
+use combinators::taken::Taken;
 use lexer::numbers::{parse_integer, parse_sign};
 use lexer::whitespace::skip_from;
 use values::colours::{DECIMAL, digits_in};
 
-// The bytes taken, a and b.
+// The two numbers of an+b.
 #[derive(Clone, Copy, Debug, PartialEq, Eq)]
 pub struct Nth {
-    pub taken: usize,
     pub a: u32,
     pub b: u32,
 }
@@ -77,7 +77,7 @@ fn signed_integer(s: &[u8]) -> SignedInteger
 }
 
 // A sign or none, digits or none, `n`, white space or none, a sign, digits.
-fn both_of(s: &[u8]) -> Result<Option<Nth>, Panic>
+fn both_of(s: &[u8]) -> Result<Option<Taken<Nth>>, Panic>
     ensures { result ≡ nth_answer (both_of s.now) }
 {
     let first = signed_integer(s);
@@ -93,15 +93,14 @@ fn both_of(s: &[u8]) -> Result<Option<Nth>, Panic>
     let b = second.value.ok_or(Panic {
         place: at + second.sign,
     })?;
-    Ok(Some(Nth {
+    Ok(Some(Taken {
         taken: at + second.taken,
-        a,
-        b,
+        value: Nth { a, b },
     }))
 }
 
 // The same up to the `n`.
-fn just_a(s: &[u8]) -> Result<Option<Nth>, Panic>
+fn just_a(s: &[u8]) -> Result<Option<Taken<Nth>>, Panic>
     ensures { result ≡ nth_answer (just_a s.now) }
 {
     let first = signed_integer(s);
@@ -109,15 +108,14 @@ fn just_a(s: &[u8]) -> Result<Option<Nth>, Panic>
         return Ok(None);
     }
     let a = first.value.ok_or(Panic { place: first.sign })?;
-    Ok(Some(Nth {
+    Ok(Some(Taken {
         taken: first.taken + 1,
-        a,
-        b: ZERO,
+        value: Nth { a, b: ZERO },
     }))
 }
 
 // A sign or none, digits.
-fn just_b(s: &[u8]) -> Result<Option<Nth>, Panic>
+fn just_b(s: &[u8]) -> Result<Option<Taken<Nth>>, Panic>
     ensures { result ≡ nth_answer (just_b s.now) }
 {
     let second = signed_integer(s);
@@ -125,29 +123,26 @@ fn just_b(s: &[u8]) -> Result<Option<Nth>, Panic>
         return Ok(None);
     }
     let b = second.value.ok_or(Panic { place: second.sign })?;
-    Ok(Some(Nth {
+    Ok(Some(Taken {
         taken: second.taken,
-        a: ZERO,
-        b,
+        value: Nth { a: ZERO, b },
     }))
 }
 
 // `even`, `odd`, or an+b in one of its forms, in the crate's order.
-fn parse_nth(s: &[u8]) -> Result<Option<Nth>, Panic>
+fn parse_nth(s: &[u8]) -> Result<Option<Taken<Nth>>, Panic>
     ensures { result ≡ nth_answer (nth_of s.now) }
 {
     if starts_with(s, &EVEN) {
-        return Ok(Some(Nth {
+        return Ok(Some(Taken {
             taken: EVEN.len(),
-            a: TWO,
-            b: ZERO,
+            value: Nth { a: TWO, b: ZERO },
         }));
     }
     if starts_with(s, &ODD) {
-        return Ok(Some(Nth {
+        return Ok(Some(Taken {
             taken: ODD.len(),
-            a: TWO,
-            b: ONE,
+            value: Nth { a: TWO, b: ONE },
         }));
     }
     if let Some(both) = both_of(s)? {
@@ -160,7 +155,7 @@ fn parse_nth(s: &[u8]) -> Result<Option<Nth>, Panic>
 }
 
 // The arguments in brackets, with white space or none before and behind. The '(' is passed by a place and not stripped: what follows goes by places in `s`.
-pub fn parse_nth_child_args(s: &[u8]) -> Result<Option<Nth>, Panic>
+pub fn parse_nth_child_args(s: &[u8]) -> Result<Option<Taken<Nth>>, Panic>
     ensures { result ≡ nth_answer (nth_args_of s.now) }
 {
     if !byte_is(s, 0, b'(') {
@@ -174,7 +169,7 @@ pub fn parse_nth_child_args(s: &[u8]) -> Result<Option<Nth>, Panic>
     if !byte_is(s, end, b')') {
         return Ok(None);
     }
-    Ok(Some(Nth {
+    Ok(Some(Taken {
         taken: end + 1,
         ..nth
     }))

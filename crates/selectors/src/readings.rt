@@ -16,6 +16,16 @@ pub struct Read {
     pub text: usize,
 }
 
+impl Read {
+    // Nothing, from which readers of several things go on.
+    pub const NOTHING: Read = Read {
+        taken: 0,
+        count: 0,
+        numbers: 0,
+        text: 0,
+    };
+}
+
 // The byte where the crate panics (refusal 4).
 #[derive(Clone, Copy, Debug, PartialEq, Eq)]
 pub struct Panic {
@@ -42,8 +52,8 @@ pub fn moved<T>(answer: Result<T, Panic>, n: usize) -> Result<T, Panic>
     answer.map_err(|panic| panic.behind(n))
 }
 
-// Zeros again where rows and texts were written, of which nothing is kept. What is taken back is told by its places and lengths: a reader that stops has
-// counted, and has no Read yet.
+// Zeros again where rows and texts were written, of which nothing is kept. What is taken back is told by its places and lengths: of the declarations of a block,
+// and of several sheets, there is no Read.
 pub fn take_back(stores: &mut Stores<'_>, place: usize, numbers: usize, fill: usize, text: usize)
     ensures same { SameStores stores.old stores.new }
     ensures work_unchanged { SameWork stores.old stores.new }

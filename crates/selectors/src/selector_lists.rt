@@ -28,35 +28,27 @@ pub fn parse_selectors(
     ensures rules_after { stores.new.rules.now ≡ sets stores.old.rules.now place (written (selector_rows fill) (selectors_of s.now)) }
     ensures texts_after { stores.new.texts.now ≡ sets stores.old.texts.now fill (written selector_texts (selectors_of s.now)) }
 {
-    let mut taken = 0;
-    let mut count = 0;
-    let mut numbers = 0;
-    let mut text = 0;
+    let mut read = Read::NOTHING;
     let mut next = 0;
     // no `?`: what was written before is taken back
     loop {
-        match parse_selector(&s[next..], stores, place + numbers, fill + text) {
+        match parse_selector(&s[next..], stores, place + read.numbers, fill + read.text) {
             Ok(None) => break,
             Err(panic) => {
-                take_back(stores, place, numbers, fill, text);
+                take_back(stores, place, read.numbers, fill, read.text);
                 return Err(panic.behind(next));
             }
             Ok(Some(selector)) => {
-                taken = next + selector.taken;
-                count += 1;
-                numbers += selector.numbers;
-                text += selector.text;
-                if !byte_is(s, taken, b',') {
+                read.taken = next + selector.taken;
+                read.count += 1;
+                read.numbers += selector.numbers;
+                read.text += selector.text;
+                if !byte_is(s, read.taken, b',') {
                     break;
                 }
-                next = skip_from(s, taken + 1);
+                next = skip_from(s, read.taken + 1);
             }
         }
     }
-    Ok(Read {
-        taken,
-        count,
-        numbers,
-        text,
-    })
+    Ok(read)
 }

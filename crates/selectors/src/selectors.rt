@@ -1,15 +1,14 @@
 // Selectors: components as long as they read, and `parse_selector`. Rows go to the stores' rules from `place` on, texts to their texts from `fill` on; both
 // are zero there, and stay so where nothing is read. The room is asked of each reader, by its own text,
 // and `place` and `fill` stand beside the stores: they go on from what was read to what is read next.
-ghost use Rattle.std.specs.Prelude.{◌≡◌, [], ◌+◌, ◌-◌, ◌*◌, ◌^◌, ◌<◌, length};
+ghost use Rattle.std.specs.Prelude.{◌≡◌, ◌+◌, ◌-◌, ◌*◌, ◌^◌, ◌<◌, length};
 ghost use Rattle.std.proofs.lemmas.List.Edits.{sets};
 ghost use Rattle.combinators.specs.Choice.{pick, is};
 ghost use Rattle.combinators.specs.Lent.{SameStores, SameWork};
 ghost use Rattle.combinators.specs.Store.{wiped};
 ghost use Rattle.syntax.specs.RuleLayout.{component_width, component_text, component_rows, component_texts, selector_head, selector_row, selector_text, pseudo_number};
-ghost use Rattle.syntax.specs.Writing.{ComponentFits};
 ghost use Rattle.selectors.specs.Selector.{selector_of, pseudo_of, pseudo_taken};
-ghost use Rattle.selectors.specs.ComponentAnswer.{columns_of, row_of, component_answer};
+ghost use Rattle.selectors.specs.ComponentAnswer.{component_answer};
 ghost use Rattle.selectors.specs.Components.{has_row, pseudo_meant, next_of, started_of, blank_last};
 ghost use Rattle.selectors.specs.Stores.{Clean};
 ghost use Rattle.selectors.specs.Reading.{reading, written, TextRoom, RowRoom};
@@ -67,17 +66,6 @@ fn is_kept(at_start: bool, component: Component) -> bool
     !at_start || !matches!(component, Component::Descendant)
 }
 
-// Puts down the row of a component where it is kept: `fill` is a number of the row, `place` where the row goes.
-#[tactic(auto, unfolding(combinators::specs::Choice::pick))]
-fn put_kept(kept: bool, component: Component, fill: usize, rules: &mut [u32], place: usize)
-    requires { ComponentFits (columns_of component).first (columns_of component).second fill }
-    ensures { rules.new ≡ sets rules.old place (pick kept (row_of fill component) []) }
-{
-    if kept {
-        put_component(Columns::from(component), fill, rules, place);
-    }
-}
-
 // Reads the components of a selector as long as they read, `parse_selector_with_element` or else `parse_selector_without_element`, without a blank
 // at the start; their rows stand in reading order.
 fn parse_body(
@@ -94,42 +82,34 @@ fn parse_body(
     ensures rules_after { stores.new.rules.now ≡ sets stores.old.rules.now place (written (component_rows fill) (started_of s.now)) }
     ensures texts_after { stores.new.texts.now ≡ sets stores.old.texts.now fill (written component_texts (started_of s.now)) }
 {
-    let mut taken = 0;
-    let mut count = 0;
-    let mut numbers = 0;
-    let mut text = 0;
+    let mut body = Read::NOTHING;
     // no `?`: what was written before is taken back
     loop {
-        let at = fill + text;
-        let at_start = taken == 0;
-        match parse_next(&s[taken..], at_start, stores.texts, at) {
+        let at = fill + body.text;
+        let at_start = body.taken == 0;
+        match parse_next(&s[body.taken..], at_start, stores.texts, at) {
             Ok(Some(read)) => {
-                let kept = is_kept(at_start, read.value);
-                put_kept(kept, read.value, at, stores.rules, place + numbers);
-                taken += read.taken;
-                let rows = usize::from(kept);
-                count += rows;
-                numbers += COMPONENT_WIDTH * rows;
-                text += read.value.text_length();
+                body.taken += read.taken;
+                body.text += read.value.text_length();
+                if is_kept(at_start, read.value) {
+                    let row = Columns::from(read.value);
+                    put_component(row, at, stores.rules, place + body.numbers);
+                    body.count += 1;
+                    body.numbers += COMPONENT_WIDTH;
+                }
             }
-            Ok(None) => {
-                let read = Read {
-                    taken,
-                    count,
-                    numbers,
-                    text,
-                };
-                return Ok((taken > 0).then_some(read));
-            }
+            Ok(None) => break,
             Err(panic) => {
-                take_back(stores, place, numbers, fill, text);
-                return Err(panic.behind(taken));
+                take_back(stores, place, body.numbers, fill, body.text);
+                return Err(panic.behind(body.taken));
             }
         }
     }
+    Ok((body.taken > 0).then_some(body))
 }
 
-// The count of components, whose rows lie in a lent store from `place` on, without a blank at the end, whose row is wiped.
+// The count of components, whose rows lie in a lent store from `place` on, without a blank at the end, whose row is wiped. The rows are no slice of arrays: of
+// chunks (`as_chunks_mut`) nothing is promised of what the store ends as.
 fn drop_blank(rules: &mut [u32], place: usize, count: usize) -> usize
     requires { place + component_width * count < 2 ^ 64 }
     ensures value { result ≡ pick (blank_last rules.old place count) (count - 1) count }
@@ -146,7 +126,7 @@ fn drop_blank(rules: &mut [u32], place: usize, count: usize) -> usize
     count - 1
 }
 
-// Reads a pseudo element or none.
+// Reads a pseudo element or none. None is no failure and takes no bytes, so the `Option` stands within the `Taken`.
 fn parse_pseudo_element(s: &[u8]) -> Taken<Option<PseudoElement>>
     ensures { (result.taken ≡ pseudo_taken (pseudo_of s.now)) × (pseudo_meant result.value ≡ pseudo_of s.now) }
 {

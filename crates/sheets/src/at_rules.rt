@@ -31,9 +31,7 @@ fn parse_statement_end(s: &[u8], n: usize, stores: &mut Stores<'_>, fill: usize)
             wipe_statement(stores, statement, fill);
             Some(Read {
                 taken: n + statement.taken,
-                count: 0,
-                numbers: 0,
-                text: 0,
+                ..Read::NOTHING
             })
         }
         Err(Unbalanced(statement)) => {

@@ -1,5 +1,6 @@
 // Rules: `parse_ruleset`. The row of a rule goes to the stores' rules from `place` on, its texts to their texts from `fill` on. All stores are zero where
-// something may be written, and stay so where nothing is read. `place` and `fill` stand beside the stores: they go on from one part of a rule to the next.
+// something may be written, and stay so where nothing is read. `at`, `place` and `fill` stand beside the text and the stores: they go on from one part of a rule
+// to the next.
 ghost use Rattle.std.specs.Prelude.{◌≡◌, ◌+◌, ◌≤◌, Ok, length, get_or};
 ghost use Rattle.std.proofs.lemmas.List.Edits.{sets};
 ghost use Rattle.combinators.specs.Ascii.{semicolon};

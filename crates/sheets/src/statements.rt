@@ -44,30 +44,23 @@ pub fn parse_stylesheet(s: &[u8], stores: &mut Stores<'_>) -> Result<Read, Panic
     ensures rules_after { stores.new.rules.now ≡ sets stores.old.rules.now 0 (written (rule_rows 0) (sheet_of s.now)) }
     ensures texts_after { stores.new.texts.now ≡ sets stores.old.texts.now 0 (written rule_texts (sheet_of s.now)) }
 {
-    let mut taken = 0;
-    let mut count = 0;
-    let mut numbers = 0;
-    let mut text = 0;
+    let mut read = Read::NOTHING;
     // each turn goes on behind the statement that was read; no `?`, since what was written before is taken back
-    while taken < s.len() {
-        match parse_statement(&s[taken..], taken, stores, numbers, text) {
+    while read.taken < s.len() {
+        let rest = &s[read.taken..];
+        match parse_statement(rest, read.taken, stores, read.numbers, read.text) {
             Ok(Some(statement)) => {
-                taken += statement.taken;
-                count += statement.count;
-                numbers += statement.numbers;
-                text += statement.text;
+                read.taken += statement.taken;
+                read.count += statement.count;
+                read.numbers += statement.numbers;
+                read.text += statement.text;
             }
             Ok(None) => break,
             Err(panic) => {
-                take_back(stores, 0, numbers, 0, text);
-                return Err(panic.behind(taken));
+                take_back(stores, 0, read.numbers, 0, read.text);
+                return Err(panic.behind(read.taken));
             }
         }
     }
-    Ok(Read {
-        taken,
-        count,
-        numbers,
-        text,
-    })
+    Ok(read)
 }

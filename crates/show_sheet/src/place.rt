@@ -4,6 +4,10 @@ use crate::text::{Blanks, Line};
 use combinators::texts::part_of;
 use std::fmt;
 
+fn is_line_feed(byte: &u8) -> bool {
+    *byte == b'\n'
+}
+
 /// A byte of a sheet. It is displayed by its line and column, as compilers write them.
 #[derive(Clone, Copy)]
 pub struct Place<'a> {
@@ -13,8 +17,7 @@ pub struct Place<'a> {
 
 impl<'a> Place<'a> {
     fn line(self) -> usize {
-        let before = part_of(self.sheet, 0, self.byte);
-        before.iter().filter(|b| **b == b'\n').count() + 1
+        self.before().split(is_line_feed).count()
     }
 
     fn column(self) -> usize {
@@ -22,18 +25,21 @@ impl<'a> Place<'a> {
         head.chars().count() + 1
     }
 
-    // The bytes before it on its line.
-    fn head(self) -> &'a [u8] {
-        let before = part_of(self.sheet, 0, self.byte);
-        let start = before.iter().rposition(|b| *b == b'\n');
-        &before[start.map_or(0, |i| i + 1)..]
+    // The bytes before it.
+    fn before(self) -> &'a [u8] {
+        part_of(self.sheet, 0, self.byte)
     }
 
-    // Those from it on.
+    // Those of them on its line.
+    fn head(self) -> &'a [u8] {
+        let mut lines = self.before().rsplit(is_line_feed);
+        lines.next().unwrap_or_default()
+    }
+
+    // The bytes of its line from it on.
     fn tail(self) -> &'a [u8] {
-        let rest = part_of(self.sheet, self.byte, self.sheet.len());
-        let end = rest.iter().position(|b| *b == b'\n');
-        &rest[..end.unwrap_or(rest.len())]
+        let rest = self.sheet.get(self.byte..).unwrap_or_default();
+        rest.split(is_line_feed).next().unwrap_or_default()
     }
 }
 

@@ -79,7 +79,7 @@ impl fmt::Display for Component<'_> {
     }
 }
 
-// A number with a sign, which is stored as 2v, or as -2v-1 where it is negative. As `signed_of` of matching, on which this program does not stand.
+// A number with a sign, which is stored as 2v, or as -2v-1 where it is negative. As `signed_of` of matching: for that alone the program would stand on three crates more.
 fn signed(n: u32) -> i64 {
     let half = i64::from(n / 2);
     if n % 2 == 0 { half } else { -half - 1 }

@@ -1,7 +1,7 @@
 -- What is read of compiled bytes: a list by its reading, and so many values as a loop meets them, the first of those that are left or none.
 use mathlib.Core.Path.{◌≡◌, sym, ap, ◌∙◌}
 use mathlib.Core.List.{List, [], ◌∷◌}
-use Prim.Native.Nat.{ℕ, suc, ◌-◌, ◌≤◌, ◌<◌}
+use Prim.Native.Nat.{ℕ, suc, ◌-◌, ◌<◌}
 use native.Mathlib.Omega.{arith}
 use Rattle.compiled.specs.Decoded.{Decoded, read, fault, on_decoded, and_then, mapped, counted}
 use Rattle.compiled.proofs.Walking.{First, counted-first}

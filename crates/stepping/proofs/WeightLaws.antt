@@ -9,7 +9,7 @@ use lib.ListN.{get_or}
 use Rattle.combinators.specs.Choice.{pick, or, is}
 use Rattle.combinators.proofs.Rules.{pick-holds, never, is_true, is-yes, is-no, or_assoc, or-false}
 use Rattle.syntax.specs.RuleLayout.{star_kind, class_kind, element_kind, hash_kind, child_kind}
-use Rattle.syntax.specs.Selector.{Component, class}
+use Rattle.syntax.specs.Selector.{Component}
 use Rattle.cascade.specs.Specificity.{specificity_of, no_specificity, sum, SumFits}
 use Rattle.cascade.specs.declared.specificity.Specificity.{Specificity}
 use Rattle.matching.specs.Specificity.{added, name_added, specificity}

@@ -37,7 +37,7 @@ pub struct NodeRow<'a> {
 }
 
 impl<'a> NodeRow<'a> {
-    // All of its attributes.
+    // All of its attributes. (One line, as in `Handed` of sweeps: see there.)
     pub fn attributes(self) -> Attributes<'a>
         ensures { attributes_from result.rows.now result.text.now result.count 0 ≡ given_of self.entry }
     {
@@ -130,7 +130,7 @@ fn merge_inline(
 }
 
 // The step of a row. `out` is its parent's style row at entry and its own at exit; the fill behind its texts. What `rules`, `tokens` and `brackets` hold afterwards,
-// and `texts` behind that fill, is left free.
+// and `texts` behind that fill, is left free. (Style row, state and stores come one by one: see running/src/rows.rt.)
 pub fn step(
     settings: Settings,
     compiled: &[u8],

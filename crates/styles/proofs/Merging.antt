@@ -3,7 +3,6 @@ use mathlib.Core.Path.{◌≡◌, refl, sym, ap, ◌∙◌}
 use mathlib.Core.Bool.{false}
 use mathlib.Core.List.{List, [], ◌∷◌, ◌++◌, map, append_assoc, map-append}
 use Prim.Native.Nat.{ℕ}
-use lib.ListN.{length}
 use Rattle.combinators.specs.Choice.{pick}
 use Rattle.syntax.specs.Style.{agent_origin, user_origin, author_origin}
 use Rattle.syntax.specs.declared.styles.Value.{Value}
@@ -13,7 +12,6 @@ use Rattle.cascade.specs.Record.{Declared, AttributeStyle, Sources, from_rule, f
 use Rattle.cascade.specs.Row.{merge_row_by}
 use Rattle.cascade.specs.Slot.{update_by}
 use Rattle.cascade.specs.Specificity.{no_specificity, inline_specificity}
-use Rattle.cascade.proofs.Merging.{merge-long}
 use Rattle.styles.specs.Merged.{merged_row, early_declared, late_declared}
 
 module _ (c : Cascade) where
@@ -32,12 +30,6 @@ module _ (c : Cascade) where
   unfolding merged_row
   merged-append row [] es = refl
   merged-append row (d ∷ ds) es = merged-append (merge_row_by (update_by c) row d) ds es
-
-  -- a row stays as long as it is
-  pub merged-long : (ds : List (Declared Value)) (row : List ℕ) → length (merged_row c row ds) ≡ length row
-  unfolding merged_row
-  merged-long [] row = refl
-  merged-long (d ∷ ds) row = merged-long ds (merge_row_by (update_by c) row d) ∙ merge-long (update_by c) row d
 
 -- ---- a loop that merges declarations into a row
 module _ (c : Cascade) (row₀ : List ℕ) (all : List (Declared Value)) where
@@ -76,12 +68,6 @@ module _ {A : Type 0} where
   styles-append (x ∷ xs) ys = rw (styles-append xs ys) (sym (append_assoc (pick x.is_style (from_attribute x.style.important inline_specificity x ∷ []) []) (style_attributes xs) (style_attributes ys)))
 
 module _ {A : Type 0} where
-  -- what two lists of attributes declare before the author's rules is one behind the other
-  pub early-append : (c : Cascade) (xs ys : List (AttributeStyle A)) → early_declared c (xs ++ ys) ≡ early_declared c xs ++ early_declared c ys
-  unfolding early_declared
-  early-append Crate xs ys = refl
-  early-append Book xs ys = colours-append xs ys
-
   -- what two lists of attributes declare behind the author's rules is one behind the other
   pub late-append : (c : Cascade) (xs ys : List (AttributeStyle A)) → late_declared c (xs ++ ys) ≡ late_declared c xs ++ late_declared c ys
   unfolding late_declared

@@ -1,7 +1,7 @@
 -- What the path of a row asks for is enough for it, and what styling leaves in the fronts of the stores, with zeros behind them, it leaves in the whole.
 use mathlib.Core.Path.{◌≡◌, refl, ap, sym, ◌∙◌}
 use mathlib.Core.List.{List, ◌∷◌, ◌++◌, append_assoc}
-use Prim.Native.Nat.{ℕ, suc, ◌+◌, ◌-◌, ◌*◌, ◌^◌, ◌≤◌, ◌<◌}
+use Prim.Native.Nat.{ℕ, suc, ◌+◌, ◌-◌, ◌*◌, ◌≤◌, ◌<◌}
 use native.Mathlib.Nat.{zero-add}
 use native.Mathlib.Omega.{arith}
 use lib.ListN.{length, take, drop, replicate, length-append, length-replicate, replicate-append-replicate}
@@ -110,10 +110,6 @@ module _ {agent user author out rules₀ tokens brackets texts : List ℕ} {p : 
   front-lent more room em er h =
       let enough : path_asked p ≤ min (path_asked p) most_counted = path-enough p (omega (arith, k.few)) in
       record { lent = l; call = k; enough = omega (arith, enough, em, er); least = h }
-
-  -- and that can be counted
-  pub front-counted : (sheets more : ℕ) → sheets ≡ length agent + length user + length author → more ≡ min (path_asked p) most_counted → sheets + more < 2 ^ 64
-  front-counted sheets more es em = omega (arith, es, em, k.few, l.agent-within, l.user-within, l.author-within)
 
 -- a front of a store is as long as it is asked for
 front_long : (n : ℕ) (l m : List ℕ) → n ≤ length l → length m ≡ length l → length (take n m) ≡ n

@@ -107,9 +107,9 @@ module _ (code : List ℕ) (row : Path) (count at i left : ℕ) (v : Testing cod
     tests-more n p e t = from-test (Some (met.Test n true)) (e ∙ ap (λ (b : Bool). Some (met.Test n b)) t)
 
     -- a test that does not
-    pub tests-failed : (n : ℕ) (p : Bool) → q ≡ Some (met.Test n p) → p ≡ false → false ≡ tests_pass code row count at
+    pub tests-failed : (m : Met) → q ≡ Some m → (n : ℕ) (p : Bool) → m ≡ met.Test n p → p ≡ false → false ≡ tests_pass code row count at
     unfolding tests_by and
-    tests-failed n p e t = from-test (Some (met.Test n false)) (e ∙ ap (λ (b : Bool). Some (met.Test n b)) t)
+    tests-failed m e n p k t = from-test (Some (met.Test n false)) (e ∙ ap Some k ∙ ap (λ (b : Bool). Some (met.Test n b)) t)
 
     -- a step is none
     pub tests-step-met : (m : Met) → q ≡ Some m → ((n : ℕ) (p : Bool) → ¬ (m ≡ met.Test n p)) → false ≡ tests_pass code row count at
@@ -195,23 +195,23 @@ module _ (code : List ℕ) (stop count first i left start steps tests : ℕ) (v 
         ap (segment_by code stop (left - 1) s) (sym e ∙ eq) ∙ sym (segment-step code stop (left - 1) s i) ∙ ap (λ (m : ℕ). segment_before code stop m s i) (sym d) ∙ v.whole
 
     -- a test is counted, and the loop goes on behind it
-    pub seek-test : (n : ℕ) (p : Bool) → q ≡ Some (met.Test n p) → Seeking code stop count first n (left - 1) start steps (tests + 1)
+    pub seek-test : (m : Met) → q ≡ Some m → (n : ℕ) (p : Bool) → m ≡ met.Test n p → Seeking code stop count first n (left - 1) start steps (tests + 1)
     unfolding segment_by
-    seek-test n p e =
+    seek-test m e n p k =
         let d : tests + 1 ≡ suc tests = omega arith in
         record {
-          whole = ap (λ (m : ℕ). segment_before code stop (left - 1) (record { start = start; steps = steps; tests = m }) n) d ∙ from-segment (Some (met.Test n p)) e;
+          whole = ap (λ (t : ℕ). segment_before code stop (left - 1) (record { start = start; steps = steps; tests = t }) n) d ∙ from-segment (Some (met.Test n p)) (e ∙ ap Some k);
           few-steps = omega (arith, v.few-steps);
           few-tests = omega (arith, v.few-tests);
         }
 
     -- a child step is counted, and the tests begin anew behind it
-    pub seek-child : (n : ℕ) → q ≡ Some (met.Child n) → Seeking code stop count first n (left - 1) start (steps + 1) 0
+    pub seek-child : (m : Met) → q ≡ Some m → (n : ℕ) → m ≡ met.Child n → Seeking code stop count first n (left - 1) start (steps + 1) 0
     unfolding segment_by
-    seek-child n e =
+    seek-child m e n k =
         let d : steps + 1 ≡ suc steps = omega arith in
         record {
-          whole = ap (λ (m : ℕ). segment_before code stop (left - 1) (record { start = start; steps = m; tests = 0 }) n) d ∙ from-segment (Some (met.Child n)) e;
+          whole = ap (λ (t : ℕ). segment_before code stop (left - 1) (record { start = start; steps = t; tests = 0 }) n) d ∙ from-segment (Some (met.Child n)) (e ∙ ap Some k);
           few-steps = omega (arith, v.few-steps);
           few-tests = omega (arith, v.few-tests);
         }
@@ -224,9 +224,9 @@ module _ (code : List ℕ) (stop count first i left start steps tests : ℕ) (v 
         there n stop t = unfold segment_by pick in rw (is-yes n stop t)
 
     -- behind a descendant step that is not the place asked for, another segment begins
-    pub seek-next : (n : ℕ) → q ≡ Some (met.Descendant n) → ¬ (n ≡ stop) → Seeking code stop count first n (left - 1) n 0 0
+    pub seek-next : (m : Met) → q ≡ Some m → (n : ℕ) → m ≡ met.Descendant n → ¬ (n ≡ stop) → Seeking code stop count first n (left - 1) n 0 0
     unfolding beginning
-    seek-next n e t = record { whole = next n t ∙ from-segment (Some (met.Descendant n)) e; few-steps = omega (arith, v.few-steps); few-tests = omega (arith, v.few-tests) }
+    seek-next m e n k t = record { whole = next n t ∙ from-segment (Some (met.Descendant n)) (e ∙ ap Some k); few-steps = omega (arith, v.few-steps); few-tests = omega (arith, v.few-tests) }
       where
         next : (n : ℕ) → ¬ (n ≡ stop) → segment_before code stop (left - 1) (beginning n) n ≡ segment_by code stop (left - 1) (record { start = start; steps = steps; tests = tests }) (Some (met.Descendant n))
         next n t = unfold segment_by pick in rw (is-no n stop t)

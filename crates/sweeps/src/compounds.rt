@@ -1,6 +1,5 @@
 // Compounds and segments of a selector in compiled bytes. Nothing is asked of the bytes or of the places: a fault ends the walk. The walks are handed the whole
-// bytes and a place, since the places that a part keeps count from the start of the bytes. (One `match` over what is met and its pattern was tried, and in
-// `tests_pass` one `let Some(Met::Test(behind, true)) = .. else`: where the ways that fail meet, the proof is not told what the pattern says.)
+// bytes and a place, since the places that a part keeps count from the start of the bytes.
 ghost use Rattle.std.specs.Prelude.{◌≡◌, ◌≤◌};
 ghost use Rattle.segments.specs.Sweep.{tests_pass, compound_at};
 ghost use Rattle.segments.specs.Before.{beginning, segment_before};
@@ -41,16 +40,10 @@ pub fn tests_pass(row: &Row<'_>, at: usize, count: usize) -> bool
 {
     let mut next = at;
     for _ in 0..count {
-        let Some(met) = read_met(row, next, true) else {
-            return false;
-        };
-        let Met::Test(behind, passes) = met else {
-            return false;
-        };
-        if !passes {
-            return false;
+        match read_met(row, next, true) {
+            Some(Met::Test(behind, true)) => next = behind,
+            _ => return false,
         }
-        next = behind;
     }
     true
 }
@@ -63,17 +56,15 @@ pub fn compound_at(row: &Row<'_>, at: usize, limit: usize, may: bool) -> Compoun
     let mut place = at;
     let mut ends = may;
     for _ in 0..limit {
-        let Some(met) = read_met(row, place, ends) else {
-            return Compound { ends: false, place };
-        };
-        match met {
-            Met::Test(next, passes) => {
+        match read_met(row, place, ends) {
+            Some(Met::Test(next, passes)) => {
                 place = next;
                 ends = passes;
             }
-            Met::Child(next) | Met::Descendant(next) => {
+            Some(Met::Child(next) | Met::Descendant(next)) => {
                 return Compound { ends, place: next };
             }
+            None => return Compound { ends: false, place },
         }
     }
     Compound { ends: false, place }
@@ -89,26 +80,21 @@ pub fn segment_before(compiled: &[u8], stop: usize, count: u32, first: usize) ->
     let mut segment = beginning(first);
     let mut next = first;
     for _ in 0..count {
-        let Some(met) = pass_met(compiled, next, false) else {
-            return segment;
-        };
-        match met {
-            Met::Test(behind, _) => {
+        match pass_met(compiled, next, false) {
+            Some(Met::Test(behind, _)) => {
                 next = behind;
                 segment.tests += 1;
             }
-            Met::Child(behind) => {
+            Some(Met::Child(behind)) => {
                 next = behind;
                 segment.steps += 1;
                 segment.tests = 0;
             }
-            Met::Descendant(behind) => {
-                if behind == stop {
-                    return segment;
-                }
+            Some(Met::Descendant(behind)) if behind != stop => {
                 next = behind;
                 segment = beginning(behind);
             }
+            _ => return segment,
         }
     }
     segment

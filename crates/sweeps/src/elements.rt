@@ -19,7 +19,8 @@ impl<'a> Handed<'a> {
     ghost use Rattle.std.specs.Prelude.{◌≡◌};
     ghost use Rattle.sweeps.specs.Met.{handed};
 
-    // All of its attributes.
+    // All of its attributes. (One line, as in `NodeRow` of stepping. No field of either is an `Attributes`: that tells a count too, which need not be that of its
+    // rows.)
     #[tactic(auto, unfolding(crate::specs::Met::handed, crate::specs::Met::handed_element))]
     pub fn attributes(&self) -> Attributes<'a>
         ensures { attributes_from result.rows.now result.text.now result.count 0 ≡ (handed self.now).attributes }

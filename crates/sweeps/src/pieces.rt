@@ -21,7 +21,8 @@ pub enum Met {
     Descendant(usize),
 }
 
-// A component of one text: the place behind it, its kind, and where its text lies. (No `Read`: kind and text would be a pair without names.)
+// A component of one text: the place behind it, its kind, and where its text lies. (A `Read` would hold a struct of kind and text: two
+// structs to make and to take apart, for one.)
 #[derive(Clone, Copy, PartialEq, Eq)]
 pub struct NameAt {
     pub next: usize,

@@ -28,19 +28,18 @@ use Rattle.values.specs.ValueAnswer.{height_answer}
 use Rattle.values.proofs.TokenViews.{number-text, dimension-kind, kind-told, here-text, here-number, here-unit, tokens-here, tokens_none}
 
 -- ---- a number without a sign, with n digits before its point
-module _ (t : List ℕ) (n : ℕ) (e : n ≡ digits t) (r : Bool) where
-  -- what stands behind the point is f
-  parts : (f : List ℕ) → f ≡ drop (n + 1) t → r ≡ rounds_to_zero (take n t) f → r ≡ unsigned_zero t
-  unfolding unsigned_zero
-  parts f p q = q ∙ ap (rounds_to_zero (take n t)) p ∙ ap (λ k. rounds_to_zero (take k t) (drop (k + 1) t)) e
+-- what the code finds behind the point, or none, is what stands there
+pub behind-point : (t : List ℕ) (n : ℕ) (o : Option (Bor (List ℕ))) → MatchOption o ((length t < n + 1) ⊎ (length t < length t))
+    (λ x. (n + 1 ≤ length t) × (length t ≤ length t) × (x.now ≡ slice_range t (n + 1) (length t)) × (length x.now + (n + 1) ≡ length t))
+    → (b : Bor (List ℕ)) → b.now ≡ [] → (x : Bor (List ℕ)) → x ≡ unwrap_or o b → x.now ≡ drop (n + 1) t
+behind-point t n None (inl l) b eb x ex = ap (λ (y : Bor (List ℕ)). y.now) ex ∙ eb ∙ sym (drop_of_length-le t {i = n + 1} (omega arith))
+behind-point t n None (inr l) b eb x ex = absurd (omega arith)
+behind-point t n (Some y) m b eb x ex = ap (λ (y : Bor (List ℕ)). y.now) ex ∙ m.2 ∙ rest t (n + 1)
 
-  -- by the text that the code finds behind the point, or none
-  pub zero-parts : (o : Option (Bor (List ℕ))) → MatchOption o ((length t < n + 1) ⊎ (length t < length t))
-      (λ x. (n + 1 ≤ length t) × (length t ≤ length t) × (x.now ≡ slice_range t (n + 1) (length t)) × (length x.now + (n + 1) ≡ length t))
-      → (b : Bor (List ℕ)) → b.now ≡ [] → (x : Bor (List ℕ)) → x ≡ unwrap_or o b → r ≡ rounds_to_zero (take n t) x.now → r ≡ unsigned_zero t
-  zero-parts None (inl l) b eb x ex q = parts x.now (ap (λ (y : Bor (List ℕ)). y.now) ex ∙ eb ∙ sym (drop_of_length-le t {i = n + 1} (omega arith))) q
-  zero-parts None (inr l) b eb x ex q = absurd (omega arith)
-  zero-parts (Some y) m b eb x ex q = parts x.now (ap (λ (y : Bor (List ℕ)). y.now) ex ∙ m.2 ∙ rest t (n + 1)) q
+-- the parts are zero where the number is
+pub zero-parts : (t : List ℕ) (n : ℕ) → n ≡ digits t → (r : Bool) (f : List ℕ) → f ≡ drop (n + 1) t → r ≡ rounds_to_zero (take n t) f → r ≡ unsigned_zero t
+unfolding unsigned_zero
+zero-parts t n e r f p q = q ∙ ap (rounds_to_zero (take n t)) p ∙ ap (λ k. rounds_to_zero (take k t) (drop (k + 1) t)) e
 
 -- ---- a number with a sign or none
 -- it stands behind w bytes of white space, and its sign has k

@@ -5,17 +5,13 @@ use mathlib.Core.Bool.{Bool, true, false}
 use Prim.Native.Nat.{ℕ, zero, suc, ◌+◌, ◌-◌, ◌<◌, ◌≤◌}
 use native.Mathlib.Numerals.{add-one}
 use native.Mathlib.Omega.{arith}
-use lib.ListN.{length, get_or, set}
-use lib.Seq.{get_or-set_same, get_or-set_other}
-use types.Run.{OneOf, miss}
-use denote.Enum.Declared.{tag_of}
+use lib.ListN.{length, get_or, set, take}
+use lib.Seq.{get_or-set_same, get_or-set_other, length-take-le}
+use Rattle.std.proofs.lemmas.List.{get_or-take}
 use Rattle.combinators.specs.Ascii.{right_curly_bracket}
 use Rattle.combinators.specs.Choice.{pick}
 use Rattle.combinators.proofs.Rules.{pick_true, pick-false, is-yes, is-no}
-use Rattle.lexer.specs.Token.{Token, ident, function, hash, string, bad_string, delim, number, dimension, percentage, cdo, cdc, colon, semicolon, comma, open_square, close_square, open_round, close_round, open_brace, close_brace, coded, text_of, length_by}
-use Rattle.lexer.specs.contracts.tokens.Token.{the_type}
-use Rattle.lexer.specs.declared.tokens.Token as lexer
-use Rattle.lexer.specs.declared.tokens.Token.TheVariants as code
+use Rattle.lexer.specs.Token.{Token, ident, function, hash, string, bad_string, delim, number, dimension, percentage, cdo, cdc, colon, semicolon, comma, open_square, close_square, open_round, close_round, open_brace, close_brace, coded, text_of}
 use Rattle.values.specs.Value.{Bracket, opens, closes, ends, none, bracket_by, bracket_of, next, closing, ending, step_of}
 use Rattle.values.specs.Layout.{meant, awaited, pushed, depth, step_to, deep, ending_by, Moved}
 use Rattle.values.specs.declared.statements.Bracket as declared-bracket
@@ -24,61 +20,6 @@ use Rattle.values.specs.declared.statements.Step as declared-step
 use Rattle.values.specs.declared.statements.Step.TheVariants.{Next, Before, Behind, Wrong}
 
 -- ---- tokens
-
--- the variants that are no bracket and end nothing, and those that have no text, by number
-abbrev bracketless : List ℕ
-bracketless = 0 ∷ 2 ∷ 3 ∷ 4 ∷ 5 ∷ 6 ∷ 7 ∷ 8 ∷ 11 ∷ 13 ∷ []
-
-abbrev textless : List ℕ
-textless = 5 ∷ 9 ∷ 10 ∷ 11 ∷ 12 ∷ 13 ∷ 14 ∷ 15 ∷ 16 ∷ 17 ∷ 18 ∷ 19 ∷ []
-
--- a token of such a variant does nothing to the brackets
-pub without-bracket : (k : lexer.Token) → OneOf bracketless (tag_of the_type k) → none ≡ bracket_by k
-unfolding bracket_by
-without-bracket (code.Ident n) h = refl
-without-bracket (code.Function n) h = absurd (miss bracketless _ tt h)
-without-bracket (code.Hash n) h = refl
-without-bracket (code.String n) h = refl
-without-bracket (code.BadString n) h = refl
-without-bracket (code.Delim c) h = refl
-without-bracket (code.Number n) h = refl
-without-bracket (code.Dimension n m) h = refl
-without-bracket (code.Percentage n) h = refl
-without-bracket code.CDO h = absurd (miss bracketless _ tt h)
-without-bracket code.CDC h = absurd (miss bracketless _ tt h)
-without-bracket code.Colon h = refl
-without-bracket code.Semicolon h = absurd (miss bracketless _ tt h)
-without-bracket code.Comma h = refl
-without-bracket code.OpenSquare h = absurd (miss bracketless _ tt h)
-without-bracket code.CloseSquare h = absurd (miss bracketless _ tt h)
-without-bracket code.OpenRound h = absurd (miss bracketless _ tt h)
-without-bracket code.CloseRound h = absurd (miss bracketless _ tt h)
-without-bracket code.OpenBrace h = absurd (miss bracketless _ tt h)
-without-bracket code.CloseBrace h = absurd (miss bracketless _ tt h)
-
--- a token of a variant without text has no bytes of it
-pub without-text : (k : lexer.Token) → OneOf textless (tag_of the_type k) → 0 ≡ length_by k
-unfolding length_by
-without-text (code.Ident n) h = absurd (miss textless _ tt h)
-without-text (code.Function n) h = absurd (miss textless _ tt h)
-without-text (code.Hash n) h = absurd (miss textless _ tt h)
-without-text (code.String n) h = absurd (miss textless _ tt h)
-without-text (code.BadString n) h = absurd (miss textless _ tt h)
-without-text (code.Delim c) h = refl
-without-text (code.Number n) h = absurd (miss textless _ tt h)
-without-text (code.Dimension n m) h = absurd (miss textless _ tt h)
-without-text (code.Percentage n) h = absurd (miss textless _ tt h)
-without-text code.CDO h = refl
-without-text code.CDC h = refl
-without-text code.Colon h = refl
-without-text code.Semicolon h = refl
-without-text code.Comma h = refl
-without-text code.OpenSquare h = refl
-without-text code.CloseSquare h = refl
-without-text code.OpenRound h = refl
-without-text code.CloseRound h = refl
-without-text code.OpenBrace h = refl
-without-text code.CloseBrace h = refl
 
 -- a token at which the statement does not go on has no text
 pub no_text : (include : Bool) (cs : List ℕ) (k : Token) → ((ds : List ℕ) → ¬ (step_of include (bracket_of k) cs ≡ next ds)) → text_of k ≡ []
@@ -133,6 +74,12 @@ awaited-push : (b : List ℕ) (d v : ℕ) → d < length b → awaited (set b d 
 unfolding awaited
 awaited-push b d v h = rw (add-one d, get_or-set_same b d v 0 h, awaited-set b d d v (omega arith))
 
+-- those that the start of a store holds are awaited in the whole of it
+awaited-take : (b : List ℕ) (d e : ℕ) → e ≤ d → awaited (take d b) e ≡ awaited b e
+unfolding awaited
+awaited-take b d zero h = refl
+awaited-take b d (suc e) h = rw (get_or-take d b e 0 (omega arith), awaited-take b d e (omega arith))
+
 -- ---- a closing bracket
 -- a step r of the code at the bracket c, where d brackets are awaited, is right
 abbrev pub Closed : ℕ → List ℕ → ℕ → declared-step.Step → Type 0
@@ -167,21 +114,27 @@ module _ (c : ℕ) (b : List ℕ) where
   closed-behind (suc zero) z e o h = (pick_true _ _ _ _ (is-yes _ _ (sym e)) (pick_true _ _ _ _ (is-yes _ _ h) refl), refl)
   closed-behind (suc (suc d)) z e o h = absurd (omega arith)
 
-  -- the last one awaited, where it is no '}': the statement goes on
-  pub closed-last : (d : ℕ) → ¬ (d ≡ 0) → get_or b (d - 1) 0 ≡ c → d - 1 ≡ 0 → ¬ (c ≡ right_curly_bracket) → Closed c b d (Next (d - 1))
+  -- unless it is a '}' and the last one, the statement goes on with one fewer awaited
+  pub closed-next : (d : ℕ) → ¬ (d ≡ 0) → get_or b (d - 1) 0 ≡ c → (d ≡ 1 → ¬ (c ≡ right_curly_bracket)) → Closed c b d (Next (d - 1))
   unfolding closing awaited step_to deep
-  closed-last zero z e o h = absurd (z refl)
-  closed-last (suc zero) z e o h = (rw o (pick_true _ _ _ _ (is-yes _ _ (sym e)) (pick-false _ _ _ _ (is-no _ _ h) refl)), refl)
-  closed-last (suc (suc d)) z e o h = absurd (omega arith)
-
-  -- one inside another: the statement goes on with one fewer awaited
-  pub closed-inner : (d : ℕ) → ¬ (d ≡ 0) → get_or b (d - 1) 0 ≡ c → ¬ (d - 1 ≡ 0) → Closed c b d (Next (d - 1))
-  unfolding closing awaited step_to deep
-  closed-inner zero z e o = absurd (z refl)
-  closed-inner (suc zero) z e o = absurd (o refl)
-  closed-inner (suc (suc d)) z e o =
+  closed-next zero z e o = absurd (z refl)
+  closed-next (suc zero) z e o = (pick_true _ _ _ _ (is-yes _ _ (sym e)) (pick-false _ _ _ _ (is-no _ _ (o refl)) refl), refl)
+  closed-next (suc (suc d)) z e o =
       let p : suc (suc d) - 1 ≡ suc d = omega arith in
       (rw p (pick_true _ _ _ _ (is-yes _ _ (sym (rw p at e))) refl), refl)
+
+  -- where those awaited are lent alone, the step is right for the store that they begin
+  pub closed-part : (d : ℕ) → d ≤ length b → (r : declared-step.Step) → Closed c (take d b) (length (take d b)) r → Closed c b d r
+  unfolding deep step_to
+  closed-part d h r p =
+      let q : Closed c (take d b) d r = rw (length-take-le d b h) at p in
+      (whole r q.1 ∙ q.0 ∙ ap (closing c) (awaited-take b d d (omega arith)), q.1)
+    where
+      whole : (r : declared-step.Step) → deep r (d - 1) ≡ d - 1 → step_to r b ≡ step_to r (take d b)
+      whole (Next e) k = ap next (sym (awaited-take b d e (omega arith)))
+      whole Before k = refl
+      whole Behind k = refl
+      whole Wrong k = refl
 
 -- ---- a semicolon
 -- what it does, and how many brackets are awaited then

@@ -81,7 +81,7 @@ fn parse_in(s: &[u8], base: u32, most: u32) -> Option<u32>
     digits_in(s.strip_prefix(b"+").unwrap_or(s), base, most)
 }
 
-// The same up to 255.
+// The same up to 255, which the cast keeps: `try_from` would answer a failure too, which cannot come.
 fn byte_in(s: &[u8], base: u32) -> Option<u8>
     ensures { result ≡ number_answer (digits_in (is_digit_in base) base hex_digit 255 (without_plus s.now)) }
 {

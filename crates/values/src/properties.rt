@@ -72,7 +72,7 @@ const PROPERTIES: [(&str, Property); 10] = [
 ];
 
 // The declaration of a known property with the value of these tokens, where it reads the value. No table of readers: they answer three types, and
-// two of them always read.
+// two of them always read, so that each row would be a closure as long as its arm here.
 fn decl_at(property: Property, tokens: Tokens) -> Option<Decl>
     requires { ContentRoom (value_tokens tokens) }
     ensures { (name : List ℕ) → unwrap_or result (Unknown (length name))
@@ -92,7 +92,8 @@ fn decl_at(property: Property, tokens: Tokens) -> Option<Decl>
     }
 }
 
-// The declaration of the property `name` with the value of these tokens.
+// The declaration of the property `name` with the value of these tokens. No `and_then`: nothing is known of what a closure around `decl_at` answers, whose
+// clause is one for any name.
 pub fn decl_of(name: &[u8], tokens: Tokens) -> Decl
     requires { ContentRoom (value_tokens tokens) }
     ensures { result ≡ decl_answer (decl_of name.now (value_tokens tokens.entry)) }

@@ -1,4 +1,5 @@
 // Statements: tokens read to the end of a statement, into rows and a store of texts. `fill` stands beside the stores: only texts go on behind others.
+// So does the depth, how many brackets are awaited: they are a stack at the start of a lent store, and the next one is written behind them.
 ghost use Rattle.std.specs.Prelude.{◌≡◌, false, ◌-◌, ◌*◌, ◌^◌, ◌≤◌, ◌<◌, length};
 ghost use Rattle.combinators.specs.Lent.{SameStores};
 ghost use Rattle.values.specs.Value.{is_important, bracket_by, closing, statement_of};
@@ -57,7 +58,7 @@ impl Value {
     }
 }
 
-// What a token does to the brackets, by the byte that is awaited.
+// What a token does to the brackets, by the byte that is awaited. `NoBracket` is one of four cases: with `None` in its place each of the others would be a `Some`.
 #[derive(Clone, Copy)]
 pub enum Bracket {
     Opens(u8),
@@ -66,7 +67,8 @@ pub enum Bracket {
     NoBracket,
 }
 
-// How a statement goes on at a token: with so many brackets awaited; it ends before the token, or behind it; or the brackets are wrong.
+// How a statement goes on at a token: with so many brackets awaited; it ends before the token, or behind it; or the brackets are wrong. `Wrong` is no error:
+// what was read before it, which the error tells, only the loop knows.
 #[derive(Clone, Copy)]
 pub enum Step {
     Next(usize),
@@ -94,22 +96,17 @@ fn bracket_of(k: Token) -> Bracket
     }
 }
 
-// A closing bracket `c`, where `d` brackets are awaited.
-fn closing_step(c: u8, brackets: &[u8], d: usize) -> Step
-    requires { d ≤ length brackets.now }
-    ensures brackets_value { step_to result brackets.now ≡ closing c (awaited brackets.now d) }
-    ensures d_value { deep result (d - 1) ≡ d - 1 }
+// A closing bracket `c`, where these brackets are awaited, the innermost last.
+fn closing_step(c: u8, brackets: &[u8]) -> Step
+    ensures brackets_value { step_to result brackets.now ≡ closing c (awaited brackets.now (length brackets.now)) }
+    ensures depth_value { deep result (length brackets.now - 1) ≡ length brackets.now - 1 }
 {
-    if d == 0 {
-        return if c == b'}' { Step::Before } else { Step::Wrong };
-    }
-    let e = d - 1;
-    if brackets[e] != c {
-        Step::Wrong
-    } else if e == 0 && c == b'}' {
-        Step::Behind
-    } else {
-        Step::Next(e)
+    match brackets {
+        [] if c == b'}' => Step::Before,
+        [] => Step::Wrong,
+        [.., last] if *last != c => Step::Wrong,
+        [_] if c == b'}' => Step::Behind,
+        [outer @ .., _] => Step::Next(outer.len()),
     }
 }
 
@@ -136,7 +133,7 @@ fn step_at(k: Token, include_semicolon: bool, brackets: &mut [u8], d: usize) -> 
             brackets[d] = c;
             Step::Next(d + 1)
         }
-        Bracket::Closes(c) => closing_step(c, brackets, d),
+        Bracket::Closes(c) => closing_step(c, &brackets[..d]),
         Bracket::Ends => ending_step(include_semicolon, d),
         Bracket::NoBracket => Step::Next(d),
     }

@@ -1,6 +1,6 @@
 -- The visit of a selector as code: the block that is stored, by what was swept.
 use Prim.Native.Nat.{ℕ, zero, suc, ◌+◌, ◌-◌, ◌≤◌, ◌<◌}
-use mathlib.Core.Path.{◌≡◌, refl, sym, ap, ◌∙◌}
+use mathlib.Core.Path.{◌≡◌, refl, sym, ap, subst, ◌∙◌}
 use mathlib.Core.Bool.{Bool, true, false}
 use mathlib.Core.List.{List, [], ◌∷◌, ◌++◌}
 use native.Mathlib.Omega.{arith}
@@ -27,9 +27,10 @@ use Rattle.segments.specs.Before.{Segment, beginning, segment_before, fresh_byte
 use Rattle.segments.specs.Visits.{to_next, to_awaited, to_flags, block_bytes, Visited, awaits, ended_by, ended_at, decided, visit_at}
 use Rattle.segments.specs.Pass.{block_set}
 use Rattle.sweeps.specs.Swept.{swept_mark, swept_one, swept_behind}
-use Rattle.visits.specs.Visiting.{to_tests, behind_first, swept_visit, next_awaited, awaited_visit}
+use Rattle.visits.specs.Visiting.{to_tests, IsMarked, behind_first, swept_visit, next_awaited, awaited_visit}
 use Rattle.sweeps.specs.declared.sweeping.Behind.TheVariants.{Leftmost, Others}
 use Rattle.sweeps.specs.declared.sweeping.Swept.{Swept}
+use Rattle.visits.specs.declared.blocks.Marked.{Marked}
 use Rattle.visits.specs.declared.visiting.Awaited.{Awaited}
 use Rattle.visits.specs.declared.visiting.Awaited.TheVariants as segment
 use Rattle.sweeps.proofs.CodePartLaws.{tests-some}
@@ -193,11 +194,11 @@ some_tests code row (suc t) i e = refl
 
 module _ (code : List ℕ) (row : Path) (above s₀ : List ℕ) (p next awaited tests : ℕ) (ends : Bool) (ee : ends ≡ tests_pass code row tests awaited) (s₁ : List ℕ) where
   -- what is told of a segment of one compound with its mark: whether the selector matches, and the part with its block
-  abbrev Marked : Bool → Type 0
-  Marked b = Told s₀ next p (swept_visit code row above p awaited (swept_mark code row tests awaited)) b s₁
+  abbrev Ends : Bool → Type 0
+  Ends b = Told s₀ next p (swept_visit code row above p awaited (swept_mark code row tests awaited)) b s₁
 
   -- they do not, and the block stays
-  pub marked-stays : ends ≡ false → s₁ ≡ sets s₀ (p + to_next) (block_bytes next awaited (with_tests ∷ pair_bytes tests)) → Marked false
+  pub marked-stays : ends ≡ false → s₁ ≡ sets s₀ (p + to_next) (block_bytes next awaited (with_tests ∷ pair_bytes tests)) → Ends false
   marked-stays f e =
       let one : Swept = swept_mark code row tests awaited in
       let no : tests_pass code row tests awaited ≡ false = sym ee ∙ f in
@@ -251,3 +252,14 @@ module _ (code : List ℕ) (row : Path) (above s₀ : List ℕ) (p next : ℕ) (
       let n = tests-some above (p + to_flags) (get_or above (p + to_flags) 0) refl (λ e. absurd (omega (arith, e, m))) tests (et ∙ ap (pair_at above) d) in
       visit-by h (swept_mark code row tests awaited)
       (one-mark code row above (p + to_flags) awaited (get_or above (p + to_flags) 0) refl (omega (arith, m)) tests n (tests_pass code row tests awaited) refl) b t
+
+-- the same of a block with a mark that the parent's part holds whole
+pub visit-marked : (code : List ℕ) (row : Path) (above s₀ : List ℕ) (p : ℕ) (m : Marked) → IsMarked above p 0 m → 0 < length code → (b : Bool) (s₁ : List ℕ)
+    → Told s₀ m.block.next m.block.place (swept_visit code row above m.block.place m.block.awaited (swept_mark code row m.tests m.block.awaited)) b s₁
+    → Told s₀ (pair_at above (p + to_next)) p (visit_at code row above p) b s₁
+visit-marked code row above s₀ p m i h b s₁ t =
+    let flags : p + to_flags + 0 ≡ p + to_flags = omega arith in
+    let behind : p + to_tests + 0 ≡ p + to_tests = omega arith in
+    visit-mark code row above s₀ p m.block.next i.next m.block.awaited i.awaited s₁ h
+    (ap (λ (j : ℕ). get_or above j 0) (sym flags) ∙ i.mark) m.tests (i.tests ∙ ap (pair_at above) behind) b
+    (subst (λ (q : ℕ). Told s₀ m.block.next q (swept_visit code row above q m.block.awaited (swept_mark code row m.tests m.block.awaited)) b s₁) i.place t)

@@ -1,19 +1,22 @@
 -- The visit of a selector at a row: what it comes to, by its first compound.
-use Rattle.std.specs.Prelude.{ℕ, ◌+◌, ◌-◌, Bool, true, false, List, ◌∷◌, length}
+use Rattle.std.specs.Prelude.{ℕ, ◌+◌, ◌-◌, ◌≤◌, ◌<◌, ◌≡◌, Bool, true, false, List, ◌∷◌, length, get_or, replicate}
 use Rattle.combinators.specs.Choice.{pick, is}
+use Rattle.combinators.specs.Part.{part}
 use Rattle.syntax.specs.Layout.{flag}
 use Rattle.syntax.specs.Style.{agent_origin}
 use Rattle.page.specs.Path.{Path}
 use Rattle.compiled.specs.Decoded.{on_decoded}
 use Rattle.compiled.specs.Sheet.{head_at}
-use Rattle.segments.specs.Sweep.{pair_at}
+use Rattle.segments.specs.Sweep.{pair_at, with_tests}
 use Rattle.segments.specs.Before.{beginning, segment_before}
-use Rattle.segments.specs.Visits.{to_next, to_flags, Visited, awaits, decided, visit_at}
+use Rattle.segments.specs.Parts.{pair_limit}
+use Rattle.segments.specs.Visits.{to_next, to_awaited, to_flags, Visited, awaits, decided, visit_at}
 use Rattle.sweeps.specs.Met.{row_alone}
 use Rattle.sweeps.specs.Swept.{swept_mark, swept_behind}
 use Rattle.sweeps.specs.declared.sweeping.Swept.{Swept}
 use Rattle.sweeps.specs.declared.elements.Row.{Row}
 use Rattle.visits.specs.declared.blocks.Block.{Block}
+use Rattle.visits.specs.declared.blocks.Marked.{Marked}
 use Rattle.visits.specs.declared.visiting.Awaited.{Awaited}
 use Rattle.visits.specs.declared.visiting.Awaited.TheVariants as segment
 
@@ -23,6 +26,17 @@ to_tests = 6
 
 abbrev pub to_end : ℕ
 to_end = 8
+
+-- the block of the selector at p, in the part above: the part holds it whole, the flags of `steps` compounds say that they may not end here, and behind them stands the mark of the leftmost
+pub record IsMarked (above : List ℕ) (p steps : ℕ) (m : Marked) : Type 0 where
+  pub inside : p + to_end + steps ≤ length above
+  pub flags : part above (p + to_flags) steps ≡ replicate steps 0
+  pub mark : get_or above (p + to_flags + steps) 0 ≡ with_tests
+  pub place : m.block.place ≡ p
+  pub next : m.block.next ≡ pair_at above (p + to_next)
+  pub next_low : m.block.next < pair_limit
+  pub awaited : m.block.awaited ≡ pair_at above (p + to_awaited)
+  pub tests : m.tests ≡ pair_at above (p + to_tests + steps)
 
 -- the flags of the selector at p behind the one of its first compound
 unfoldable pub behind_first : List ℕ → Path → List ℕ → ℕ → Swept → List ℕ

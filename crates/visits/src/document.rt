@@ -21,7 +21,7 @@ use syntax::rows::AGENT_ORIGIN;
 
 // Stores the block of the selector at `place`, where the place of the next one that has a style is `next`. (That `place` is within the limit is a clause here, in
 // `put_styled` and in the other walks: they are told a place or read one, and a type of one number with that fact would be made anew at each turn. A `Block` has
-// it.)
+// it. The bytes that are read and the part that is written come as two, as a row and a part do in visiting.rt.)
 pub fn put_leftmost(compiled: &[u8], part: &mut [u8], place: usize, next: usize)
     requires { place ≤ compiled_limit }
     ensures { part.new ≡ block_set (leftmost_at compiled.now place) next place part.old }

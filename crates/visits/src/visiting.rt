@@ -2,7 +2,7 @@
 // come as two. A struct of both would be lent by `&mut`, and each function here, of hints and of stepping would owe that the row is the same afterwards, which
 // `&Row` says by its type. `room` asks of both, as no struct has them. `few_bytes` is a clause, no field of `Row`: of those
 // functions of sweeps that are lent a row alone nothing is asked of its bytes.)
-ghost use Rattle.std.specs.Prelude.{◌≡◌, ◌∷◌, ◌++◌, ◌+◌, ◌≤◌, ◌<◌, length, replicate};
+ghost use Rattle.std.specs.Prelude.{◌≡◌, ◌∷◌, ◌++◌, ◌+◌, ◌≤◌, ◌<◌, length, replicate, IfSome};
 ghost use Rattle.std.proofs.lemmas.List.Edits.{sets};
 ghost use Rattle.compiled.specs.Sheet.{compiled_limit};
 ghost use Rattle.segments.specs.Sweep.{pair_bytes, with_tests};
@@ -10,9 +10,9 @@ ghost use Rattle.segments.specs.Before.{beginning, segment_before};
 ghost use Rattle.segments.specs.Visits.{to_next, awaits, block_bytes};
 ghost use Rattle.segments.specs.Pass.{block_set};
 ghost use Rattle.segments.specs.Parts.{pair_limit};
-ghost use Rattle.visits.specs.Visiting.{to_end, visited, next_from, flags_behind, visited_by, visited_by_mark, next_awaited};
+ghost use Rattle.visits.specs.Visiting.{to_end, IsMarked, visited, next_from, flags_behind, visited_by, visited_by_mark, next_awaited};
 
-use crate::blocks::Block;
+use crate::blocks::{Block, Marked};
 use compiled::sheets::read_head;
 use sweeps::compounds::{segment_before, tests_pass};
 use sweeps::elements::Row;
@@ -73,6 +73,31 @@ pub fn put_marked<const STEPS: usize>(
     put_pair_there(own, at + TO_AWAITED, awaited);
     own[flags..flags + STEPS].fill(0);
     put_mark_there(own, flags + STEPS, tests);
+}
+
+// The block of the selector at `place`, where the part of the parent holds it whole and its leftmost compound has a mark behind the flags of `STEPS` others, none
+// of which may end here. (The clause `near` keeps sums of places small. A `Block` carries it; before one is read there is the number alone, here and in all that
+// are told the place of a selector.)
+pub fn marked_block<const STEPS: usize>(above: &[u8], place: usize) -> Option<Marked>
+    requires { place ≤ compiled_limit }
+    ensures { IfSome result (λ marked. IsMarked above.now place STEPS marked) }
+{
+    if place + TO_END > above.len().saturating_sub(STEPS) {
+        return None;
+    }
+    let mark = place + TO_FLAGS + STEPS;
+    if above[place + TO_FLAGS..mark] != [0; STEPS] || above[mark] != WITH_TESTS {
+        return None;
+    }
+    let block = Block {
+        place,
+        next: pair_there(above, place + TO_NEXT),
+        awaited: pair_there(above, place + TO_AWAITED),
+    };
+    Some(Marked {
+        block,
+        tests: pair_there(above, place + TO_TESTS + STEPS),
+    })
 }
 
 // Stores the block of a selector of which the segment before the one of `block` is awaited next; `count` components stand in the bytes from `first` on.
@@ -197,21 +222,14 @@ pub fn visit(row: &Row<'_>, own: &mut [u8], place: usize) -> VisitAnswer
     ensures next_value { result.next ≡ next_from row.now place }
     ensures next_lt_pair_limit { result.next < pair_limit }
 {
-    let above = row.above;
     if !row.compiled.is_empty()
-        && place + TO_END <= above.len()
-        && above[place + TO_FLAGS] == WITH_TESTS
+        && let Some(Marked { block, tests }) = marked_block::<0>(row.above, place)
     {
-        let next = pair_there(above, place + TO_NEXT);
-        let awaited = pair_there(above, place + TO_AWAITED);
-        let tests = pair_there(above, place + TO_TESTS);
-        let block = Block {
-            place,
-            next,
-            awaited,
-        };
         let matched = visit_marked(row, own, block, tests);
-        return VisitAnswer { matched, next };
+        return VisitAnswer {
+            matched,
+            next: block.next,
+        };
     }
     visit_any(row, own, place)
 }

@@ -1,5 +1,4 @@
 -- A compound that may not end here is not changed by tests, up to the step that ends it.
-use native.Mathlib.Omega.{arith}
 use Rattle.hints.proofs.CodeStepLaws as laws
 use Rattle.hints.proofs.skipping.behind_step.Goals as goal
 

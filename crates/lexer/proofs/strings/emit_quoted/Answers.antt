@@ -7,9 +7,9 @@ use Rattle.lexer.proofs.strings.emit_quoted.Goals as goal
 pub returns-in_err-taken : goal.returns-in_err-taken
 returns-in_err-taken c = let t = laws.turn-stop _ _ _ c.quoted_byte.ensures c.in_err-taken.was in record { same_store = refl; value = c.from_residual.ensures ∙ t.0; written = laws.kept _ _ t.1 }
 
-pub returns-in-Byte : goal.returns-in-Byte
-returns-in-Byte c = let t = laws.turn_byte _ _ _ c.quoted_byte.ensures _ c.in_ok-taken.was _ _ c.in-Byte.is in
+pub returns-in-Some : goal.returns-in-Some
+returns-in-Some c = let t = laws.turn_byte _ _ _ c.quoted_byte.ensures _ c.in_ok-taken.was _ c.in-Some.is in
     record { same_store = c.emit.ensures.same_store; value = t.0; written = c.emit.ensures.written ∙ ap (emits _) t.1 }
 
-pub returns-in-Skip : goal.returns-in-Skip
-returns-in-Skip c = let t = laws.turn-skip _ _ _ c.quoted_byte.ensures _ c.in_ok-taken.was _ c.in-Skip.is in record { same_store = refl; value = t.0; written = laws.kept _ _ t.1 }
+pub returns-in-None : goal.returns-in-None
+returns-in-None c = let t = laws.turn-none _ _ _ c.quoted_byte.ensures _ c.in_ok-taken.was c.in-None.is in record { same_store = refl; value = t.0; written = laws.kept _ _ t.1 }

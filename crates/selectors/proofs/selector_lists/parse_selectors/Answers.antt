@@ -21,17 +21,17 @@ behind-requires c = omega (arith, c.requires.row_room.bits, laws.panic-within c.
 pub returns-in-Err : goal.returns-in-Err
 returns-in-Err c = let t = laws.panics-left c.loop-selector.invariant.reading c.requires.row_room c.requires.text_room (c.parse_selector.ensures.value, (c.parse_selector.ensures.rules_after, c.parse_selector.ensures.texts_after)) c.in-Err.is c.take_back.ensures.rules_after c.take_back.ensures.texts_after in record { same = same-then (same-then c.loop-selector.invariant.same c.parse_selector.ensures.same) c.take_back.ensures.same; work_unchanged = work-then (work-then c.loop-selector.invariant.work c.parse_selector.ensures.work_unchanged) c.take_back.ensures.work_unchanged; value = ap Err c.behind.ensures ∙ t.0; rules_after = t.1.0; texts_after = t.1.1 }
 
-pub overflow_add-taken : goal.overflow_add-taken
-overflow_add-taken c = omega (arith, c.requires.row_room.bits, laws.taken-within c.loop-selector.invariant.reading c.requires.row_room c.requires.text_room (c.parse_selector.ensures.value, (c.parse_selector.ensures.rules_after, c.parse_selector.ensures.texts_after)) (c.in-Ok-Some.is ∙ ap Ok c.in-Ok-Some.field-0-is))
+pub overflow_add-read : goal.overflow_add-read
+overflow_add-read c = omega (arith, c.requires.row_room.bits, laws.taken-within c.loop-selector.invariant.reading c.requires.row_room c.requires.text_room (c.parse_selector.ensures.value, (c.parse_selector.ensures.rules_after, c.parse_selector.ensures.texts_after)) (c.in-Ok-Some.is ∙ ap Ok c.in-Ok-Some.field-0-is))
 
-pub overflow_add-numbers : goal.overflow_add-numbers
-overflow_add-numbers c = omega (arith, c.requires.row_room.bits, laws.taken-within c.loop-selector.invariant.reading c.requires.row_room c.requires.text_room (c.parse_selector.ensures.value, (c.parse_selector.ensures.rules_after, c.parse_selector.ensures.texts_after)) (c.in-Ok-Some.is ∙ ap Ok c.in-Ok-Some.field-0-is), laws.numbers-few c.loop-selector.invariant.reading c.requires.row_room c.requires.text_room (c.parse_selector.ensures.value, (c.parse_selector.ensures.rules_after, c.parse_selector.ensures.texts_after)) (c.in-Ok-Some.is ∙ ap Ok c.in-Ok-Some.field-0-is))
+pub overflow_add-read-in-Ok-Some-2 : goal.overflow_add-read-in-Ok-Some-2
+overflow_add-read-in-Ok-Some-2 c = omega (arith, c.requires.row_room.bits, laws.taken-within c.loop-selector.invariant.reading c.requires.row_room c.requires.text_room (c.parse_selector.ensures.value, (c.parse_selector.ensures.rules_after, c.parse_selector.ensures.texts_after)) (c.in-Ok-Some.is ∙ ap Ok c.in-Ok-Some.field-0-is), laws.numbers-few c.loop-selector.invariant.reading c.requires.row_room c.requires.text_room (c.parse_selector.ensures.value, (c.parse_selector.ensures.rules_after, c.parse_selector.ensures.texts_after)) (c.in-Ok-Some.is ∙ ap Ok c.in-Ok-Some.field-0-is))
 
-pub overflow_add-text : goal.overflow_add-text
-overflow_add-text c = omega (arith, c.requires.text_room.bits, laws.taken-within c.loop-selector.invariant.reading c.requires.row_room c.requires.text_room (c.parse_selector.ensures.value, (c.parse_selector.ensures.rules_after, c.parse_selector.ensures.texts_after)) (c.in-Ok-Some.is ∙ ap Ok c.in-Ok-Some.field-0-is), laws.text-few c.loop-selector.invariant.reading c.requires.row_room c.requires.text_room (c.parse_selector.ensures.value, (c.parse_selector.ensures.rules_after, c.parse_selector.ensures.texts_after)) (c.in-Ok-Some.is ∙ ap Ok c.in-Ok-Some.field-0-is))
+pub overflow_add-read-in-Ok-Some-3 : goal.overflow_add-read-in-Ok-Some-3
+overflow_add-read-in-Ok-Some-3 c = omega (arith, c.requires.text_room.bits, laws.taken-within c.loop-selector.invariant.reading c.requires.row_room c.requires.text_room (c.parse_selector.ensures.value, (c.parse_selector.ensures.rules_after, c.parse_selector.ensures.texts_after)) (c.in-Ok-Some.is ∙ ap Ok c.in-Ok-Some.field-0-is), laws.text-few c.loop-selector.invariant.reading c.requires.row_room c.requires.text_room (c.parse_selector.ensures.value, (c.parse_selector.ensures.rules_after, c.parse_selector.ensures.texts_after)) (c.in-Ok-Some.is ∙ ap Ok c.in-Ok-Some.field-0-is))
 
-pub overflow_add-taken-in-Ok-Some : goal.overflow_add-taken-in-Ok-Some
-overflow_add-taken-in-Ok-Some c = omega (arith, c.requires.row_room.bits, laws.comma-within c.loop-selector.invariant.reading c.requires.row_room c.requires.text_room (c.parse_selector.ensures.value, (c.parse_selector.ensures.rules_after, c.parse_selector.ensures.texts_after)) (c.in-Ok-Some.is ∙ ap Ok c.in-Ok-Some.field-0-is) c.byte_is.ensures c.if-not-byte_is.false)
+pub overflow_add-read-in-Ok-Some-4 : goal.overflow_add-read-in-Ok-Some-4
+overflow_add-read-in-Ok-Some-4 c = omega (arith, c.requires.row_room.bits, laws.comma-within c.loop-selector.invariant.reading c.requires.row_room c.requires.text_room (c.parse_selector.ensures.value, (c.parse_selector.ensures.rules_after, c.parse_selector.ensures.texts_after)) (c.in-Ok-Some.is ∙ ap Ok c.in-Ok-Some.field-0-is) c.byte_is.ensures c.if-not-byte_is.false)
 
 pub skip_from-next-requires : goal.skip_from-next-requires
 skip_from-next-requires c = omega (arith, laws.comma-within c.loop-selector.invariant.reading c.requires.row_room c.requires.text_room (c.parse_selector.ensures.value, (c.parse_selector.ensures.rules_after, c.parse_selector.ensures.texts_after)) (c.in-Ok-Some.is ∙ ap Ok c.in-Ok-Some.field-0-is) c.byte_is.ensures c.if-not-byte_is.false)

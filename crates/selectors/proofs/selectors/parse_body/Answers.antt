@@ -12,26 +12,32 @@ loop-read-init c = record { same = same-none; work = work-none; reading = laws.b
 pub parse_next-requires : goal.parse_next-requires
 parse_next-requires c = laws.next-room c.loop-read.invariant.reading c.requires.row_room c.requires.text_room
 
-pub put_kept-requires : goal.put_kept-requires
-put_kept-requires c = laws.fits c.loop-read.invariant.reading c.requires.row_room c.requires.text_room (c.parse_next.ensures.value, c.parse_next.ensures.store_after) (c.in-Ok-Some.is ∙ ap Ok c.in-Ok-Some.field-0-is)
+pub put_component-requires : goal.put_component-requires
+put_component-requires c = rw c.from-row.ensures (laws.fits c.loop-read.invariant.reading c.requires.row_room c.requires.text_room (c.parse_next.ensures.value, c.parse_next.ensures.store_after) (c.in-Ok-Some.is ∙ ap Ok c.in-Ok-Some.field-0-is))
 
-pub overflow_add-taken : goal.overflow_add-taken
-overflow_add-taken c = omega (arith, c.requires.text_room.bits, laws.taken-within c.loop-read.invariant.reading c.requires.row_room c.requires.text_room (c.parse_next.ensures.value, c.parse_next.ensures.store_after) (c.in-Ok-Some.is ∙ ap Ok c.in-Ok-Some.field-0-is))
+pub overflow_add-body : goal.overflow_add-body
+overflow_add-body c = omega (arith, c.requires.text_room.bits, laws.taken-within c.loop-read.invariant.reading c.requires.row_room c.requires.text_room (c.parse_next.ensures.value, c.parse_next.ensures.store_after) (c.in-Ok-Some.is ∙ ap Ok c.in-Ok-Some.field-0-is))
 
-pub text_length-text-requires : goal.text_length-text-requires
-text_length-text-requires c = omega (arith, c.requires.text_room.bits, laws.taken-within c.loop-read.invariant.reading c.requires.row_room c.requires.text_room (c.parse_next.ensures.value, c.parse_next.ensures.store_after) (c.in-Ok-Some.is ∙ ap Ok c.in-Ok-Some.field-0-is), laws.text-short c.loop-read.invariant.reading c.requires.row_room c.requires.text_room (c.parse_next.ensures.value, c.parse_next.ensures.store_after) (c.in-Ok-Some.is ∙ ap Ok c.in-Ok-Some.field-0-is))
+pub text_length-requires : goal.text_length-requires
+text_length-requires c = omega (arith, c.requires.text_room.bits, laws.taken-within c.loop-read.invariant.reading c.requires.row_room c.requires.text_room (c.parse_next.ensures.value, c.parse_next.ensures.store_after) (c.in-Ok-Some.is ∙ ap Ok c.in-Ok-Some.field-0-is), laws.text-short c.loop-read.invariant.reading c.requires.row_room c.requires.text_room (c.parse_next.ensures.value, c.parse_next.ensures.store_after) (c.in-Ok-Some.is ∙ ap Ok c.in-Ok-Some.field-0-is))
 
-pub overflow_add-text : goal.overflow_add-text
-overflow_add-text c = omega (arith, c.text_length-text.ensures, c.requires.text_room.bits, laws.taken-within c.loop-read.invariant.reading c.requires.row_room c.requires.text_room (c.parse_next.ensures.value, c.parse_next.ensures.store_after) (c.in-Ok-Some.is ∙ ap Ok c.in-Ok-Some.field-0-is), laws.text-short c.loop-read.invariant.reading c.requires.row_room c.requires.text_room (c.parse_next.ensures.value, c.parse_next.ensures.store_after) (c.in-Ok-Some.is ∙ ap Ok c.in-Ok-Some.field-0-is))
+pub overflow_add-body-in-Ok-Some : goal.overflow_add-body-in-Ok-Some
+overflow_add-body-in-Ok-Some c = omega (arith, c.text_length.ensures, c.requires.text_room.bits, laws.taken-within c.loop-read.invariant.reading c.requires.row_room c.requires.text_room (c.parse_next.ensures.value, c.parse_next.ensures.store_after) (c.in-Ok-Some.is ∙ ap Ok c.in-Ok-Some.field-0-is), laws.text-short c.loop-read.invariant.reading c.requires.row_room c.requires.text_room (c.parse_next.ensures.value, c.parse_next.ensures.store_after) (c.in-Ok-Some.is ∙ ap Ok c.in-Ok-Some.field-0-is))
+
+pub loop-read-smaller-then-is_kept : goal.loop-read-smaller-then-is_kept
+loop-read-smaller-then-is_kept c = omega (arith, laws.taken-within c.loop-read.invariant.reading c.requires.row_room c.requires.text_room (c.parse_next.ensures.value, c.parse_next.ensures.store_after) (c.in-Ok-Some.is ∙ ap Ok c.in-Ok-Some.field-0-is), laws.taken_more c.loop-read.invariant.reading c.requires.row_room c.requires.text_room (c.parse_next.ensures.value, c.parse_next.ensures.store_after) (c.in-Ok-Some.is ∙ ap Ok c.in-Ok-Some.field-0-is))
 
 pub loop-read-smaller : goal.loop-read-smaller
 loop-read-smaller c = omega (arith, laws.taken-within c.loop-read.invariant.reading c.requires.row_room c.requires.text_room (c.parse_next.ensures.value, c.parse_next.ensures.store_after) (c.in-Ok-Some.is ∙ ap Ok c.in-Ok-Some.field-0-is), laws.taken_more c.loop-read.invariant.reading c.requires.row_room c.requires.text_room (c.parse_next.ensures.value, c.parse_next.ensures.store_after) (c.in-Ok-Some.is ∙ ap Ok c.in-Ok-Some.field-0-is))
 
-pub loop-read-preserved : goal.loop-read-preserved
-loop-read-preserved c = record { same = record { rules = c.loop-read.invariant.same.rules; tokens = c.loop-read.invariant.same.tokens; brackets = c.loop-read.invariant.same.brackets; texts = c.loop-read.invariant.same.texts }; work = record { tokens = c.loop-read.invariant.work.tokens; brackets = c.loop-read.invariant.work.brackets }; reading = laws.goes c.loop-read.invariant.reading c.requires.row_room c.requires.text_room (c.parse_next.ensures.value, c.parse_next.ensures.store_after) (c.in-Ok-Some.is ∙ ap Ok c.in-Ok-Some.field-0-is) c.is_kept-kept.ensures c.from-rows.ensures c.put_kept.ensures c.text_length-text.ensures }
+pub loop-read-preserved-then-is_kept : goal.loop-read-preserved-then-is_kept
+loop-read-preserved-then-is_kept c = record { same = record { rules = c.loop-read.invariant.same.rules; tokens = c.loop-read.invariant.same.tokens; brackets = c.loop-read.invariant.same.brackets; texts = c.loop-read.invariant.same.texts }; work = record { tokens = c.loop-read.invariant.work.tokens; brackets = c.loop-read.invariant.work.brackets }; reading = laws.keeps-row c.loop-read.invariant.reading c.requires.row_room c.requires.text_room (c.parse_next.ensures.value, c.parse_next.ensures.store_after) (c.in-Ok-Some.is ∙ ap Ok c.in-Ok-Some.field-0-is) c.if-is_kept.ensures (rw c.from-row.ensures at c.put_component.ensures) c.text_length.ensures }
 
-pub returns-in-Ok-None : goal.returns-in-Ok-None
-returns-in-Ok-None c = let t = laws.ends-there c.loop-read.invariant.reading c.requires.row_room c.requires.text_room (c.parse_next.ensures.value, c.parse_next.ensures.store_after) (c.in-Ok-None.is ∙ ap Ok c.in-Ok-None.field-0-is) in record { same = record { rules = c.loop-read.invariant.same.rules; tokens = c.loop-read.invariant.same.tokens; brackets = c.loop-read.invariant.same.brackets; texts = c.loop-read.invariant.same.texts }; work_unchanged = record { tokens = c.loop-read.invariant.work.tokens; brackets = c.loop-read.invariant.work.brackets }; value = ap Ok c.then_some.ensures ∙ t.0; rules_after = t.1.0; texts_after = t.1.1 }
+pub loop-read-preserved : goal.loop-read-preserved
+loop-read-preserved c = record { same = record { rules = c.loop-read.invariant.same.rules; tokens = c.loop-read.invariant.same.tokens; brackets = c.loop-read.invariant.same.brackets; texts = c.loop-read.invariant.same.texts }; work = record { tokens = c.loop-read.invariant.work.tokens; brackets = c.loop-read.invariant.work.brackets }; reading = laws.drops-row c.loop-read.invariant.reading c.requires.row_room c.requires.text_room (c.parse_next.ensures.value, c.parse_next.ensures.store_after) (c.in-Ok-Some.is ∙ ap Ok c.in-Ok-Some.field-0-is) c.if-is_kept.ensures c.text_length.ensures }
+
+pub returns : goal.returns
+returns c = let t = laws.ends-there c.loop-read.invariant.reading c.requires.row_room c.requires.text_room (c.parse_next.ensures.value, c.parse_next.ensures.store_after) (c.in-Ok-None.is ∙ ap Ok c.in-Ok-None.field-0-is) in record { same = record { rules = c.loop-read.invariant.same.rules; tokens = c.loop-read.invariant.same.tokens; brackets = c.loop-read.invariant.same.brackets; texts = c.loop-read.invariant.same.texts }; work_unchanged = record { tokens = c.loop-read.invariant.work.tokens; brackets = c.loop-read.invariant.work.brackets }; value = ap Ok c.then_some.ensures ∙ t.0; rules_after = t.1.0; texts_after = t.1.1 }
 
 pub behind-requires : goal.behind-requires
 behind-requires c = omega (arith, c.requires.text_room.bits, laws.panic-within c.loop-read.invariant.reading c.requires.row_room c.requires.text_room (c.parse_next.ensures.value, c.parse_next.ensures.store_after) c.in-Err.is)

@@ -4,8 +4,8 @@ use lib.ListN.{length}
 use Rattle.sheets.proofs.StatementTurns as laws
 use Rattle.sheets.proofs.statements.parse_stylesheet.Given as goal
 
-abbrev pub invariant-loop-taken : goal.invariant-loop-taken
-invariant-loop-taken l = laws.Going-on l.s l.initial.stores l.stores l.taken l.count l.numbers l.text
+abbrev pub invariant-loop-read : goal.invariant-loop-read
+invariant-loop-read l = laws.Going-on l.s l.initial.stores l.stores l.read.taken l.read.count l.read.numbers l.read.text
 
-abbrev pub decreases-loop-taken : goal.decreases-loop-taken
-decreases-loop-taken l = length l.s - l.taken
+abbrev pub decreases-loop-read : goal.decreases-loop-read
+decreases-loop-read l = length l.s - l.read.taken

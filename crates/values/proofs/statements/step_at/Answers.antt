@@ -1,4 +1,5 @@
 -- The store of brackets is a stack of those awaited; each kind of token does to it what the definition does.
+use native.Mathlib.Omega.{arith}
 use Rattle.values.proofs.Nesting as laws
 use Rattle.values.proofs.statements.step_at.Goals as goal
 
@@ -6,7 +7,7 @@ pub returns-in-Opens : goal.returns-in-Opens
 returns-in-Opens c = laws.moved-opens _ _ _ c.bracket_of.ensures _ _ _ c.in-Opens.is c.requires
 
 pub returns-in-Closes : goal.returns-in-Closes
-returns-in-Closes c = laws.moved-closes _ _ _ c.bracket_of.ensures _ _ _ c.in-Closes.is _ (c.closing_step.ensures.brackets_value, c.closing_step.ensures.d_value)
+returns-in-Closes c = laws.moved-closes _ _ _ c.bracket_of.ensures _ _ _ c.in-Closes.is _ (laws.closed-part _ _ _ (omega arith) _ (c.closing_step.ensures.brackets_value, c.closing_step.ensures.depth_value))
 
 pub returns-in-Ends : goal.returns-in-Ends
 returns-in-Ends c = laws.moved_ends _ _ _ c.bracket_of.ensures _ _ c.in-Ends.is _ c.ending_step.ensures

@@ -1,6 +1,6 @@
 -- The mark of importance is 0 or 1, and start, slot and value are read on behind it. What is read ends within the bytes.
-use mathlib.Core.Path.{◌∙◌}
-use mathlib.Core.Path.{refl}
+use mathlib.Core.Path.{◌∙◌, ◌≡◌, refl}
+use Rattle.std.proofs.Common.{rules}
 use Rattle.combinators.specs.Choice.{is}
 use Rattle.syntax.specs.Layout.{flag_of}
 use Rattle.compiled.proofs.Answers.{raised}
@@ -21,4 +21,9 @@ returns-in_err-value c = let t : goal.returns-in_err-value-raw c = laws.bounded 
 
 pub returns : goal.returns
 unfolding flag_of is
-returns c = let t : goal.returns-raw c = laws.bounded _ _ _ (laws.whole-style _ _ _ c.read_ranged.ensures.value _ c.in_ok-important.was _ c.read_number.ensures.value _ c.in_ok-start.was _ c.read_ranged-2.ensures.value _ c.in_ok-slot.was _ c.read_value.ensures _ c.in_ok-value.was _ refl) in record { value = t.0; read_within = t.1 }
+returns c =
+    let e : c.map.result.value ≡ record { slot = c.in_ok-slot.slot.value; important = flag_of c.in_ok-important.important.value; value = c.in_ok-value.value.value } = search rules in
+    let t : goal.returns-raw c =
+    laws.bounded _ _ _
+    (rw (c.map.ensures.next, e) (laws.whole-style _ _ _ c.read_ranged.ensures.value _ c.in_ok-important.was _ c.read_number.ensures.value _ c.in_ok-start.was _ c.read_ranged-2.ensures.value _ c.in_ok-slot.was _ c.read_value.ensures _ c.in_ok-value.was _ refl)) in
+    record { value = t.0; read_within = t.1 }

@@ -9,7 +9,7 @@ matches_by_number-requires c = rw c.selector_at-selector.ensures.components_valu
 pub returns-then-matches_by_number : goal.returns-then-matches_by_number
 returns-then-matches_by_number c = let a = c.args in
     laws.selector-holds _ a.self.now.origin (path_of a.self.now.element.page.nodes.now a.self.now.element.page.attributes.now a.self.now.element.page.text.now a.self.now.element.row) _ a.self.now.texts.now a.self.now.rows.now a.at _ c.selector_at-selector.ensures.components_value _
-    c.matches_by_number.ensures c.if-matches_by_number.true _ _ c.number_at.ensures c.pseudo_of-pseudo.ensures _ (c.specificity-spec.ensures _) _ _ c.merge_styles.ensures
+    c.matches_by_number.ensures c.if-matches_by_number.true _ c.selector_pseudo-pseudo.ensures _ (c.specificity-spec.ensures _) _ _ c.merge_styles.ensures
 
 pub returns-else-matches_by_number : goal.returns-else-matches_by_number
 returns-else-matches_by_number c = let a = c.args in

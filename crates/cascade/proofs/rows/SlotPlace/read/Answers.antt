@@ -5,7 +5,7 @@ use Rattle.combinators.specs.Choice.{pick, is}
 use Rattle.cascade.specs.Slot.{held_by}
 use Rattle.syntax.specs.Layout.{flag_of}
 use Rattle.cascade.specs.Row.{slot_at, read_slot, read_candidate}
-use Rattle.cascade.proofs.rows.read_slot.Goals as goal
+use Rattle.cascade.proofs.rows.SlotPlace.read.Goals as goal
 
 pub returns-then-row-at-ne-FLAG_TRUE : goal.returns-then-row-at-ne-FLAG_TRUE
 unfolding slot_at read_slot read_candidate held_by flag_of is pick

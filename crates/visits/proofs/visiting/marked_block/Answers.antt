@@ -4,11 +4,10 @@ use native.Mathlib.Omega.{arith}
 use Rattle.combinators.proofs.Parts.{part-whole}
 use Rattle.std.specs.Cmp.Lexicographic.{same_text}
 use Rattle.std.proofs.lemmas.Bool.{not-false}
-use Rattle.hints.proofs.skipping.marked_block.Goals as goal
+use Rattle.visits.proofs.visiting.marked_block.Goals as goal
 
 pub returns : goal.returns
 returns g c = record {
-  some = c.requires.there;
   inside = omega (arith, c.saturating_sub.ensures, c.if-place-saturating_sub.false);
   flags = sym (part-whole _ _ _) ∙ same_text _ _ (sym (not-false _ (sym c.ne.ensures ∙ c.if-ne.false)));
   mark = c.if-above-mark-ne-WITH_TESTS.false;

@@ -6,10 +6,10 @@ use Rattle.cascade.specs.Slot.{slot_by}
 use Rattle.cascade.specs.Row.{slot_numbers, record_place, present_flag}
 use Rattle.cascade.proofs.Windows.{part-sets}
 use Rattle.cascade.proofs.RowLaws.{slot-width}
-use Rattle.cascade.proofs.rows.put_back.Goals as goal
+use Rattle.cascade.proofs.rows.SlotPlace.put_back.Goals as goal
 
 pub returns : goal.returns
 returns c =
     let x = c.args in
     let numbers : c.copy_from_slice.new.self ≡ slot_numbers (slot_by x.updated) = c.copy_from_slice.ensures.after ∙ c.numbers_of.ensures in
-    ap (λ l. set l (record_place x.pseudo) present_flag) (part-sets x.row.now c.slot_place-at.result _ (omega arith) _ (omega (arith, ap length numbers, slot-width (slot_by x.updated))) ∙ rw (numbers, c.slot_place-at.ensures))
+    ap (λ l. set l (record_place x.self.pseudo) present_flag) (part-sets x.row.now c.start-at.result _ (omega arith) _ (omega (arith, ap length numbers, slot-width (slot_by x.updated))) ∙ rw (numbers, c.start-at.ensures))
