@@ -4,7 +4,7 @@
     bash tools/staticlib.sh engine                      once
     python3 tools/vectors/ask_runs.py [ARCHIVE ..]      others than target/staticlib/libengine.a, the first of which has hicsolmab_run
 
-crates/replay asks for the first list too, but what it lends lies on the program's stack; here the longest state can be lent."""
+crates/replay asks for both lists too; here what is linked is asked, and what stands behind each buffer is looked at."""
 import ctypes
 import os
 import subprocess

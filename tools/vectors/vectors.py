@@ -16,7 +16,7 @@ import model
 HERE = os.path.dirname(os.path.abspath(__file__))
 CASES = os.path.join(HERE, "cases")
 REPLAY = os.path.join(HERE, "..", "..", "crates", "replay")
-LISTS = ["sheets", "lengths", "compiled sheets", "compiled bytes", "pages", "attributes", "classes", "styles", "runs", "differences"]
+LISTS = ["sheets", "lengths", "compiled sheets", "compiled bytes", "pages", "attributes", "classes", "styles", "runs", "long runs", "differences"]
 RECORDED = {"vectors": "html2text's sheets, attributes and selectors", "compile_vectors": "html2text's compiled sheets", "style_vectors": "html2text's computed styles"}
 
 IN_BOOK_ORDER = "computed styles in the book order"

@@ -14,6 +14,7 @@ use crate::stream::Stream;
 use crate::style_calls::{ask_run, ask_style};
 use cascade::rows::STYLE_ROW_WIDTH;
 use combinators::least::{NUMBER_MORE, NUMBER_WIDTH, TEXT_MORE, TEXT_WIDTH};
+use compiled::sheets::COMPILED_LIMIT;
 use page::check::NODE_LIMIT;
 use page::rules::DEPTH_LIMIT;
 
@@ -33,28 +34,32 @@ const OUT: usize = 128 * STYLE_ROW_WIDTH;
 // What vectors lend beyond the least where they lend plenty.
 const MORE: usize = 100;
 
-// The longest compiled sheet of a run whose state is lent.
-const RUN_SHEET: usize = 8192;
-
-// For a run, the style rows of one node more than a page may have, or the state of such a sheet, and some beyond. With either, all texts of a vector have less together.
+// For a run, the style rows of one node more than a page may have, or the state of the longest compiled sheet, and some beyond. With the rows all texts of a
+// vector have less together, and with the state few: so all lies within a stack of 8 MB.
 const MANY_ROWS: usize = (NODE_LIMIT + 1) * STYLE_ROW_WIDTH + MORE;
 
-const LONG_STATE: usize = (DEPTH_LIMIT + 1) * (RUN_SHEET + 1) + MORE;
+const LONG_STATE: usize = (DEPTH_LIMIT + 1) * (COMPILED_LIMIT + 1) + MORE;
 
 const SHORTER: usize = 16384;
 
-const FEWER_NUMBERS: usize = NUMBER_WIDTH * SHORTER + NUMBER_MORE;
+const SHORTER_NUMBERS: usize = NUMBER_WIDTH * SHORTER + NUMBER_MORE;
 
 const SHORTER_TEXTS: usize = TEXT_WIDTH * SHORTER + TEXT_MORE;
+
+const SHORTEST: usize = 2048;
+
+const SHORTEST_NUMBERS: usize = NUMBER_WIDTH * SHORTEST + NUMBER_MORE;
+
+const SHORTEST_TEXTS: usize = TEXT_WIDTH * SHORTEST + TEXT_MORE;
 
 /// Asks a question with buffers that have room for what the vector lends; whether all comes that is expected next.
 pub fn answers_as_expected(stream: &mut Stream<'_>, question: &Question<'_>) -> bool {
     if question.length(BYTES_LENT) > COMPILED {
-        answers_with_buffers::<FEWER_NUMBERS, SHORTER, SHORTER_TEXTS, LONG_STATE, OUT>(
+        answers_with_buffers::<SHORTEST_NUMBERS, SHORTEST, SHORTEST_TEXTS, LONG_STATE, OUT>(
             stream, question,
         )
     } else if question.length(OUT_LENT) > OUT {
-        answers_with_buffers::<FEWER_NUMBERS, SHORTER, SHORTER_TEXTS, COMPILED, MANY_ROWS>(
+        answers_with_buffers::<SHORTER_NUMBERS, SHORTER, SHORTER_TEXTS, COMPILED, MANY_ROWS>(
             stream, question,
         )
     } else {
@@ -62,7 +67,9 @@ pub fn answers_as_expected(stream: &mut Stream<'_>, question: &Question<'_>) -> 
     }
 }
 
-// The same with buffers of these lengths, full of the value that the vector says.
+// The same with buffers of these lengths, full of the value that the vector says. (A call of its own for each list of lengths: as parts of one function their
+// buffers would lie on the stack together.)
+#[inline(never)]
 fn answers_with_buffers<
     const NUMBERS: usize,
     const BRACKETS: usize,

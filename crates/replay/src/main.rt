@@ -1,6 +1,6 @@
 // Replays vectors, which it reads from standard input: asks the functions of crates/engine and crates/comparison, and holds what they answer and
 // leave in the lent buffers against what each vector expects. Prints the number, the call and the words of each vector that differs, then for each list how
-// many vectors it has and how many differ. tools/vectors/README.md says how vectors lie in bytes; tools/vectors/vectors.py writes them. Takes 6 MB of stack.
+// many vectors it has and how many differ. tools/vectors/README.md says how vectors lie in bytes; tools/vectors/vectors.py writes them. Takes some 5 MB of stack.
 #![tactic(auto)]
 
 mod answers; // answers.rt: what is asked with lent buffers, and whether it answers as expected
