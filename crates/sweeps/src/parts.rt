@@ -73,8 +73,8 @@ fn pair_bytes(n: usize) -> [u8; 2]
     ((n % PAIR_VALUES) as u16).to_le_bytes()
 }
 
-// Stores the number `n`, which is no length, where both bytes have room. (Two stores: `copy_from_slice` hands a slice and a copying function on to others, and
-// this is in the inner loop of a run.)
+// Stores the number `n`, which is no length, where both bytes have room. (Two stores: a slice of two places and `copy_from_slice` would be as long, and the
+// two bytes would have no names.)
 pub fn put_pair_there(part: &mut [u8], at: usize, n: usize)
     requires { at + 1 < length part.old }
     ensures { part.new ≡ sets part.old at (pair_bytes n) }
