@@ -29,6 +29,7 @@ pub struct Head {
 // before, which changes from one to the next, so the three are no struct.
 
 // The numbers at `at` before a selector's components, of whatever length, where the selector before is of the origin `least`.
+#[inline(never)] // (rare, and with it `read_head` would be no part of what asks for a head)
 fn read_long_head(s: &[u8], at: usize, least: u32) -> Result<Read<Head>, Fault>
     ensures value { result ≡ read_answer (head_at s.now least at) }
     ensures read_within { read_within (length s.now) result }

@@ -26,7 +26,7 @@ use Rattle.compiled.proofs.Following.{then-read}
 use Rattle.compiled.proofs.NumberReading.{reading-one}
 use Rattle.segments.specs.Segments.{piece, tested}
 use Rattle.segments.specs.Sweep.{on_piece, piece_at, tests_pass}
-use Rattle.hints.specs.Hints.{NameFails, TestFails}
+use Rattle.hints.specs.Hints.{FailsAt, NameFails, TestFails}
 use Rattle.hints.specs.declared.hints.Hint.{Hint}
 use Rattle.sweeps.proofs.CodePieceLaws.{named-test}
 
@@ -124,13 +124,14 @@ module _ (code : List ℕ) where
       → 0 < size → size < group_values → NameFails h kind size byte → TestFails code at h
   unfolding text_in
   test-fails h at kind size byte l ek es eb some few f =
-      let n = name-kind kind f.named in
       let two : at + 1 + 1 ≡ at + 2 = omega arith in
       record {
         there = omega (arith, l);
         fails = λ e fit t.
+            let at_element : FailsAt e kind size byte = f e fit in
+            let n = name-kind kind at_element.named in
             name-fails at kind n.0 (omega (arith, l)) (sym ek) n.1 (e ∷ [])
             (λ m x p. let q = span-one (at + 1) size (omega (arith, l)) (sym es) few m x p in
-            sym (f.fails e fit (text_in code x) (ap (λ (y : Span). length (text_in code y)) q.0 ∙ length_part code (at + 1 + 1) size q.1)
+            sym (at_element.fails (text_in code x) (ap (λ (y : Span). length (text_in code y)) q.0 ∙ length_part code (at + 1 + 1) size q.1)
             (ap (λ (y : Span). get_or (text_in code y) 0 0) q.0 ∙ part-first code (at + 1 + 1) size some ∙ ap (λ (i : ℕ). get_or code i 0) two ∙ sym eb))) t;
       }

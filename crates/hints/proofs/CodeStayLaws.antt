@@ -15,7 +15,8 @@ use Rattle.hints.specs.Hints.{Fits, TestsFail}
 use Rattle.hints.specs.Skipping.{StepFails}
 use Rattle.hints.specs.declared.hints.Hint.{Hint}
 use Rattle.visits.specs.declared.blocks.Marked.{Marked}
-use Rattle.visits.proofs.CodeVisitLaws.{marked-stays, visit-mark}
+use Rattle.visits.specs.declared.visiting.Awaited.TheVariants as segment
+use Rattle.visits.proofs.CodeVisitLaws.{awaited-stays, fails-some, marked_same, visit-mark}
 use Rattle.hints.proofs.CodeFailLaws.{part-first}
 use Rattle.hints.proofs.CodeStepLaws.{step-sweep, decided-stays}
 
@@ -41,7 +42,8 @@ module _ (code above : List ℕ) (p : ℕ) (h : Hint) (m : Marked) (e : Element)
       let behind : p + to_tests + 0 ≡ p + to_tests = omega arith in
       visit-mark code (e ∷ []) above own p m.block.next b.next m.block.awaited b.awaited own₁ (let t = f.there in omega arith)
       (ap (λ (i : ℕ). get_or above i 0) (sym flags) ∙ b.mark) m.tests (b.tests ∙ ap (pair_at above) behind) false
-      (marked-stays code (e ∷ []) above own p m.block.next m.block.awaited m.tests false (sym (f.fails e fit)) own₁ refl
+      (marked_same code (e ∷ []) above own p m.block.next m.block.awaited m.tests false (sym (f.fails e fit)) (segment.Same false) (awaited-stays code p m.block.awaited false refl) own₁
+      (fails-some code (e ∷ []) m.tests m.block.awaited (f.fails e fit)) false refl
       (es ∙ ap (λ (i : ℕ). sets own (i + to_next) (block_bytes m.block.next m.block.awaited (with_tests ∷ pair_bytes m.tests))) b.place))
 
   -- of two, of which the right one may not end here and the left one fails

@@ -34,7 +34,7 @@ use Rattle.hints.proofs.CodeFailLaws.{number-one}
 use Rattle.sweeps.proofs.CodePartLaws.{tests-some}
 use Rattle.sweeps.proofs.CodePieceLaws.{named-test}
 use Rattle.sweeps.proofs.CodeSweepLaws.{one-compound, one-mark, sweep-step}
-use Rattle.visits.proofs.CodeVisitLaws.{some_tests}
+use Rattle.visits.proofs.CodeVisitLaws.{fails-some, some_tests}
 
 -- where what is asked of an option holds, there is what it is asked of
 pub asked : {A : Type 0} (Q P : A → Type 0) (r : Option A) (b : Bool) → IfSome r Q → MatchOption r (b ≡ false) P → b ≡ true → (x : A) × Q x × P x
@@ -198,7 +198,7 @@ step-sweep code row flags j i place tests k l f m et c fail =
     sweep-step code row flags k (j + 1) place ∙ ap (λ (x : Swept). flag x.ends ∷ swept_behind code row flags k (j + 1) x.behind) (sym two) in
     let a' : flag right.ends ∷ swept_behind code row flags (suc k) j right.behind ≡ 0 ∷ sweep_at code row flags (suc k) (j + 1) place = unfold flag swept_behind in refl in
     let b' : flag left.ends ∷ swept_behind code row flags k (j + 1) left.behind ≡ 0 ∷ mark_bytes tests = unfold flag swept_behind in refl in
-    ap (λ (x : ℕ). sweep_at code row flags x j i) l ∙ a ∙ a' ∙ ap (λ (x : List ℕ). 0 ∷ x) (b ∙ b' ∙ ap (λ (x : List ℕ). 0 ∷ x) (sym (some_tests code row tests place fail)))
+    ap (λ (x : ℕ). sweep_at code row flags x j i) l ∙ a ∙ a' ∙ ap (λ (x : List ℕ). 0 ∷ x) (b ∙ b' ∙ ap (λ (x : List ℕ). 0 ∷ x) (sym (some_tests tests (fails-some code row tests place fail))))
 
 -- where the first flag is 0, the selector does not match and awaits the same segment
 pub decided-stays : (code : List ℕ) (p awaited : ℕ) (flags : List ℕ) → decided code p awaited (0 ∷ flags) ≡ record { matched = false; awaited = awaited; flags = flags }

@@ -1,15 +1,18 @@
--- What a hint excludes: a component of one text that begins otherwise fails at every element that the hint fits. And hints that fit.
-use Prim.Native.Nat.{ℕ, ◌/◌, ◌<◌}
-use mathlib.Core.Path.{◌≡◌, refl, sym, ap, ◌∙◌}
-use mathlib.Core.Bool.{Bool, true, false}
+-- What a hint excludes: a component of one text that the table does not have fails at every element that the hint fits. And hints that fit.
+use Prim.Native.Nat.{ℕ, zero, suc, ◌+◌, ◌*◌, ◌/◌, ◌%◌, ◌<◌}
+use mathlib.Core.Path.{◌≡◌, refl, sym, ap, subst, ◌∙◌}
+use mathlib.Core.Bool.{Bool, true, false, not}
 use mathlib.Core.List.{List, [], ◌∷◌}
 use native.Mathlib.Omega.{arith}
-use lib.ListN.{length, get_or}
+use borrow.Author.Tests.{leb-false}
+use lib.Dec.{leb}
+use lib.ListN.{length, get_or, take, drop, replicate}
+use Rattle.std.proofs.lemmas.Bool.{not-true}
+use Rattle.std.proofs.lemmas.List.{get_or-drop, get_or-take, get_or-replicate, get_or_default}
 use Rattle.combinators.specs.Choice.{pick, or, is}
-use Rattle.combinators.proofs.Rules.{never, either, or_left, and-true, or-second, and_yes}
+use Rattle.combinators.specs.Store.{filled_part}
+use Rattle.combinators.proofs.Rules.{never, either, is_true, and_yes}
 use Rattle.combinators.proofs.Words.{same-is}
-use Rattle.characters.specs.Literal.{text}
-use Rattle.characters.specs.Utf8.{utf8}
 use Rattle.syntax.specs.RuleLayout.{class_kind, element_kind, hash_kind, attribute_kind}
 use Rattle.page.specs.Path.{Attribute, Element}
 use Rattle.page.specs.PathOf.{attributes_from}
@@ -19,9 +22,9 @@ use Rattle.compiled.specs.Component.{is_name, named_of}
 use Rattle.segments.specs.Segments.{tested}
 use Rattle.sweeps.specs.Met.{handed_element, handed}
 use Rattle.sweeps.specs.declared.elements.Handed.{Handed}
-use Rattle.hints.specs.Hints.{may_begin, ClassesBegin, NamesBegin, Fits, NameFails}
-use Rattle.hints.specs.declared.hints.Starts.{Starts}
+use Rattle.hints.specs.Hints.{kinds, starts, spread, start_of, place_of, may_begin, marked, nameless, MayHave, Covers, Keeps, Open, AttributesFit, Fits, FailsAt, NameFails}
 use Rattle.hints.specs.declared.hints.Hint.{Hint}
+use Rattle.hints.proofs.TableLaws.{mark-keeps, mark-has, covers-kept}
 
 -- ---- what a component of one text asks for
 module _ (e : Element) (x : List ℕ) where
@@ -50,22 +53,6 @@ module _ (e : Element) (x : List ℕ) where
   unfolding tested named_of step here has_attribute pick is
   attribute-tested = and_yes _
 
--- where there is an id of some value, there is an attribute of that name
-id-named : (x : List ℕ) (attributes : List Attribute) → any_attribute (is_id x) attributes ≡ true → any_attribute (is_named (text "id")) attributes ≡ true
-unfolding any_attribute is_id
-id-named x [] t = t
-id-named x (a ∷ others) t =
-    either _ _ _ t (λ y. or_left _ _ (and-true _ _ y).0) (λ y. or-second _ _ (id-named x others y))
-
--- what that name begins with
-abbrev pub id_start : ℕ
-id_start = 0x69
-
--- the name `id` begins with that byte
-id-start : get_or (text "id") 0 0 ≡ id_start
-unfolding text utf8 pick
-id-start = refl
-
 -- these kinds have one text
 pub element-is-name : is_name element_kind ≡ true
 unfolding is_name or is
@@ -86,75 +73,135 @@ pub attribute-is-name : is_name attribute_kind ≡ true
 unfolding is_name or is
 attribute-is-name = refl
 
--- a test that cannot pass fails
-cannot : (b : Bool) → (b ≡ true → ⊥) → b ≡ false
-cannot true h = absurd (h refl)
-cannot false h = refl
+-- what asks for a text that an element may have passes only where that is marked
+module _ (h : Hint) (kind : ℕ) (asks tests : List ℕ → Bool) (same : (x : List ℕ) → tests x ≡ asks x) (c : Covers h kind asks) where
+  not-covered : (x : List ℕ) → may_begin h.may kind (length x) (get_or x 0 0) ≡ false → tests x ≡ false
+  not-covered x d = go (tests x) refl
+    where
+      go : (t : Bool) → tests x ≡ t → t ≡ false
+      go true e = never (sym d ∙ c x (sym (same x) ∙ e))
+      go false e = refl
 
--- ---- the returns of `name_fails`
-module _ (h : Hint) (kind size byte : ℕ) where
-  -- where no text of that size and first byte passes for a kind of one text, the component fails
-  by_kind : (k : ℕ) → kind ≡ k → is_name k ≡ true
-      → ((e : Element) → Fits h e → (x : List ℕ) → length x ≡ size → get_or x 0 0 ≡ byte → tested (e ∷ []) (named_of k x) ≡ true → ⊥) → NameFails h kind size byte
-  by_kind k q n f =
-      record {
-        named = ap is_name q ∙ n;
-        fails = λ e fit x l b. cannot _ (λ t. f e fit x l b (sym (ap (λ (m : ℕ). tested (e ∷ []) (named_of m x)) q) ∙ t));
-      }
+-- ---- the return of `name_fails`
+module _ (h : Hint) (size byte : ℕ) (e : Element) (fit : Fits h e) where
+  -- a kind of one text whose flag is not set
+  abbrev Excluded : ℕ → Type 0
+  Excluded kind = may_begin h.may kind size byte ≡ false
 
-  -- an element's name of another length than the hint's fails
-  pub length-fails : kind ≡ element_kind → ¬ (size ≡ h.size) → NameFails h kind size byte
-  length-fails k d =
-      by_kind element_kind k element-is-name
-      (λ e fit x l b t. d (sym l ∙ ap length (sym (name-is e x (sym (element-tested e x) ∙ t))) ∙ fit.size))
+  -- by what the hint covers of that kind
+  by_kind : (kind : ℕ) → is_name kind ≡ true → (asks : List ℕ → Bool) → ((x : List ℕ) → tested (e ∷ []) (named_of kind x) ≡ asks x) → Covers h kind asks → Excluded kind → FailsAt e kind size byte
+  by_kind kind n asks same c d =
+      record { named = n; fails = λ x l b. not-covered h kind asks (λ y. tested (e ∷ []) (named_of kind y)) same c x (rw (l, b) d) }
 
-  -- a name with another first byte
-  pub first-fails : kind ≡ element_kind → ¬ (byte ≡ h.first) → NameFails h kind size byte
-  first-fails k d =
-      by_kind element_kind k element-is-name
-      (λ e fit x l b t. d (sym b ∙ ap (λ (y : List ℕ). get_or y 0 0) (sym (name-is e x (sym (element-tested e x) ∙ t))) ∙ fit.first))
+  -- the name of the element is the only one that passes
+  name-covered : Covers h element_kind (λ x. name_is x e)
+  name-covered x t = subst (λ (y : List ℕ). MayHave h element_kind y) (name-is e x t) fit.name
 
-  -- a class that none of the words begins like
-  pub class-fails : kind ≡ class_kind → may_begin h.classes byte ≡ false → NameFails h kind size byte
-  class-fails k d =
-      by_kind class_kind k class-is-name
-      (λ e fit x l b t. never (sym d ∙ ap (may_begin h.classes) (sym b) ∙ fit.classes x (sym (class-tested e x) ∙ t)))
+  -- a kind is one of the four of one text, or is none of them, of which nothing is told
+  kind-fails : (kind : ℕ) → Excluded kind → is_name kind ≡ true → FailsAt e kind size byte
+  unfolding is_name
+  kind-fails kind d n =
+      let at = λ (k : ℕ) (f : Excluded k → FailsAt e k size byte) (q : is kind k ≡ true). subst (λ (m : ℕ). Excluded m → FailsAt e m size byte) (sym (is_true kind k q)) f d in
+      either _ _ _ n (at class_kind (by_kind class_kind class-is-name _ (class-tested e) fit.attributes.classes))
+      (λ n. either _ _ _ n (at element_kind (by_kind element_kind element-is-name _ (element-tested e) name-covered))
+      (λ n. either _ _ _ n (at hash_kind (by_kind hash_kind hash-is-name _ (id-tested e) fit.attributes.ids))
+      (at attribute_kind (by_kind attribute_kind attribute-is-name _ (attribute-tested e) fit.attributes.names))))
 
-  -- an id where there is none
-  pub id-fails : kind ≡ hash_kind → may_begin h.names id_start ≡ false → NameFails h kind size byte
-  id-fails k d =
-      by_kind hash_kind k hash-is-name
-      (λ e fit x l b t. never (sym d ∙ ap (may_begin h.names) (sym id-start) ∙ fit.names (text "id") (id-named x e.attributes (sym (id-tested e x) ∙ t))))
+-- a flag of the table that is read as not set says so
+pub flag-unset : (may : List Bool) (i : ℕ) → i < length may → (kind size byte : ℕ) → i ≡ place_of kind size byte → not (get_or may i false) ≡ true → may_begin may kind size byte ≡ false
+unfolding may_begin
+flag-unset may i l kind size byte e n = ap (λ (j : ℕ). get_or may j true) (sym e) ∙ get_or_default may i true false l ∙ not-true _ n
 
-  -- an attribute that none of the names begins like
-  pub attribute-fails : kind ≡ attribute_kind → may_begin h.names byte ≡ false → NameFails h kind size byte
-  attribute-fails k d =
-      by_kind attribute_kind k attribute-is-name
-      (λ e fit x l b t. never (sym d ∙ ap (may_begin h.names) (sym b) ∙ fit.names x (sym (attribute-tested e x) ∙ t)))
+-- where a flag of the table is not set, a component of that kind, length and first byte fails
+pub flag-fails : (h : Hint) (kind size byte : ℕ) → kind < kinds → may_begin h.may kind size byte ≡ false → NameFails h kind size byte
+flag-fails h kind size byte l d e fit = go (is_name kind) refl
+  where
+    go : (t : Bool) → is_name kind ≡ t → FailsAt e kind size byte
+    go true n = kind-fails h size byte e fit kind d n
+    go false n = never (sym d ∙ fit.others kind size byte l n)
 
--- ---- the returns of `starts_by_count`
--- no attribute passes where there is none
-no-attribute : (f : Attribute → Bool) (attributes text : List ℕ) → length attributes < attribute_width → any_attribute f (attributes_from attributes text (attribute_rows attributes) 0) ≡ false
-unfolding any_attribute attributes_from
-no-attribute f attributes text few = let z : length attributes / attribute_width ≡ 0 = omega arith in rw z
+-- ---- the return of `clear`
+-- its rows, filled one after the other
+pub rows-filled : (any : Bool)
+    → filled_part any (attribute_kind * starts) starts
+    (filled_part any (hash_kind * starts) starts
+    (filled_part false (element_kind * starts) starts
+    (filled_part any (class_kind * starts) starts (replicate (kinds * starts) true))))
+    ≡ nameless any
+unfolding filled_part nameless
+rows-filled any = refl
 
--- so all begin as is told
-pub none-begin : (attributes : List ℕ) → length attributes < attribute_width → (s : Starts)
-    → ((text : List ℕ) → ClassesBegin s (attributes_from attributes text (attribute_rows attributes) 0)) × ((text : List ℕ) → NamesBegin s (attributes_from attributes text (attribute_rows attributes) 0))
-none-begin attributes few s = ((λ text c t. never (sym (no-attribute (is_class c) attributes text few) ∙ t)), (λ text n t. never (sym (no-attribute (is_named n) attributes text few) ∙ t)))
+-- a row of one flag says that flag of every text
+row-says : (may : List Bool) (v : Bool) (kind : ℕ) → take starts (drop (kind * starts) may) ≡ replicate starts v → (size byte : ℕ) → may_begin may kind size byte ≡ v
+unfolding may_begin place_of start_of
+row-says may v kind e size byte =
+    let s : ℕ = (byte + spread * size) % starts in
+    let l : s < starts = omega arith in
+    sym (get_or-drop (kind * starts) may s true) ∙ sym (get_or-take starts (drop (kind * starts) may) s true l) ∙ ap (λ (row : List Bool). get_or row s true) e ∙ get_or-replicate starts s v true l
+
+-- a kind that has not one text has a row that says nothing
+nameless-open : (any : Bool) (kind : ℕ) → kind < kinds → is_name kind ≡ false → (size byte : ℕ) → may_begin (nameless any) kind size byte ≡ true
+unfolding nameless is_name or is
+nameless-open any zero l n = row-says (nameless any) true 0 refl
+nameless-open any (suc zero) l n = never (sym n)
+nameless-open any (suc (suc zero)) l n = never (sym n)
+nameless-open any (suc (suc (suc zero))) l n = never (sym n)
+nameless-open any (suc (suc (suc (suc zero)))) l n = row-says (nameless any) true 4 refl
+nameless-open any (suc (suc (suc (suc (suc zero))))) l n = row-says (nameless any) true 5 refl
+nameless-open any (suc (suc (suc (suc (suc (suc zero)))))) l n = row-says (nameless any) true 6 refl
+nameless-open any (suc (suc (suc (suc (suc (suc (suc zero))))))) l n = never (sym n)
+nameless-open any (suc (suc (suc (suc (suc (suc (suc (suc k)))))))) l n = absurd (omega arith)
+
+module _ (h : Hint) (any : Bool) (e : h.may ≡ nameless any) where
+  -- so nothing is told of such kinds
+  pub open-nameless : Open h
+  open-nameless kind size byte l n = ap (λ (m : List Bool). may_begin m kind size byte) e ∙ nameless-open any kind l n size byte
+
+  -- where any text may be, each of the three rows says so
+  row-any : any ≡ true → (kind : ℕ) → take starts (drop (kind * starts) (nameless true)) ≡ replicate starts true → (asks : List ℕ → Bool) → Covers h kind asks
+  row-any a kind r asks x t =
+      ap (λ (m : List Bool). may_begin m kind (length x) (get_or x 0 0)) (e ∙ ap nameless a) ∙ row-says (nameless true) true kind r (length x) (get_or x 0 0)
+
+  -- so attributes may have any texts
+  any-fits : any ≡ true → (attributes : List Attribute) → AttributesFit h attributes
+  unfolding nameless
+  any-fits a attributes = record { classes = row-any a class_kind refl _; ids = row-any a hash_kind refl _; names = row-any a attribute_kind refl _ }
+
+  -- and where there is no attribute, none has any
+  none-fits : AttributesFit h []
+  unfolding any_attribute
+  none-fits = record { classes = λ x t. never t; ids = λ x t. never t; names = λ x t. never t }
+
+  -- ---- the returns of `tell_attributes`
+  -- where any text may be if there is an attribute
+  pub few-fit : (name rows text : List ℕ) (place : ℕ) → any ≡ leb attribute_width (length rows) → AttributesFit h (handed_element name rows text place).attributes
+  unfolding handed_element attributes_from
+  few-fit name rows text place q = go (leb attribute_width (length rows)) refl
+    where
+      go : (t : Bool) → leb attribute_width (length rows) ≡ t → AttributesFit h (attributes_from rows text (attribute_rows rows) 0)
+      go true l = any-fits (q ∙ l) _
+      go false l = let few : length rows < attribute_width = leb-false _ _ l in let z : length rows / attribute_width ≡ 0 = omega arith in rw z none-fits
+
+-- the attributes that are handed are those of the element
+pub handed-fit : (h : Hint) (x : Handed) (a : List Attribute) → a ≡ (handed x).attributes → AttributesFit h a
+    → (place : ℕ) → AttributesFit h (handed_element x.name.now x.attributes.now x.text.now place).attributes
+unfolding handed handed_element
+handed-fit h x a q f place = subst (λ (y : List Attribute). AttributesFit h y) q f
 
 -- ---- the return of `hint_of`
--- the length of a name, its first byte, and what classes and attribute names begin with fit the element
-pub hint-fits : (name attributes text : List ℕ) (first : ℕ) → first ≡ get_or name 0 0 → (classes names : Starts)
-    → ClassesBegin classes (attributes_from attributes text (attribute_rows attributes) 0) → NamesBegin names (attributes_from attributes text (attribute_rows attributes) 0)
-    → (place : ℕ) → Fits (record { size = length name; first = first; classes = classes; names = names }) (handed_element name attributes text place)
+-- the name is marked, and what is told of attributes stays
+pub hint-fits : (h r : Hint) (name rows text : List ℕ) → r.may ≡ marked h.may element_kind name → Open h
+    → ((place : ℕ) → AttributesFit h (handed_element name rows text place).attributes) → (place : ℕ) → Fits r (handed_element name rows text place)
 unfolding handed_element
-hint-fits name attributes text first e classes names c n place = record { size = refl; first = sym e; classes = c; names = n }
-
--- the same of the attributes that are handed
-pub hint-handed : (x : Handed) (first : ℕ) → first ≡ get_or x.name.now 0 0 → (a : List Attribute) → a ≡ (handed x).attributes → (classes names : Starts)
-    → ClassesBegin classes a → NamesBegin names a
-    → (place : ℕ) → Fits (record { size = length x.name.now; first = first; classes = classes; names = names }) (handed_element x.name.now x.attributes.now x.text.now place)
-unfolding handed handed_element
-hint-handed x first e a q classes names c n place =
-    record { size = refl; first = sym e; classes = λ t h. c t (ap (any_attribute (is_class t)) q ∙ h); names = λ t h. n t (ap (any_attribute (is_named t)) q ∙ h) }
+hint-fits h r name rows text e o a place =
+    let keep : Keeps h r = mark-keeps h r element_kind name e in
+    record {
+      others = λ kind size byte l n. keep kind size byte (o kind size byte l n);
+      name = mark-has h r element_kind name e;
+      attributes =
+          record {
+            classes = covers-kept h r keep class_kind _ (a place).classes;
+            ids = covers-kept h r keep hash_kind _ (a place).ids;
+            names = covers-kept h r keep attribute_kind _ (a place).names;
+          };
+    }

@@ -1,4 +1,4 @@
-pub mod StartLaws
+pub mod TableLaws
 pub mod HintLaws
 pub mod CodeFailLaws
 pub mod CodeStayLaws

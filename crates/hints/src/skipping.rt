@@ -65,8 +65,8 @@ fn behind_step(compiled: &[u8], first: usize) -> Option<usize>
 
 impl Hint {
     // Whether the test at `at` surely fails at the element.
-    fn test_fails(self, compiled: &[u8], at: usize) -> bool
-        ensures { result ≡ true → TestFails compiled.now at self }
+    fn test_fails(&self, compiled: &[u8], at: usize) -> bool
+        ensures { result ≡ true → TestFails compiled.now at self.now }
     {
         // (The guard says that the three bytes are there.)
         if at >= compiled.len().saturating_sub(TO_TEXT) {
@@ -78,23 +78,23 @@ impl Hint {
     }
 
     // Whether the test behind the one at `at` surely fails.
-    fn second_fails(self, compiled: &[u8], at: usize) -> bool
-        ensures { result ≡ true → (tests : ℕ) → 1 < tests → TestsFail compiled.now at tests self }
+    fn second_fails(&self, compiled: &[u8], at: usize) -> bool
+        ensures { result ≡ true → (tests : ℕ) → 1 < tests → TestsFail compiled.now at tests self.now }
     {
         test_size(compiled, at).is_some_and(|size| self.test_fails(compiled, at + size))
     }
 
     // Whether `tests` tests from `at` on surely fail, by the first or the second of them.
-    fn tests_fail(self, compiled: &[u8], at: usize, tests: usize) -> bool
-        ensures { result ≡ true → TestsFail compiled.now at tests self }
+    fn tests_fail(&self, compiled: &[u8], at: usize, tests: usize) -> bool
+        ensures { result ≡ true → TestsFail compiled.now at tests self.now }
     {
         tests > 0 && self.test_fails(compiled, at) || tests > 1 && self.second_fails(compiled, at)
     }
 
     // Whether the left one of two compounds surely fails by its first test, where the right one is at `at`, and `tests` is the count of the left one. (The second
     // is not asked: a call of `tests_fail` here keeps the compiler from making it a part of the loop in `skip_failing`, by a tenth of a run's time.)
-    fn step_fails(self, compiled: &[u8], at: usize, tests: usize) -> bool
-        ensures { result ≡ true → StepFails compiled.now at tests self }
+    fn step_fails(&self, compiled: &[u8], at: usize, tests: usize) -> bool
+        ensures { result ≡ true → StepFails compiled.now at tests self.now }
     {
         tests > 0 && behind_step(compiled, at).is_some_and(|place| self.test_fails(compiled, place))
     }
@@ -108,11 +108,11 @@ pub fn skip_failing(
     own: &mut [u8],
     first: usize,
     count: u32,
-    hint: Hint,
+    hint: &Hint,
 ) -> Option<Skipped>
     requires room { length row.now.above.now ≤ length own.old }
     requires near { first ≤ compiled_limit }
-    ensures skips { (e : Element) → Fits hint e → left_to_pass row.now.compiled.now e row.now.above.now own.new result
+    ensures skips { (e : Element) → Fits hint.now e → left_to_pass row.now.compiled.now e row.now.above.now own.new result
         ≡ pass_from row.now.compiled.now (e ∷ []) row.now.above.now count first own.old }
     ensures few { IfSome result (λ skipped. FewLeft count skipped) }
 {

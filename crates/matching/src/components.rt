@@ -2,6 +2,7 @@
 ghost use Rattle.std.specs.Prelude.{◌≡◌, List, ℕ};
 ghost use Rattle.syntax.specs.RuleLayout.{component_kind_at, component_first_at, component_second_at, component_from};
 ghost use Rattle.matching.specs.Rows.{component_number, components_at, first_text, second_text};
+ghost use Rattle.cascade.specs.Specificity.{SumFits, sum};
 ghost use Rattle.matching.specs.Specificity.{added, name_added, specificity};
 
 use cascade::specificity::Specificity;
@@ -79,6 +80,20 @@ pub fn name_weight(kind: u32) -> Specificity
         HASH => Specificity::new(1, 0, 0),
         _ => Specificity::new(0, 1, 0),
     }
+}
+
+// With one component more of a kind counted.
+#[tactic(auto, unfolding(crate::specs::Specificity::name_added, cascade::specs::Specificity::sum, cascade::specs::Specificity::specificity_of, combinators::specs::Choice::pick, combinators::specs::Choice::is, combinators::specs::Choice::or))]
+pub fn with_name(mut value: Specificity, kind: u32) -> Specificity
+    requires { SumFits value (name_added kind) }
+    ensures { result ≡ sum value (name_added kind) }
+{
+    match kind {
+        ELEMENT => value.typ += 1,
+        HASH => value.id += 1,
+        _ => value.class += 1,
+    }
+    value
 }
 
 // What a component of any kind adds.

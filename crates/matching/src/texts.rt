@@ -31,12 +31,13 @@ pub fn word_length(s: &[u8]) -> usize
     ensures upper_bound { result ≤ length s.now }
 {
     for (i, b) in s.iter().enumerate() {
+        if b.is_ascii_graphic() {
+            continue;
+        }
         if *b == SPACE {
             return i;
         }
-        if !b.is_ascii_graphic() {
-            return i + word_end(&s[i..]);
-        }
+        return i + word_end(&s[i..]);
     }
     s.len()
 }

@@ -1,6 +1,6 @@
 -- What the components of a selector add up to.
 use Prim.Native.Nat.{ℕ, zero, suc, ◌+◌, ◌-◌, ◌≤◌, ◌<◌, ◌^◌}
-use mathlib.Core.Path.{◌≡◌, refl, sym, ap, ◌∙◌}
+use mathlib.Core.Path.{◌≡◌, refl, sym, ap, subst, ◌∙◌}
 use mathlib.Core.Bool.{Bool, true, false}
 use mathlib.Core.List.{List, ◌∷◌}
 use native.Mathlib.Nat.{add-zero, zero-add, add_assoc}
@@ -128,7 +128,7 @@ module _ (code : List ℕ) (at : ℕ) (r : Result (Read Written) Fault) (er : r 
   unfolding weight_at mapped read_answer
   fault-weight f p = rw (at-fault code at r er f p)
 
--- ---- the returns of `read_weight`
+-- ---- a short component
 module _ (code : List ℕ) (at size : ℕ) (short : ShortSize code at size) where
   -- a kind alone adds nothing
   pub short-alone : size ≡ 1 → got (at + 1) nothing ≡ weight_at code at
@@ -275,6 +275,11 @@ module _ (code : List ℕ) (at count : ℕ) (s : Specificity) (i left : ℕ) (v 
       -- the component that was read is added, and the loop goes on behind it with one fewer left
       pub add-more : (t : Specificity) → t ≡ sum s x.value → Adding code at count t x.next (left - 1)
       add-more t p = rw p added-on
+
+    -- a component that adds nothing leaves the sum as it is
+    pub add-none : (n : ℕ) → q ≡ got n nothing → Adding code at count s n (left - 1)
+    unfolding no_specificity specificity_of
+    add-none n e = subst (λ (t : Specificity). Adding code at count t n (left - 1)) (sum-last s) (added-on (record { next = n; value = nothing }) e)
 
 -- ---- what is read of a selector by its weight
 module _ (code : List ℕ) (at count : ℕ) (q : Result (Read Specificity) Fault) (eq : q ≡ weights_at code count at) where

@@ -16,7 +16,7 @@ use crate::merging::merge_found;
 use cascade::rows::StyleRow;
 use compiled::bytes::SheetBytes;
 use compiled::numbers::read_number;
-use hints::hints::hint_of;
+use hints::hints::Hint;
 use hints::skipping::skip_failing;
 use sweeps::elements::{Handed, Row};
 use visits::document::{first_styled, tell_document};
@@ -69,10 +69,11 @@ fn pass_found(
         above,
         element: Some(element),
     };
-    let hint = hint_of(element, count);
+    let mut hint = Hint::new();
+    hint.tell(element, count);
     let mut place = first;
     let mut left = count;
-    while let Some(skipped) = skip_failing(&row, own, place, left, hint) {
+    while let Some(skipped) = skip_failing(&row, own, place, left, &hint) {
         place = visit_found(&row, own, skipped.place, out);
         left = skipped.behind;
     }

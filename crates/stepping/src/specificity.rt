@@ -7,7 +7,7 @@ ghost use Rattle.stepping.specs.Reading.{weight_at, weights_at};
 use cascade::specificity::Specificity;
 use compiled::components::{MARK_SIZE, Written, read_component, short_size};
 use compiled::places::{Fault, Read};
-use matching::components::name_weight;
+use matching::components::{name_weight, with_name};
 
 // What a component adds, by what its bytes say.
 fn written_weight(written: Written) -> Specificity
@@ -27,23 +27,6 @@ fn read_long_weight(compiled: &[u8], at: usize) -> Result<Read<Specificity>, Fau
     Ok(read_component(compiled, at)?.map(written_weight))
 }
 
-// What the component at `at` adds. Of a short one, as most are, the size and the first byte tell it.
-fn read_weight(compiled: &[u8], at: usize) -> Result<Read<Specificity>, Fault>
-    ensures { result ≡ weight_at compiled.now at }
-{
-    match short_size(compiled, at) {
-        Some(MARK_SIZE) => Ok(Read {
-            next: at + MARK_SIZE,
-            value: Specificity::NONE,
-        }),
-        Some(size) => Ok(Read {
-            next: at + size,
-            value: name_weight(u32::from(compiled[at])),
-        }),
-        None => read_long_weight(compiled, at),
-    }
-}
-
 // How specific the selector of `count` components from `at` on is, with the place behind them. Components differ in size, so the count is no length.
 pub fn read_weights(compiled: &[u8], at: usize, count: u32) -> Result<Read<Specificity>, Fault>
     ensures { result ≡ weights_at compiled.now count at }
@@ -51,9 +34,18 @@ pub fn read_weights(compiled: &[u8], at: usize, count: u32) -> Result<Read<Speci
     let mut value = Specificity::NONE;
     let mut next = at;
     for _ in 0..count {
-        let weight = read_weight(compiled, next)?;
-        value = value + weight.value;
-        next = weight.next;
+        match short_size(compiled, next) {
+            Some(MARK_SIZE) => next += MARK_SIZE,
+            Some(size) => {
+                value = with_name(value, u32::from(compiled[next]));
+                next += size;
+            }
+            None => {
+                let weight = read_long_weight(compiled, next)?;
+                value = value + weight.value;
+                next = weight.next;
+            }
+        }
     }
     Ok(Read { next, value })
 }

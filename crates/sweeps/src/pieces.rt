@@ -55,6 +55,7 @@ fn mark_met(next: usize, kind: u32, ok: bool) -> Met
 }
 
 // The component at `at`, of whatever length, for the document, which passes star alone: a test is only read past. None where the bytes are at fault.
+#[inline(never)] // (rare: see `read_met`)
 fn pass_long(compiled: &[u8], at: usize, ok: bool) -> Option<Met>
     ensures { result ≡ met_at compiled.now [] ok at }
 {
@@ -105,6 +106,7 @@ fn name_at(compiled: &[u8], at: usize) -> Option<NameAt>
 }
 
 // The component at `at`, which has not one text, for an element that has passed so far.
+#[inline(never)] // (rare: see `read_met`)
 fn test_other(compiled: &[u8], at: usize, element: &Handed<'_>) -> Option<Met>
     requires { Nameless compiled.now at }
     ensures { result ≡ met_at compiled.now (handed element.now ∷ []) true at }
@@ -127,6 +129,7 @@ fn test_other(compiled: &[u8], at: usize, element: &Handed<'_>) -> Option<Met>
 }
 
 // The component at `at` for an element that has passed so far. Most have one text.
+#[inline(always)]
 fn test_met(compiled: &[u8], at: usize, element: &Handed<'_>) -> Option<Met>
     ensures { result ≡ met_at compiled.now (handed element.now ∷ []) true at }
 {
@@ -141,6 +144,8 @@ fn test_met(compiled: &[u8], at: usize, element: &Handed<'_>) -> Option<Met>
 }
 
 // The component at `at` for the element of a row, or for the document. Where the tests so far have failed, a test need not be carried out.
+// (A part of each loop that asks it, and so is `test_met`: calls would cost a run over a typical page a fortieth of its instructions more.)
+#[inline(always)]
 pub fn read_met(row: &Row<'_>, at: usize, ok: bool) -> Option<Met>
     ensures { result ≡ met_at row.now.compiled.now (row_alone row.now.element) ok at }
 {

@@ -187,24 +187,37 @@ module _ (code : List ℕ) (row : Path) (above s₀ : List ℕ) (p next awaited 
 
 -- ---- the returns of `visit_marked`
 -- tests that do not pass are some
-pub some_tests : (code : List ℕ) (row : Path) (tests i : ℕ) → tests_pass code row tests i ≡ false → with_tests ∷ pair_bytes tests ≡ mark_bytes tests
-unfolding tests_pass mark_bytes
-some_tests code row zero i e = never (sym e)
-some_tests code row (suc t) i e = refl
+pub fails-some : (code : List ℕ) (row : Path) (tests i : ℕ) → tests_pass code row tests i ≡ false → 0 < tests
+unfolding tests_pass
+fails-some code row zero i e = never (sym e)
+fails-some code row (suc t) i e = omega arith
 
-module _ (code : List ℕ) (row : Path) (above s₀ : List ℕ) (p next awaited tests : ℕ) (ends : Bool) (ee : ends ≡ tests_pass code row tests awaited) (s₁ : List ℕ) where
+-- the mark of some tests has their count
+pub some_tests : (tests : ℕ) → 0 < tests → with_tests ∷ pair_bytes tests ≡ mark_bytes tests
+unfolding mark_bytes
+some_tests zero h = absurd (omega (arith, h))
+some_tests (suc t) h = refl
+
+module _ (code : List ℕ) (row : Path) (above s₀ : List ℕ) (p next awaited tests : ℕ) (ends : Bool) (ee : ends ≡ tests_pass code row tests awaited)
+    (r : Awaited) (er : r ≡ next_awaited code p awaited ends) (s₁ : List ℕ) where
   -- what is told of a segment of one compound with its mark: whether the selector matches, and the part with its block
   abbrev Ends : Bool → Type 0
   Ends b = Told s₀ next p (swept_visit code row above p awaited (swept_mark code row tests awaited)) b s₁
 
-  -- they do not, and the block stays
-  pub marked-stays : ends ≡ false → s₁ ≡ sets s₀ (p + to_next) (block_bytes next awaited (with_tests ∷ pair_bytes tests)) → Ends false
-  marked-stays f e =
+  -- what is awaited next, by whether the tests pass
+  by-tests : r ≡ next_awaited code p awaited (tests_pass code row tests awaited)
+  by-tests = er ∙ ap (next_awaited code p awaited) ee
+
+  -- where the same segment is awaited on, the block stays
+  pub marked_same : 0 < tests → (b : Bool) → r ≡ segment.Same b → s₁ ≡ sets s₀ (p + to_next) (block_bytes next awaited (with_tests ∷ pair_bytes tests)) → Ends b
+  marked_same h b q e =
       let one : Swept = swept_mark code row tests awaited in
-      let no : tests_pass code row tests awaited ≡ false = sym ee ∙ f in
       let w : mark_bytes tests ≡ behind_first code row above p one = unfold behind_first swept_behind in refl in
-      swept_same code row above s₀ p next awaited one (next_awaited code p awaited one.ends) refl s₁ false (sym (awaited-stays code p awaited one.ends no))
-      (e ∙ ap (λ (x : List ℕ). sets s₀ (p + to_next) (block_bytes next awaited x)) (some_tests code row tests awaited no ∙ w))
+      swept_same code row above s₀ p next awaited one r by-tests s₁ b q (e ∙ ap (λ (x : List ℕ). sets s₀ (p + to_next) (block_bytes next awaited x)) (some_tests tests h ∙ w))
+
+  -- where the segment before it is awaited, its fresh flags are stored
+  pub marked-before : (count first : ℕ) → r ≡ segment.Before count first → s₁ ≡ block_set (awaits (segment_before code awaited count (beginning first) first)) next p s₀ → Ends false
+  marked-before count first q s = swept-before code row above s₀ p next awaited (swept_mark code row tests awaited) r by-tests s₁ count first q s
 
 -- ---- the returns of `visit_any` and `visit`
 module _ (code : List ℕ) (row : Path) (above s₀ : List ℕ) (p next : ℕ) (en : next ≡ pair_at above (p + to_next)) (awaited : ℕ) (ea : awaited ≡ pair_at above (p + to_awaited)) (s₁ : List ℕ) where

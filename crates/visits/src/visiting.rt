@@ -162,25 +162,26 @@ fn visit_swept(row: &Row<'_>, own: &mut [u8], block: Block, one: Swept) -> bool
     }
 }
 
-// A selector whose first compound is the leftmost and has tests, where the own part has room for its whole block: most often they do not pass, and the block
+// A selector whose first compound is the leftmost and has tests, where the own part has room for its whole block: where the same segment is awaited on, the block
 // stays as it is.
 fn visit_marked(row: &Row<'_>, own: &mut [u8], block: Block, tests: usize) -> bool
     requires few_bytes { length row.now.compiled.now ≤ compiled_limit }
     requires room { block.place + to_end ≤ length own.old }
+    requires some { 0 < tests }
     ensures value { result ≡ (visited_by_mark row.now block tests).matched }
     ensures own_after { own.new ≡ block_set (visited_by_mark row.now block tests) block.next block.place own.old }
 {
     let ends = tests_pass(row, block.awaited, tests);
-    // (No `&&`: where the tests fail the block is stored too.)
-    if ends {
-        let one = Swept {
-            ends,
-            behind: Behind::Leftmost(tests),
-        };
-        return visit_swept(row, own, block, one);
+    match next_awaited(row.compiled, block, ends) {
+        Awaited::Same(matched) => {
+            put_marked::<0>(own, block.place, block.next, block.awaited, tests);
+            matched
+        }
+        Awaited::Before(count, first) => {
+            put_awaits(row.compiled, own, block, count, first);
+            false
+        }
     }
-    put_marked::<0>(own, block.place, block.next, block.awaited, tests);
-    false
 }
 
 // The selector at `place`, at a row, by whatever its block is: also one that the part does not hold whole.
@@ -224,6 +225,7 @@ pub fn visit(row: &Row<'_>, own: &mut [u8], place: usize) -> VisitAnswer
 {
     if !row.compiled.is_empty()
         && let Some(Marked { block, tests }) = marked_block::<0>(row.above, place)
+        && tests > 0
     {
         let matched = visit_marked(row, own, block, tests);
         return VisitAnswer {

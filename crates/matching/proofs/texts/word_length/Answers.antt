@@ -10,8 +10,8 @@ returns-then-b-eq-SPACE c = record { value = search (rules, space-stops); upper_
 pub loop-i-preserved : goal.loop-i-preserved
 loop-i-preserved c = search (rules, graphic-goes-on)
 
-pub returns-then-not-is_ascii_graphic : goal.returns-then-not-is_ascii_graphic
-returns-then-not-is_ascii_graphic c = record { value = search (rules, counted-on); upper_bound = search rules }
+pub returns-in-loop-i : goal.returns-in-loop-i
+returns-in-loop-i c = record { value = search (rules, counted-on); upper_bound = search rules }
 
 pub returns : goal.returns
 returns c = record { value = search (rules, repeat-end); upper_bound = search rules }

@@ -12,10 +12,10 @@ loop-skipped-init c = laws.find-begin _ _ _ _ _ _ _ c.requires.room c.requires.n
 pub loop-skipped-preserved : goal.loop-skipped-preserved
 unfolding handed row_alone
 loop-skipped-preserved c =
-    let after = laws.find-left _ _ _ _ _ _ _ _ _ _ _ c.loop-skipped.invariant _ _ (c.skip_failing.ensures.skips _ (c.hint_of-hint.ensures _)) _ c.in-Some.is c.skip_failing.auto.own c.in-Some.ensures.few in
+    let after = laws.find-left _ _ _ _ _ _ _ _ _ _ _ c.loop-skipped.invariant _ _ (c.skip_failing.ensures.skips _ (c.tell.ensures _)) _ c.in-Some.is c.skip_failing.auto.own c.in-Some.ensures.few in
     let q : c.in-Some.skipped.behind ≡ suc c.in-Some.skipped.behind - 1 = omega arith in
     rw q (laws.find-more _ _ _ _ _ _ _ _ _ _ _ after (omega arith) (let z = c.in-Some.ensures.few.some in λ q. omega arith) _ c.visit_found-place.ensures.value c.visit_found-place.ensures.upper_bound _ c.visit_found-place.ensures.own_after _ c.visit_found-place.ensures.out_after)
 
 pub returns : goal.returns
 unfolding handed row_alone
-returns c = let t = laws.find-over _ _ _ _ _ _ _ _ _ _ _ c.loop-skipped.invariant _ _ (c.skip_failing.ensures.skips _ (c.hint_of-hint.ensures _)) c.in_default.is in record { own_after = t.0; out_after = t.1 }
+returns c = let t = laws.find-over _ _ _ _ _ _ _ _ _ _ _ c.loop-skipped.invariant _ _ (c.skip_failing.ensures.skips _ (c.tell.ensures _)) c.in_default.is in record { own_after = t.0; out_after = t.1 }
