@@ -14,7 +14,7 @@ use Rattle.combinators.proofs.LeastLaws.{least}
 use Rattle.combinators.specs.Refusal.{no_refusal, refused, refused_at, too_long, short_store, bad_row, bad_text, bad_bytes}
 use Rattle.combinators.specs.declared.refusals.Refusal.{Refusal}
 use Rattle.combinators.proofs.Rules.{pick-holds, pick_true, pick-false, and-true, is_true, is_false, is-yes}
-use Rattle.page.specs.Accepted.{first_bad_row, first_bad_text, refused_row, rows_refusal, page_refusal}
+use Rattle.page.specs.Accepted.{first_bad_row, first_bad_text, refused_row, page_refusal}
 use Rattle.compiled.specs.Answer.{bytes_refusal}
 use Rattle.compiled.specs.Decoded.{Decoded, read, fault, on_decoded}
 use Rattle.compiled.specs.Sheet.{CompiledSelector, compiled_limit, decode}
@@ -40,7 +40,7 @@ row-number number (Some row) others n m = n
 row-number number None others n m = m
 
 pub page-number : (nodes attributes text : List ℕ) → ¬ ((page_refusal nodes attributes text).number ≡ bad_bytes)
-unfolding page_refusal rows_refusal
+unfolding page_refusal
 page-number nodes attributes text =
     pick-holds Other _ _ _
     (λ _. pick-holds Other _ _ _ (λ _ e. omega (arith, e))

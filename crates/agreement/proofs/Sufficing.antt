@@ -9,7 +9,6 @@ use Rattle.combinators.specs.LeastLengths.{stores_suffice, Least}
 use Rattle.combinators.specs.declared.refusals.Refusal.{Refusal}
 use Rattle.combinators.proofs.LeastLaws.{least}
 use Rattle.origins.specs.Checks.{Lent}
-use Rattle.origins.proofs.ChecksLaws.{none-long}
 use Rattle.cascade.specs.declared.slots.Cascade.TheVariants.{Crate}
 use Rattle.cascade.specs.Row.{style_row_width}
 use Rattle.page.specs.Rows.{node_count}
@@ -42,23 +41,12 @@ module _ (n : ℕ) (rules tokens brackets texts : List ℕ) (enough : stores_suf
   -- the reading of three sheets has the lengths that it asks for
   sheets-lent : (s : SheetTexts) → NoneLong s → sheets_bytes s ≤ n → Lent s.agent s.user s.author rules tokens brackets texts
   sheets-lent s short h =
-      let w = none-long (length s.agent) (length s.user) (length s.author) short in
-      let l = fewer (sheets_bytes s) h in
-      record {
-        agent-within = w.0;
-        user-within = w.1;
-        author-within = w.2;
-        for-rules = l.for-rules;
-        for-tokens = l.for-tokens;
-        for-brackets = l.for-brackets;
-        for-texts = l.for-texts;
-      }
+      record { within = short; least = fewer (sheets_bytes s) h }
 
   -- a style call has the lengths that it asks for
   call-asked : (s : SheetTexts) (g : Page) (out : List ℕ) → NoneLong s → style_row_width ≤ length out → call_bytes s g ≤ n → AskedLent s g out rules tokens brackets texts
   call-asked s g out short row h =
-      let w = none-long (length s.agent) (length s.user) (length s.author) short in
-      record { agent-within = w.0; user-within = w.1; author-within = w.2; row = row; least = fewer (call_bytes s g) h }
+      record { within = short; row = row; least = fewer (call_bytes s g) h }
 
   -- a row that is next in a run
   row-ready : (g : Page) (code rows state : List ℕ) → RunAsked code g rows state → run_text_bytes g ≤ n → (i fill : ℕ) → i < node_count g.nodes → fill ≤ texts_most g i

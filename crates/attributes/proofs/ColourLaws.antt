@@ -17,7 +17,7 @@ use Rattle.syntax.specs.declared.styles.Value.{Value}
 use Rattle.values.specs.ColourAnswer.{colour_answer}
 use Rattle.values.specs.Layout.{texts_of}
 use Rattle.values.specs.Value.{statement_of}
-use Rattle.values.specs.Words.{Entry, Found, found, missing, found_or, lookup, on_found}
+use Rattle.values.specs.Words.{Entry, Found, found, missing, lookup, on_found}
 use Rattle.std.proofs.Common.{Option, Some, None}
 use Rattle.std.proofs.lemmas.Option.{same_Some, none-some}
 use Rattle.declarations.specs.Attribute.{colour_attribute}
@@ -102,10 +102,10 @@ module _ (name value : List ℕ) where
   by-slot = go (same_text name (text "color")) (same_text name (text "bgcolor")) _ _
     where
       go : (a b : Bool) (x y : ℕ)
-          → pick a (colour_says x value) (pick b (colour_says y value) []) ≡ on_found (found_or a x (found_or b y missing)) (λ slot. colour_says slot value) []
-      go true b x y = unfold pick found_or on_found in refl
-      go false true x y = unfold pick found_or on_found in refl
-      go false false x y = unfold pick found_or on_found in refl
+          → pick a (colour_says x value) (pick b (colour_says y value) []) ≡ on_found (pick a (found x) (pick b (found y) missing)) (λ slot. colour_says slot value) []
+      go true b x y = unfold pick on_found in refl
+      go false true x y = unfold pick on_found in refl
+      go false false x y = unfold pick on_found in refl
 
   module _ (c : Cascade) (spec : Specificity) (out : List ℕ) (o : Option ℕ) (e : o ≡ on_found (lookup name colour_slots) Some None) where
     -- what is declared, merged into a row

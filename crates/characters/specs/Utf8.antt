@@ -83,7 +83,7 @@ scalar_of s =
     (scalar_by (lead_of a) s))
 
 -- the bytes that it takes
-unfoldable pub taken_of : Option (Taken ℕ) → ℕ
+unfoldable pub taken_of : {A : Type 0} → Option (Taken A) → ℕ
 taken_of (Some c) = c.taken
 taken_of None = 0
 

@@ -15,15 +15,13 @@ use Rattle.compiled.specs.declared.components.Written.TheVariants.{Mark, Name, N
 
 -- what stands behind the kind
 unfoldable pub component_body : Component → List ℕ
-component_body star = []
 component_body (class x) = text_bytes x
 component_body (element x) = text_bytes x
 component_body (hash x) = text_bytes x
-component_body child = []
-component_body descendant = []
 component_body (nth a b) = number_bytes (signed_number a) ++ number_bytes (signed_number b)
 component_body (attribute x) = text_bytes x
 component_body (attribute_equal x y) = text_bytes x ++ text_bytes y
+component_body _ = []
 
 -- "Component: 0 star, 1 class, 2 element, 3 hash (one text each), 4 child, 5 descendant, 6 nth with a and b (v as 2v, negative as -2v-1), 7 attribute
 -- (text), 8 attribute equal (two texts)."

@@ -9,6 +9,7 @@ use Rattle.combinators.proofs.Cleared.{length-cleared}
 use Rattle.combinators.proofs.ZeroLaws.{clear-zeros}
 use Rattle.origins.specs.Checks.{Lent}
 use Rattle.origins.specs.Reading.{SheetsRules, sheets_of}
+use Rattle.origins.proofs.ChecksLaws.{none-long}
 use Rattle.origins.proofs.SheetsKnown.{Came, known, rows_held, texts_held, agent-back, user-back, author-back, agent-styled, user-styled, author-styled, texts-within}
 use Rattle.compiler.specs.Selectors.{selectors_of}
 use Rattle.compiler.specs.Written.{selectors_from, Lying}
@@ -27,11 +28,12 @@ module _ {agent user author rules₀ tokens brackets texts₀ : List ℕ} (o : L
   lying x ex =
       let k = known o m in
       let w = texts-within o m er et in
+      let short = none-long (length agent) (length user) (length author) o.within in
       let z : Zeros x 0 = rw ex (clear-zeros tokens) in
       let l : length x ≡ length tokens = ap length ex ∙ length-cleared 0 tokens in
       record {
         agent-lies = record { texts-in = w.0; lent = record { room = rw l (agent-styled o m er et); zeros = z } };
         user-lies = record { texts-in = w.1; lent = record { room = rw l (user-styled o m er et); zeros = z } };
         author-lies = record { texts-in = w.2; lent = record { room = rw l (author-styled o m er et); zeros = z } };
-        few = rw selectors-are (selectors-bits agent user author k.agent-read k.user-read k.author-read o.agent-within o.user-within o.author-within);
+        few = rw selectors-are (selectors-bits agent user author k.agent-read k.user-read k.author-read short.0 short.1 short.2);
       }

@@ -1,12 +1,12 @@
 -- What `compile` answers and leaves: the refusals of document 01 in the order of their numbers, or the compiled sheet.
-use Rattle.std.specs.Prelude.{ℕ, ◌+◌, Result, Ok, Err, List, leb, ltb, length, replicate}
+use Rattle.std.specs.Prelude.{ℕ, ◌+◌, Result, Ok, Err, List, leb, ltb, length}
 use Rattle.combinators.specs.declared.lent.SheetTexts.{SheetTexts}
 use Rattle.combinators.specs.declared.lent.Stores.{Stores}
 use Rattle.combinators.specs.Choice.{pick}
 use Rattle.combinators.specs.LeastLengths.{stores_suffice}
 use Rattle.combinators.specs.Refusal.{no_refusal, refused, refused_in, too_long, short_store, not_utf8, panic, no_room}
 use Rattle.combinators.specs.declared.refusals.Refusal.{Refusal}
-use Rattle.sheets.specs.SheetAnswer.{padded}
+use Rattle.sheets.specs.SheetAnswer.{padded, zeros}
 use Rattle.origins.specs.Checks.{Lent, any_too_long, all_valid}
 use Rattle.origins.specs.Reading.{Sheets, rules, panicked, sheets_of, sheets_texts}
 use Rattle.compiled.specs.Sheet.{compiled_limit, encode}
@@ -55,14 +55,7 @@ module _ (compiled texts rules₀ tokens brackets : List ℕ) where
   -- "After 4 and 10 each writable buffer is zero throughout"
   unfoldable pub zeroed : Refusal → CompileLeft
   zeroed r =
-      record {
-        answer = refused_compile r;
-        compiled = replicate (length compiled) 0;
-        texts = replicate (length texts) 0;
-        rules = replicate (length rules₀) 0;
-        tokens = replicate (length tokens) 0;
-        brackets = replicate (length brackets) 0;
-      }
+      record { answer = refused_compile r; compiled = zeros compiled; texts = zeros texts; rules = zeros rules₀; tokens = zeros tokens; brackets = zeros brackets }
 
   -- "after others it is unchanged"
   unfoldable pub unchanged : Refusal → CompileLeft
@@ -71,14 +64,10 @@ module _ (compiled texts rules₀ tokens brackets : List ℕ) where
   -- the bytes of a sheet and the texts of its rules; "After an answer all beyond it, and all work stores, are zero"
   unfoldable pub answered : List ℕ → List ℕ → CompileLeft
   answered bytes ts =
-      record {
-        answer = record { refusal = no_refusal; bytes = length bytes; texts = length ts };
-        compiled = padded bytes (length compiled);
-        texts = padded ts (length texts);
-        rules = replicate (length rules₀) 0;
-        tokens = replicate (length tokens) 0;
-        brackets = replicate (length brackets) 0;
-      }
+      let a : CompileNumbers = record { refusal = no_refusal; bytes = length bytes; texts = length ts } in
+      let sheet = padded bytes (length compiled) in
+      let names = padded ts (length texts) in
+      record { answer = a; compiled = sheet; texts = names; rules = zeros rules₀; tokens = zeros tokens; brackets = zeros brackets }
 
   -- where the bytes fit
   unfoldable pub answered_within : List ℕ → List ℕ → CompileLeft

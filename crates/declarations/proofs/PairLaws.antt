@@ -7,7 +7,7 @@ use Rattle.combinators.proofs.Rules.{at_most, above}
 use Rattle.syntax.specs.Declaration.{Colour}
 use Rattle.syntax.specs.Layout.{colour_number}
 use Rattle.values.specs.Words.{Found, found, missing, on_found}
-use Rattle.values.specs.Colour.{rgb, parse_hex}
+use Rattle.values.specs.Colour.{rgb, rgb_of, parse_hex}
 use Rattle.values.specs.ColourAnswer.{number_answer, colour_answer}
 use Rattle.std.specs.Prelude.{Option, Some, None}
 use Rattle.values.proofs.ColourLaws.{no-colour, a-colour, number-found, number-missing}
@@ -21,17 +21,17 @@ none_of f g h = found-holds (λ (x : Found Colour). x ≡ missing) f g missing (
 module _ (t : List ℕ) where
   -- one of the pairs is no number: the first
   pub first-missing : parse_hex 255 (take 2 t) ≡ missing → pairs t ≡ missing
-  unfolding pairs on_found
+  unfolding pairs rgb_of on_found
   first-missing e = rw e
 
   -- where the second pair is no number there is no colour
   pub second-missing : parse_hex 255 (take 2 (drop 2 t)) ≡ missing → pairs t ≡ missing
-  unfolding pairs on_found
+  unfolding pairs rgb_of on_found
   second-missing e = rw e (none_of (parse_hex 255 (take 2 t)) (λ _. missing) (λ _. refl))
 
   -- where the third pair is no number there is no colour
   pub third-missing : parse_hex 255 (take 2 (drop 4 t)) ≡ missing → pairs t ≡ missing
-  unfolding pairs on_found
+  unfolding pairs rgb_of on_found
   third-missing e =
       let g = parse_hex 255 (take 2 (drop 2 t)) in
       rw e (none_of (parse_hex 255 (take 2 t)) (λ _. on_found g (λ _. missing) missing) (λ _. none_of g (λ _. missing) (λ _. refl)))
@@ -39,7 +39,7 @@ module _ (t : List ℕ) where
   -- three pairs that are numbers are a colour
   all_found : (r g b : ℕ) → parse_hex 255 (take 2 t) ≡ found r → parse_hex 255 (take 2 (drop 2 t)) ≡ found g
       → parse_hex 255 (take 2 (drop 4 t)) ≡ found b → found (rgb r g b) ≡ pairs t
-  unfolding pairs on_found
+  unfolding pairs rgb_of on_found
   all_found r g b er eg eb = rw (er, eg, eb)
 
   -- fewer than six bytes are no colour

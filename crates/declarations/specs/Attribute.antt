@@ -13,7 +13,7 @@ use Rattle.syntax.specs.Declaration.{Colour}
 use Rattle.syntax.specs.Style.{StyleDecl}
 use Rattle.values.specs.Words.{Found, found, missing, on_found}
 use Rattle.values.specs.Value as values
-use Rattle.values.specs.Colour.{all_of, colour_of, digits_in, numeral, parse_hex, rgb, without_plus}
+use Rattle.values.specs.Colour.{all_of, colour_of, digits_in, numeral, parse_hex, rgb, rgb_of, without_plus}
 use Rattle.declarations.specs.Rules.{declarations_of}
 use Rattle.declarations.specs.Styles.{styles_of}
 
@@ -41,17 +41,14 @@ test-trimmed = (refl, refl, refl)
 
 -- `parse_faulty_color`: six bytes as three pairs of hex digits
 unfoldable pub pairs : List ℕ → Found Colour
-pairs t =
-    on_found (parse_hex 255 (take 2 t))
-    (λ r. on_found (parse_hex 255 (take 2 (drop 2 t))) (λ g. on_found (parse_hex 255 (take 2 (drop 4 t))) (λ b. found (rgb r g b)) missing) missing)
-    missing
+pairs t = rgb_of (parse_hex 255 (take 2 t)) (parse_hex 255 (take 2 (drop 2 t))) (parse_hex 255 (take 2 (drop 4 t)))
 
 unfoldable pub faulty_colour : List ℕ → Found Colour
 faulty_colour t = pick (leb 6 (length t)) (pairs t) missing
 
 -- a '+' in place of the first of a pair; White_Space as the last byte
 test-faulty : (faulty_colour (text "+a0B+cx") ≡ found (rgb 0x0a 0x0b 0x0c)) × (faulty_colour (text "00aab ") ≡ missing)
-unfolding faulty_colour pairs on_found parse_hex digits_in without_plus all_of numeral rgb is_hex_digit hex_digit text utf8 pick or and is within
+unfolding faulty_colour pairs rgb_of on_found parse_hex digits_in without_plus all_of numeral rgb is_hex_digit hex_digit text utf8 pick or and is within
 test-faulty = (refl, refl)
 
 unfoldable pub or_faulty : Found Colour → List ℕ → Found Colour

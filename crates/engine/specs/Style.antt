@@ -3,7 +3,7 @@ use Rattle.std.specs.Prelude.{ℕ, true, false}
 use Rattle.combinators.specs.Choice.{pick, is}
 use Rattle.combinators.specs.Refusal.{refused_in}
 use Rattle.styles.specs.declared.settings.Settings.{Settings}
-use Rattle.styling.specs.StyleAnswer.{StyleAnswer}
+use Rattle.styles.specs.Answer.{TextsAnswer}
 use Rattle.engine.specs.declared.style.StyleResult.{StyleResult}
 
 -- 0 is off, all else on
@@ -14,5 +14,5 @@ unfoldable pub settings_from : ℕ → Settings
 settings_from switch = record { document_styles = pick (is switch switch_off) false true }
 
 -- the answer that a struct tells
-unfoldable pub answer_in : StyleResult → StyleAnswer
+unfoldable pub answer_in : StyleResult → TextsAnswer
 answer_in r = record { refusal = refused_in r.refusal r.text r.place; texts = r.texts }

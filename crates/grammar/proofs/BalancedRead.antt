@@ -10,12 +10,11 @@ use Rattle.combinators.specs.Ascii as ascii
 use Rattle.combinators.specs.Choice.{pick, and, is}
 use Rattle.combinators.specs.Parsed.{Parsed, ok}
 use Rattle.combinators.proofs.Rules.{never}
-use Rattle.lexer.specs.Token.{Token, token_of, start_of, coded}
-use Rattle.lexer.specs.TokenRow.{columns_of}
+use Rattle.lexer.specs.Token.{Token, token_of, start_of}
 use Rattle.lexer.specs.Token as tokens
 use Rattle.lexer.specs.Whitespace.{whitespace_item}
 use Rattle.lexer.proofs.TokenBounds.{token-fits}
-use Rattle.values.specs.Value.{bracket_by, bracket_of, step_of, statement_of, is_important}
+use Rattle.values.specs.Value.{bracket_of, step_of, statement_of, is_important}
 use Rattle.values.specs.Value as values
 use Rattle.values.specs.Words.{kind_of, is_kind, is_delim}
 use Rattle.grammar.specs.Nth.{Blanks}
@@ -251,42 +250,42 @@ module _ (include : Bool) where
 
   -- at a function, the round bracket that closes it is awaited
   call-goes : (b : List ℕ) (cs : List ℕ) → step_of include (bracket_of (tokens.function b)) cs ≡ values.next (closes round ∷ cs)
-  unfolding step_of bracket_of bracket_by coded closes
+  unfolding step_of bracket_of closes
   call-goes b cs = refl
 
   -- a string is passed: the brackets that are awaited stay
   string-goes : (b : List ℕ) (cs : List ℕ) → step_of include (bracket_of (tokens.string b)) cs ≡ values.next cs
-  unfolding step_of bracket_of bracket_by coded
+  unfolding step_of bracket_of
   string-goes b cs = refl
 
   -- a semicolon inside brackets
   semicolon-goes : (c : ℕ) (cs : List ℕ) → step_of include (bracket_of tokens.semicolon) (c ∷ cs) ≡ values.next (c ∷ cs)
-  unfolding step_of bracket_of bracket_by coded values.ending
+  unfolding step_of bracket_of values.ending
   semicolon-goes c cs = refl
 
   -- a '!' is passed: the brackets that are awaited stay
   bang-goes : (cs : List ℕ) → step_of include (bracket_of (tokens.delim ascii.exclamation_mark)) cs ≡ values.next cs
-  unfolding step_of bracket_of bracket_by coded
+  unfolding step_of bracket_of
   bang-goes cs = refl
 
   -- at an opening bracket, the one that closes it is awaited before the others
   block_goes : (base : List ℕ) (b : Bracket) (v : Balanced) (fs : List Frame)
       → step_of include (bracket_of (grammar.means_opening (opening b))) (stack base fs) ≡ values.next (stack base (record { bracket = b; behind = v } ∷ fs))
-  unfolding step_of bracket_of bracket_by coded grammar.means_opening opening closes stack
+  unfolding step_of bracket_of grammar.means_opening opening closes stack
   block_goes base round v fs = refl
   block_goes base square v fs = refl
   block_goes base curly v fs = refl
 
   -- a closing bracket inside another is passed, and the others are awaited still
   close-one : (b : Bracket) (c : ℕ) (cs : List ℕ) → step_of include (bracket_of (grammar.means_closer (opening b))) (closes b ∷ c ∷ cs) ≡ values.next (c ∷ cs)
-  unfolding step_of bracket_of bracket_by coded grammar.means_closer opening closes values.closing pick is
+  unfolding step_of bracket_of grammar.means_closer opening closes values.closing pick is
   close-one round c cs = refl
   close-one square c cs = refl
   close-one curly c cs = refl
 
   -- a closing bracket that is the last awaited, and no brace, is passed, and none is awaited
   close-last : (b : Bracket) → Closable [] b [] → step_of include (bracket_of (grammar.means_closer (opening b))) (closes b ∷ []) ≡ values.next []
-  unfolding step_of bracket_of bracket_by coded grammar.means_closer opening closes values.closing pick is Closable
+  unfolding step_of bracket_of grammar.means_closer opening closes values.closing pick is Closable
   close-last round h = refl
   close-last square h = refl
   close-last curly h = absurd h
@@ -302,7 +301,7 @@ module _ (include : Bool) where
 -- brackets are no '!'
 brackets-unbanged : (b : Bracket)
     → (is_delim ascii.exclamation_mark (grammar.means_opening (opening b)) ≡ false) × (is_delim ascii.exclamation_mark (grammar.means_closer (opening b)) ≡ false)
-unfolding opening grammar.means_opening grammar.means_closer is_delim is_kind kind_of columns_of coded and is
+unfolding opening grammar.means_opening grammar.means_closer is_delim is_kind kind_of and is
 brackets-unbanged round = (refl, refl)
 brackets-unbanged square = (refl, refl)
 brackets-unbanged curly = (refl, refl)
@@ -310,7 +309,7 @@ brackets-unbanged curly = (refl, refl)
 -- nor are a string, a semicolon and a function
 others-unbanged : (b : List ℕ)
     → (is_delim ascii.exclamation_mark (tokens.string b) ≡ false) × (is_delim ascii.exclamation_mark tokens.semicolon ≡ false) × (is_delim ascii.exclamation_mark (tokens.function b) ≡ false)
-unfolding is_delim is_kind kind_of columns_of coded and is
+unfolding is_delim is_kind kind_of and is
 others-unbanged b = (refl, refl, refl)
 
 -- ---- all of a text

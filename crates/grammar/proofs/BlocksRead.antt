@@ -11,7 +11,7 @@ use Rattle.combinators.specs.Ascii as ascii
 use Rattle.combinators.specs.Choice.{pick, or, and, is, within}
 use Rattle.combinators.specs.Parsed.{ok, err, on_parsed, behind}
 use Rattle.combinators.specs.Repeat.{many, took}
-use Rattle.lexer.specs.Name.{is_nmstart, folded_char, nmstart_char_of, ident_escape_of, either, nmstart_of, name_from, dash, name_of, ident_of}
+use Rattle.lexer.specs.Name.{is_nmstart, folded_char, ident_escape_of, nmstart_of, name_from, dash, name_of, ident_of}
 use Rattle.lexer.specs.Whitespace.{is_whitespace, comment_of, whitespace_item, skip_whitespace}
 use Rattle.lexer.proofs.SyntaxWhitespace.{Blank, none, white, comment, skips-blank}
 use Rattle.syntax.specs.Declaration.{Declaration}
@@ -65,7 +65,7 @@ nexts-value (m ∷ ms) t h = before-semicolon unspaced (((m.lead.bytes ++ writte
 
 -- no declaration begins with a brace or a semicolon
 undeclared : (r : List ℕ) → (declaration_of (ascii.right_curly_bracket ∷ r) ≡ err) × (declaration_of (ascii.semicolon ∷ r) ≡ err)
-unfolding declaration_of property_of on_parsed ident_of name_of name_from dash nmstart_of either nmstart_char_of folded_char ident_escape_of is_nmstart behind skip_whitespace many took whitespace_item is_whitespace comment_of pick or and within is
+unfolding declaration_of property_of on_parsed ident_of name_of name_from dash nmstart_of folded_char ident_escape_of is_nmstart behind skip_whitespace many took whitespace_item is_whitespace comment_of pick or and within is
 undeclared r = (refl, refl)
 
 -- ---- declarations behind the first

@@ -13,9 +13,8 @@ use Rattle.combinators.specs.Choice.{pick, or, and, is, within}
 use Rattle.combinators.specs.Parsed.{ok, err, on_parsed, behind}
 use Rattle.combinators.specs.Repeat.{many, took}
 use Rattle.characters.specs.Literal.{text}
-use Rattle.lexer.specs.Name.{is_nmstart, folded_char, nmstart_char_of, ident_escape_of, either, nmstart_of, name_from, dash, name_of, ident_of, identstring_of}
-use Rattle.lexer.specs.Token.{coded, text_of, is_quote, string_of}
-use Rattle.lexer.specs.TokenRow.{columns_of}
+use Rattle.lexer.specs.Name.{is_nmstart, folded_char, ident_escape_of, nmstart_of, name_from, dash, name_of, ident_of, identstring_of}
+use Rattle.lexer.specs.Token.{text_of, is_quote, string_of}
 use Rattle.lexer.specs.Whitespace.{is_whitespace, comment_of, whitespace_item, skip_whitespace}
 use Rattle.lexer.proofs.SyntaxName.{IdentSequence, started, dashed, ident_start, ident_code_point, letter, start-code-point, hyphen-code-point, sequence-unskipped, ident-sequence, ident-string}
 use Rattle.lexer.proofs.SyntaxWhitespace.{Blank, none, skips-blank}
@@ -213,7 +212,7 @@ unquoted s e = rw (differs ident_code_point (get_or s 0 0) ascii.quotation_mark 
 
 -- a string is read whole
 quoted : (v : Quoted) (u : List ℕ) → quoted_of (v.quote ∷ (v.bytes ++ (v.quote ∷ u))) ≡ ok (1 + length v.bytes + 1) v.body
-unfolding quoted_of on_parsed is_kind kind_of columns_of coded text_of pick is
+unfolding quoted_of on_parsed is_kind kind_of text_of pick is
 quoted v u = rw (quoted-read v u)
 
 module _ (n : Name) (r : List ℕ) where
@@ -253,7 +252,7 @@ attribute-string-read n v t =
 -- ---- `:nth-child()`
 -- no name begins with a colon
 colon-unnamed : (l : List ℕ) → ident_of (ascii.colon ∷ l) ≡ err
-unfolding ident_of name_of name_from dash nmstart_of either nmstart_char_of folded_char ident_escape_of is_nmstart behind skip_whitespace many took whitespace_item is_whitespace comment_of pick or and within is
+unfolding ident_of name_of name_from dash nmstart_of folded_char ident_escape_of is_nmstart behind skip_whitespace many took whitespace_item is_whitespace comment_of pick or and within is
 colon-unnamed l = refl
 
 -- what a colon begins is a pseudo class

@@ -5,7 +5,6 @@ use mathlib.Core.List.{List, [], ◌∷◌, ◌++◌, map, append-nil}
 use Prim.Native.Nat.{ℕ, ◌+◌}
 use native.Mathlib.Omega.{arith}
 use lib.ListN.{length, get_or}
-use lib.Seq.{drop-append_seam, take-append_seam}
 use Rattle.combinators.specs.All.{All}
 use Rattle.combinators.specs.Ascii as ascii
 use Rattle.combinators.specs.Choice.{pick, or, and, is, within}
@@ -16,12 +15,11 @@ use Rattle.characters.specs.Literal.{text}
 use Rattle.characters.specs.Utf8.{utf8, continuation}
 use Rattle.lexer.specs.Name.{case_distance, lower, is_hex_digit, hex_digit}
 use Rattle.lexer.specs.Token as tokens
-use Rattle.lexer.specs.Token.{Token, ident, coded, text_of}
-use Rattle.lexer.specs.TokenRow.{columns_of}
+use Rattle.lexer.specs.Token.{Token, ident, text_of}
 use Rattle.lexer.proofs.SyntaxName.{letter, ident_start, ident_code_point}
 use Rattle.syntax.specs.Declaration as syntax
 use Rattle.syntax.specs.Declaration.{Colour, Overflow, WhiteSpace}
-use Rattle.values.specs.Words.{Entry, Found, found, missing, found_or, lookup, on_found, kind_of, token_first, number_of, unit_of, is_kind}
+use Rattle.values.specs.Words.{Entry, Found, found, missing, lookup, on_found, kind_of, number_of, unit_of, is_kind}
 use Rattle.values.specs.Colour.{rgb, colours, all_of, one_token, colour_of, hash_colour, behind_comma, background_of}
 use Rattle.values.specs.Property.{number_zero, units, any_of, height_of, first_word, overflow_of, display_of, white_space_of, content_of, properties, decl_of}
 use Rattle.values.proofs.CssColour.{six-digits, replicated, functional}
@@ -40,8 +38,8 @@ nothing a e = absurd (let z : ◌≡◌ {A = ℕ} 0 1 = cc in omega arith)
 
 module _ {A : Type 0} (P : List ℕ → A → Type 0) (w : List ℕ) (a : A) where
   -- a row, by whether it has the word
-  by_row : (t : Bool) (e : Entry A) (r : Found A) → same_text w e.word ≡ t → P e.word e.means → (r ≡ found a → P w a) → found_or t e.means r ≡ found a → P w a
-  unfolding found_or
+  by_row : (t : Bool) (e : Entry A) (r : Found A) → same_text w e.word ≡ t → P e.word e.means → (r ≡ found a → P w a) → pick t (found e.means) r ≡ found a → P w a
+  unfolding pick
   by_row true e r s h k q =
       let m : e.means ≡ a = cc in
       subst (λ (v : List ℕ). P v a) (sym (same-is w e.word s)) (subst (P e.word) m h)
@@ -69,24 +67,24 @@ unfolding any_of lookup
 unlisted w [] q = refl
 unlisted {A} w (e ∷ es) q = by_word (same_text w e.word) (any_of w (map (λ (e : Entry A). e.word) es)) (lookup w es) (unlisted w es) q
   where
-    by_word : (t b : Bool) (r : Found A) → (b ≡ false → r ≡ missing) → pick t true b ≡ false → found_or t e.means r ≡ missing
+    by_word : (t b : Bool) (r : Found A) → (b ≡ false → r ≡ missing) → pick t true b ≡ false → pick t (found e.means) r ≡ missing
     by_word true b r k q = never (sym (unfold pick in q))
-    by_word false b r k q = unfold found_or in k (unfold pick in q)
+    by_word false b r k q = unfold pick in k q
 
 -- ---- colours
 -- `one computed test': each name of the document's table is the engine's colour, and the engine has no others
 pub names-agree : All (λ (e : Entry Colour). lookup e.word colours ≡ found e.means) colour_names × (length colours ≡ length colour_names)
-unfolding lookup found_or same_text text utf8 continuation pick and is
+unfolding lookup same_text text utf8 continuation pick and is
 names-agree = ((refl, (refl, (refl, (refl, (refl, (refl, (refl, (refl, (refl, (refl, (refl, (refl, (refl, (refl, (refl, (refl, (refl, tt))))))))))))))))), refl)
 
 -- a name is looked up
 ident-colour : (w : List ℕ) → colour_of (ident w ∷ []) ≡ lookup w colours
-unfolding colour_of one_token is_kind kind_of columns_of coded text_of pick is
+unfolding colour_of one_token is_kind kind_of text_of pick is
 ident-colour w = refl
 
 -- a hash is worth its digits
 hash-colour : (b : List ℕ) → colour_of (tokens.hash b ∷ []) ≡ hash_colour b
-unfolding colour_of one_token is_kind kind_of columns_of coded text_of pick is
+unfolding colour_of one_token is_kind kind_of text_of pick is
 hash-colour b = refl
 
 -- a hexadecimal digit is one in small letters too, of the same worth
@@ -188,9 +186,9 @@ shade-background : (b : Blanks) (s : Shade) → background_of (means_values (sha
 shade-background b s = without-comma b s ∙ shade-meant b s
   where
     without-comma : (b : Blanks) (s : Shade) → background_of (means_values (shade_values b s)) ≡ colour_of (means_values (shade_values b s))
-    without-comma b (named k) = unfold background_of behind_comma means_values shade_values means_atom is_kind kind_of columns_of coded pick is in refl
-    without-comma b (three h x y z w d) = unfold background_of behind_comma means_values shade_values means_atom is_kind kind_of columns_of coded pick is in refl
-    without-comma b (six h p q x y z w e d) = unfold background_of behind_comma means_values shade_values means_atom is_kind kind_of columns_of coded pick is in refl
+    without-comma b (named k) = unfold background_of behind_comma means_values shade_values means_atom is_kind kind_of pick is in refl
+    without-comma b (three h x y z w d) = unfold background_of behind_comma means_values shade_values means_atom is_kind kind_of pick is in refl
+    without-comma b (six h p q x y z w e d) = unfold background_of behind_comma means_values shade_values means_atom is_kind kind_of pick is in refl
 
 -- ---- lengths
 -- the units of the document are the engine's
@@ -200,12 +198,12 @@ units-agree = (refl, (refl, (refl, (refl, (refl, (refl, (refl, (refl, tt))))))))
 
 -- a dimension with one of them
 dimension-height : (t u : List ℕ) (z : Bool) → any_of u units ≡ true → number_zero t ≡ z → height_of (tokens.dimension t u ∷ []) ≡ found z
-unfolding height_of is_kind kind_of token_first number_of unit_of columns_of coded text_of pick is
-dimension-height t u z h e = rw (drop-append_seam t u, take-append_seam t u, h, e)
+unfolding height_of is_kind kind_of number_of unit_of pick is
+dimension-height t u z h e = rw (h, e)
 
 -- a number that is zero
 number-height : (t : List ℕ) → number_zero t ≡ true → height_of (tokens.number t ∷ []) ≡ found true
-unfolding height_of is_kind kind_of columns_of coded text_of pick is
+unfolding height_of is_kind kind_of text_of pick is
 number-height t e = rw e
 
 -- a length is zero or not, as it means
@@ -223,7 +221,7 @@ overflow-meant k =
     row-holds (λ (w : List ℕ) (a : Overflow). overflow_of (ident w ∷ []) ≡ found a) (folded k.name) k.means overflow_words rows k.listed
   where
     rows : All (λ (e : Entry Overflow). overflow_of (ident e.word ∷ []) ≡ found e.means) overflow_words
-    rows = unfold overflow_of first_word lookup found_or on_found is_kind kind_of columns_of coded text_of same_text text utf8 continuation pick and is in (refl, (refl, (refl, (refl, tt))))
+    rows = unfold overflow_of first_word lookup on_found is_kind kind_of text_of same_text text utf8 continuation pick and is in (refl, (refl, (refl, (refl, tt))))
 
 -- each word of the document's table of `display` hides the element or does not, as the table says
 display-meant : (k : Keyword display_words) → display_of (ident (folded k.name) ∷ []) ≡ k.means
@@ -232,7 +230,7 @@ display-meant k =
   where
     rows : All (λ (e : Entry Bool). display_of (ident e.word ∷ []) ≡ e.means) display_words
     rows =
-        unfold display_of first_word lookup found_or on_found is_kind kind_of columns_of coded text_of same_text text utf8 continuation pick and is in
+        unfold display_of first_word lookup on_found is_kind kind_of text_of same_text text utf8 continuation pick and is in
         (refl, (refl, (refl, (refl, (refl, (refl, (refl, (refl, (refl, (refl, (refl, (refl, (refl, (refl, (refl, tt)))))))))))))))
 
 -- each word of the document's table of `white-space` is read as the value that the table says
@@ -241,12 +239,12 @@ white-space-meant k =
     row-holds (λ (w : List ℕ) (a : WhiteSpace). white_space_of (ident w ∷ []) ≡ a) (folded k.name) k.means white_space_words rows k.listed
   where
     rows : All (λ (e : Entry WhiteSpace). white_space_of (ident e.word ∷ []) ≡ e.means) white_space_words
-    rows = unfold white_space_of first_word lookup found_or on_found is_kind kind_of columns_of coded text_of same_text text utf8 continuation pick and is in (refl, (refl, (refl, tt)))
+    rows = unfold white_space_of first_word lookup on_found is_kind kind_of text_of same_text text utf8 continuation pick and is in (refl, (refl, (refl, tt)))
 
 -- ---- strings
 -- a string and what stands behind it
 string-content : (t : List ℕ) (ks : List Token) (r : List ℕ) → content_of ks ≡ found r → content_of (tokens.string t ∷ ks) ≡ found (t ++ r)
-unfolding content_of on_found is_kind kind_of columns_of coded text_of pick is
+unfolding content_of on_found is_kind kind_of text_of pick is
 string-content t ks r e = rw e
 
 -- so all are joined
@@ -258,7 +256,7 @@ strings-meant b (more q d s) = string-content q.body _ (means_strings s) (string
 -- ---- properties
 -- of the properties that the engine knows the name selects the reader of the value
 known-meant : (b : Blanks) (k : Known) → decl_of (known_name k) (means_values (known_values b k)) ≡ means_known k
-unfolding known_name known_values means_known decl_of lookup found_or on_found same_text text utf8 continuation pick and is
+unfolding known_name known_values means_known decl_of lookup on_found same_text text utf8 continuation pick and is
 known-meant b (color v) = rw (colour-meant b v)
 known-meant b (background_color v) = rw (colour-meant b v)
 known-meant b (background s) = rw (shade-background b s)

@@ -1,4 +1,5 @@
 -- What the reader of tokens takes of a text in which brackets match: plain characters with white space and comments, and the bracket of a function.
+use Rattle.std.specs.Option.{option_or}
 use mathlib.Core.Path.{◌≡◌, refl, ap, sym, subst, ◌∙◌}
 use mathlib.Core.Bool.{Bool, true, false}
 use mathlib.Core.List.{List, [], ◌∷◌, ◌++◌, append_assoc}
@@ -23,22 +24,21 @@ use Rattle.characters.specs.Utf8.{utf8, taken_of}
 use Rattle.combinators.specs.declared.taken.Taken.{Taken}
 use Rattle.std.specs.Prelude as option
 use Rattle.std.specs.Prelude.{Option, None}
-use Rattle.lexer.specs.Name.{is_nmstart, is_nmchar, folded_char, nmstart_char_of, nmchar_char_of, ident_escape_of, escaped_of, either, nmstart_of, nmchar_of, char_taken, chars_end, chars_text, chars_of, lower, name_from, dash, name_of, ident_of, identstring_of}
+use Rattle.lexer.specs.Name.{is_nmstart, is_nmchar, folded_char, ident_escape_of, escaped_of, nmstart_of, nmchar_of, char_taken, chars_end, chars_text, chars_of, lower, name_from, dash, name_of, ident_of, identstring_of}
 use Rattle.lexer.specs.Number.{is_digit, one_digit, digits}
 use Rattle.lexer.specs.Number as numbers
 use Rattle.lexer.specs.declared.tokens.Start.{Start}
 use Rattle.lexer.specs.declared.tokens.Start.TheVariants.{Quote, Hash, Plus, Minus, Dot, Less, Backslash, Letter, Digit, Other}
-use Rattle.lexer.specs.Token.{Token, start_of, is_ident_start, coded, is_quote, numeric_from, numeric_of, ident_like_of}
-use Rattle.lexer.specs.TokenRow.{columns_of}
+use Rattle.lexer.specs.Token.{Token, start_of, is_ident_start, is_quote, numeric_from, numeric_of, ident_like_of}
 use Rattle.lexer.specs.Token as tokens
 use Rattle.lexer.specs.Whitespace.{is_whitespace, comment_end, comment_of, whitespace_item, skip_whitespace}
 use Rattle.lexer.proofs.Comments.{above-space}
 use Rattle.lexer.proofs.Characters.{nmstart-nmchar}
 use Rattle.lexer.proofs.Idents.{char-plain, start_plain, name-some, name-none}
 use Rattle.lexer.proofs.SyntaxWhitespace.{White, Comment, none, white, comment, skips-blank}
-use Rattle.values.specs.Value.{bracket_by, bracket_of}
+use Rattle.values.specs.Value.{bracket_of}
 use Rattle.values.specs.Value as values
-use Rattle.values.specs.Words.{kind_of, token_first, is_kind, is_delim}
+use Rattle.values.specs.Words.{is_delim}
 use Rattle.grammar.specs.Nth.{Blanks}
 use Rattle.grammar.specs.Balanced.{tilde, is_plain, Bracket, round, square, curly, Balanced, end, space, remark, plain, quoted, semicolon, bang, block, opens, closes, written_balanced, is_mark, Clear, Outside, Tight, Calm}
 use Rattle.grammar.proofs.NthRead.{starts-not}
@@ -376,12 +376,12 @@ marks-plainly =
 -- ---- names and numbers
 -- the reader of a name's characters takes one where it is none of an escape
 char-takes : Takes char_taken is_nmchar
-unfolding char_taken nmchar_of nmchar_char_of folded_char ident_escape_of
+unfolding char_taken nmchar_of folded_char ident_escape_of
 char-takes s e = rw e (by-test (is_nmchar (get_or s 0 0)) _)
   where
-    by-test : (b : Bool) (x : ℕ) → taken_of (either (pick b (option.Some (record { taken = 1; value = x })) None) (pick false (escaped_of (drop 1 s)) None)) ≡ pick b 1 0
-    by-test true x = unfold taken_of either pick in refl
-    by-test false x = unfold taken_of either pick in refl
+    by-test : (b : Bool) (x : ℕ) → taken_of (option_or (pick b (option.Some (record { taken = 1; value = x })) None) (pick false (escaped_of (drop 1 s)) None)) ≡ pick b 1 0
+    by-test true x = unfold taken_of pick in refl
+    by-test false x = unfold taken_of pick in refl
 
 -- so characters of names are taken
 eat-chars : (v : Balanced) (t : List ℕ) → Halts t → Eaten v t (chars_end (written_balanced v ++ t))
@@ -596,7 +596,7 @@ chars-in t h v = pick-holds (NameIn v t) (is (chars_end (written_balanced v ++ t
 
 -- neither stands where values end
 closes-unnamed : {c : List ℕ} → Closes c → (name_of c ≡ err) × (chars_of c ≡ err) × (numbers.signed c ≡ 0) × (whitespace_item c ≡ 0)
-unfolding grammar.closer name_of name_from dash nmstart_of either nmstart_char_of folded_char ident_escape_of is_nmstart chars_of chars_end char_taken nmchar_of nmchar_char_of is_nmchar taken_of numbers.signed numbers.sign numbers.unsigned numbers.decimal digits one_digit is_digit many took whitespace_item is_whitespace comment_of pick or and within is
+unfolding grammar.closer name_of name_from dash nmstart_of folded_char ident_escape_of is_nmstart chars_of chars_end char_taken nmchar_of is_nmchar taken_of numbers.signed numbers.sign numbers.unsigned numbers.decimal digits one_digit is_digit many took whitespace_item is_whitespace comment_of pick or and within is
 closes-unnamed nothing = (refl, refl, refl, refl)
 closes-unnamed (closed (grammar.function n d) r) = (refl, refl, refl, refl)
 closes-unnamed (closed grammar.round r) = (refl, refl, refl, refl)
@@ -687,22 +687,22 @@ pub data TokenIn (v : Balanced) (t : List ℕ) : Parsed Token → Type 0 where
 
 -- numbers, percentages, hashes and names open and close nothing
 harmless-number : (b : List ℕ) → Harmless (tokens.number b) × Harmless (tokens.percentage b) × Harmless (tokens.hash b) × Harmless (tokens.ident b)
-unfolding bracket_of bracket_by coded is_delim is_kind kind_of columns_of and is
+unfolding bracket_of is_delim
 harmless-number b = ((refl, refl), (refl, refl), (refl, refl), (refl, refl))
 
 -- a dimension opens and closes nothing
 harmless-dimension : (b u : List ℕ) → Harmless (tokens.dimension b u)
-unfolding bracket_of bracket_by coded is_delim is_kind kind_of columns_of and is
+unfolding bracket_of is_delim
 harmless-dimension b u = (refl, refl)
 
 -- and a delimiter that is no '!'
 harmless-delim : (x : ℕ) → is x ascii.exclamation_mark ≡ false → Harmless (tokens.delim x)
-unfolding bracket_of bracket_by coded is_delim is_kind kind_of token_first columns_of and is
+unfolding bracket_of is_delim
 harmless-delim x e = (refl, e)
 
 -- a colon and a comma
 harmless-marks : Harmless tokens.colon × Harmless tokens.comma
-unfolding bracket_of bracket_by coded is_delim is_kind kind_of columns_of and is
+unfolding bracket_of is_delim
 harmless-marks = ((refl, refl), (refl, refl))
 
 module _ (t : List ℕ) (h : Halts t) where

@@ -16,7 +16,7 @@ use Rattle.combinators.specs.Word.{starts_with}
 use Rattle.combinators.proofs.Rules.{is-no}
 use Rattle.characters.specs.Literal.{text}
 use Rattle.characters.specs.Utf8.{utf8, continuation}
-use Rattle.lexer.specs.Name.{is_nmstart, folded_char, nmstart_char_of, ident_escape_of, either, nmstart_of, name_from, dash, name_of, ident_of}
+use Rattle.lexer.specs.Name.{is_nmstart, folded_char, ident_escape_of, nmstart_of, name_from, dash, name_of, ident_of}
 use Rattle.lexer.specs.Whitespace.{is_whitespace, comment_of, whitespace_item, skip_whitespace}
 use Rattle.lexer.proofs.SyntaxName.{IdentSequence, started, dashed, ident_start, ident_code_point, letter, start-code-point, hyphen-code-point, code-point-item}
 use Rattle.lexer.proofs.SyntaxWhitespace.{Newline, line-feed, carriage-return, form-feed, White, newline, tab, blank-space, Comment, closed, Blank, none, white, comment}
@@ -295,7 +295,7 @@ data Stops : List ℕ → Type 0 where
 
 -- where a selector stops, no component begins
 end-fails : {t : List ℕ} → Stops t → component_of t ≡ fails
-unfolding component_of marked blank_of class_of attr_of hash_of pseudo_class_of or_else parsed on_parsed ident_of name_of name_from dash nmstart_of either nmstart_char_of folded_char ident_escape_of is_nmstart parser.behind skip_whitespace many took whitespace_item is_whitespace comment_of pick or and within is
+unfolding component_of marked blank_of class_of attr_of hash_of pseudo_class_of or_else parsed on_parsed ident_of name_of name_from dash nmstart_of folded_char ident_escape_of is_nmstart parser.behind skip_whitespace many took whitespace_item is_whitespace comment_of pick or and within is
 end-fails (ends text-ends) = refl
 end-fails (ends (block t)) = refl
 end-fails (ends (another t)) = refl
@@ -565,12 +565,12 @@ body-unnamed s n c cs e q = rw (e, q.comes (length s) (omega arith), is-no (leng
 
 -- no name begins with an asterisk
 star-unnamed : (l : List ℕ) → ident_of (ascii.asterisk ∷ l) ≡ err
-unfolding ident_of name_of name_from dash nmstart_of either nmstart_char_of folded_char ident_escape_of is_nmstart parser.behind skip_whitespace many took whitespace_item is_whitespace comment_of pick or and within is
+unfolding ident_of name_of name_from dash nmstart_of folded_char ident_escape_of is_nmstart parser.behind skip_whitespace many took whitespace_item is_whitespace comment_of pick or and within is
 star-unnamed l = refl
 
 -- nor at a simple selector
 simple-unnamed : (p : Simple) (s : List ℕ) → ident_of (written_simple p ++ s) ≡ err
-unfolding written_simple ident_of name_of name_from dash nmstart_of either nmstart_char_of folded_char ident_escape_of is_nmstart parser.behind skip_whitespace many took whitespace_item is_whitespace comment_of pick or and within is
+unfolding written_simple ident_of name_of name_from dash nmstart_of folded_char ident_escape_of is_nmstart parser.behind skip_whitespace many took whitespace_item is_whitespace comment_of pick or and within is
 simple-unnamed (id n) s = refl
 simple-unnamed (class n) s = refl
 simple-unnamed (attribute n) s = refl

@@ -25,7 +25,7 @@ use Rattle.syntax.specs.Declaration as means
 use Rattle.syntax.specs.Selector as syntax
 use Rattle.values.specs.Colour.{rgb, numeral, all_of}
 use Rattle.values.specs.Property.{any_of}
-use Rattle.values.specs.Words.{lookup, found_or}
+use Rattle.values.specs.Words.{lookup}
 use Rattle.selectors.specs.Outcome.{reads}
 use Rattle.selectors.specs.Selector.{signed}
 use Rattle.sheets.specs.Sheet.{sheet_of}
@@ -111,7 +111,7 @@ unfolding is_spelt all_of ident hashed folded lower is_hex_digit ident_start ide
 dark = known (ident (text "color") refl) blank (color (shade (three (hashed (text "333") refl (omega arith)) 0x33 0x33 0x33 refl refl))) refl
 
 unfoldable bright : Declared
-unfolding is_spelt all_of spelt lookup found_or same_text text utf8 continuation pick or and is within ident folded lower ident_start ident_code_point letter known_name
+unfolding is_spelt all_of spelt lookup same_text text utf8 continuation pick or and is within ident folded lower ident_start ident_code_point letter known_name
 bright = known (ident (text "background-color") refl) blank (background_color (shade (named (record { name = ident (text "white") refl; means = rgb 255 255 255; listed = refl })))) refl
 
 -- a declaration without a mark
@@ -129,7 +129,7 @@ body =
 
 -- ---- `nav, a::before { display: none !important; }`
 unfoldable hidden : Declared
-unfolding is_spelt all_of spelt lookup found_or same_text text utf8 continuation pick or and is within ident folded lower ident_start ident_code_point letter known_name
+unfolding is_spelt all_of spelt lookup same_text text utf8 continuation pick or and is within ident folded lower ident_start ident_code_point letter known_name
 hidden = known (ident (text "display") refl) blank (display (record { name = ident (text "none") refl; means = true; listed = refl })) refl
 
 unfoldable away : Rule

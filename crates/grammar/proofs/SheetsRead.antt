@@ -14,15 +14,15 @@ use Rattle.combinators.specs.Parsed.{ok, on_parsed}
 use Rattle.combinators.specs.Parsed as parser
 use Rattle.combinators.specs.Repeat.{many, took}
 use Rattle.combinators.proofs.Rules.{never, neither}
-use Rattle.lexer.specs.Name.{is_nmstart, folded_char, nmstart_char_of, ident_escape_of, either, nmstart_of, name_from, dash, name_of, ident_of}
-use Rattle.lexer.specs.Token.{Token, token_of, coded}
+use Rattle.lexer.specs.Name.{is_nmstart, folded_char, ident_escape_of, nmstart_of, name_from, dash, name_of, ident_of}
+use Rattle.lexer.specs.Token.{Token, token_of}
 use Rattle.lexer.specs.Token as tokens
 use Rattle.lexer.specs.Whitespace.{is_whitespace, comment_of, whitespace_item, skip_whitespace}
 use Rattle.lexer.proofs.SyntaxName.{ident_code_point, ident-sequence}
 use Rattle.lexer.proofs.SyntaxWhitespace.{skips-blank}
 use Rattle.syntax.specs.Declaration.{Declaration}
 use Rattle.syntax.specs.Selector.{Selector, RuleSet}
-use Rattle.values.specs.Value.{Placed, bracket_by, bracket_of, closing, ending, step_of, Statement, stop, cons, on_step, scan, statement_of}
+use Rattle.values.specs.Value.{Placed, bracket_of, closing, ending, step_of, Statement, stop, cons, on_step, scan, statement_of}
 use Rattle.values.specs.Value as values
 use Rattle.declarations.specs.Rules.{starts_at}
 use Rattle.selectors.specs.Outcome.{reads, fails, on_outcome, behind, parsed, or_else}
@@ -77,7 +77,7 @@ statement-whole {s} {t} {cs} p n k e b =
 
 -- a semicolon ends a statement, and so does the brace that closes a block outside all brackets
 end-steps : (step_of true (bracket_of tokens.semicolon) [] ≡ values.behind) × (step_of true (bracket_of (means_closer brace)) (ascii.right_curly_bracket ∷ []) ≡ values.behind)
-unfolding step_of bracket_of bracket_by coded means_closer closing ending is pick
+unfolding step_of bracket_of means_closer closing ending is pick
 end-steps = (refl, refl)
 
 -- what is written behind the name of an at-rule
@@ -154,7 +154,7 @@ body-first (y ∷ w) z e h = e
 -- ---- an at-rule where it stands
 -- '@' begins no white space, no selector and no block
 at_first : (l : List ℕ) → (whitespace_item (ascii.commercial_at ∷ l) ≡ 0) × (selectors_of (ascii.commercial_at ∷ l) ≡ reads 0 [])
-unfolding selectors_of selector_of body_of with_element_of without_element_of some_of components_from components_of component_of marked blank_of class_of attr_of hash_of pseudo_class_of on_outcome or_else parsed on_parsed ident_of name_of name_from dash nmstart_of either nmstart_char_of folded_char ident_escape_of is_nmstart parser.behind skip_whitespace many took whitespace_item is_whitespace comment_of pick or and within is
+unfolding selectors_of selector_of body_of with_element_of without_element_of some_of components_from components_of component_of marked blank_of class_of attr_of hash_of pseudo_class_of on_outcome or_else parsed on_parsed ident_of name_of name_from dash nmstart_of folded_char ident_escape_of is_nmstart parser.behind skip_whitespace many took whitespace_item is_whitespace comment_of pick or and within is
 at_first l = (refl, refl)
 
 -- where no selector stands behind white space, and no block, there is no rule
@@ -330,7 +330,7 @@ statements-item (at_rule a ∷ ss) =
 
 -- nothing begins at the end of the text
 end-first : (whitespace_item [] ≡ 0) × (selectors_of [] ≡ reads 0 [])
-unfolding selectors_of selector_of body_of with_element_of without_element_of some_of components_from components_of on_outcome or_else on_parsed ident_of name_of name_from dash nmstart_of either nmstart_char_of folded_char ident_escape_of is_nmstart parser.behind skip_whitespace many took whitespace_item is_whitespace comment_of pick or and within is
+unfolding selectors_of selector_of body_of with_element_of without_element_of some_of components_from components_of on_outcome or_else on_parsed ident_of name_of name_from dash nmstart_of folded_char ident_escape_of is_nmstart parser.behind skip_whitespace many took whitespace_item is_whitespace comment_of pick or and within is
 end-first = (refl, refl)
 
 -- so white space alone is no statement

@@ -15,7 +15,8 @@ use Rattle.combinators.specs.Parsed.{ok}
 use Rattle.combinators.specs.Repeat.{many, texts}
 use Rattle.combinators.proofs.Repeats.{many-took, many-from, texts-took}
 use Rattle.combinators.proofs.Rules.{never, and-true, is-yes, is-no}
-use Rattle.lexer.specs.Quoted.{one_byte, no_byte, escaped_byte, quoted_of, taken_of, text_by, text_of, quoted_taken, quoted_text, string_end, string_text}
+use Rattle.characters.specs.Utf8.{taken_of}
+use Rattle.lexer.specs.Quoted.{one_byte, no_byte, escaped_byte, quoted_of, text_of, quoted_taken, quoted_text, string_end, string_text}
 use Rattle.lexer.specs.Token.{string, is_quote, string_from, string_of}
 use Rattle.lexer.proofs.SyntaxString.{ordinary, plain, string-quote}
 use Rattle.grammar.specs.Selectors.{Within, nothing, byte, escaped, continued, Quoted}
@@ -93,7 +94,7 @@ module _ (q : ℕ) (h : is_quote q ≡ true) where
 
     -- and the text that it is
     within_text : {w b : List ℕ} → Within q w b → texts (quoted_taken q) (quoted_text q) 0 (w ++ (q ∷ u)) ≡ b
-    unfolding quoted_taken quoted_text taken_of text_by text_of
+    unfolding quoted_taken quoted_text taken_of text_of
     within_text nothing = quote-text
     within_text (byte {x} {w} e s) =
         let p = byte-read q x (w ++ (q ∷ u)) e in

@@ -22,7 +22,7 @@ use Rattle.characters.specs.Literal.{text}
 use Rattle.characters.specs.Utf8.{utf8, scalar_of, taken_of}
 use Rattle.characters.proofs.RoundTrip.{ascii-read}
 use Rattle.std.specs.Prelude.{None}
-use Rattle.lexer.specs.Name.{is_nmstart, is_nmchar, lower, nmstart_char_of, nmchar_char_of, nmstart_of, nmchar_of, char_taken, char_text, chars_end, chars_text, chars_of, dash, name_of, ident_of, identstring_of}
+use Rattle.lexer.specs.Name.{is_nmstart, is_nmchar, lower, nmstart_of, nmchar_of, char_taken, char_text, chars_end, chars_text, chars_of, dash, name_of, ident_of, identstring_of}
 use Rattle.lexer.specs.Number.{is_digit, one_digit, digits}
 use Rattle.lexer.specs.Number as numbers
 use Rattle.lexer.specs.Token as tokens
@@ -30,6 +30,7 @@ use Rattle.lexer.specs.Token.{Token, numeric_from, numeric_of, ident_like_of, is
 use Rattle.lexer.specs.Whitespace.{is_whitespace, comment_of, whitespace_item, skip_whitespace}
 use Rattle.lexer.specs.declared.tokens.Start.{Start}
 use Rattle.lexer.specs.declared.tokens.Start.TheVariants.{Quote, Letter, Digit, Other}
+use Rattle.lexer.proofs.Starts.{by-start}
 use Rattle.lexer.proofs.SyntaxName.{Each, none, more, IdentSequence, started, dashed, ident_start, ident_code_point, letter, start-code-point, code-point-item, hyphen-code-point, ident-sequence, start_is, code-point-is}
 use Rattle.lexer.proofs.SyntaxWhitespace.{skips-blank}
 use Rattle.lexer.proofs.SyntaxWhitespace as blanks
@@ -64,7 +65,7 @@ module _ (b : Blanks) (t : List ℕ) (n : ℕ) (k : Token) (h : Begins t n k) wh
 -- the reader that it selects
 pub begins-by : (x : ℕ) (l : List ℕ) (n : ℕ) (k : Token) → whitespace_item (x ∷ l) ≡ 0 → x ≤ 0x7f → token_by (start_of x) 1 x (x ∷ l) ≡ ok n k → Begins (x ∷ l) n k
 unfolding token_at
-begins-by x l n k e h p = record { item = e; reads = rw (ascii-read x l h, p) }
+begins-by x l n k e h p = record { item = e; reads = rw (ascii-read x l h, by-start 1 x (x ∷ l), p) }
 
 -- ---- names: 4.3.4, Consume an ident-like token
 -- no mark is an ident-start code point
@@ -191,7 +192,7 @@ function-token n t = name-begins n.bytes (ascii.left_parenthesis ∷ t) _ _ n.se
 -- ---- hashes: 4.3.1, U+0023 NUMBER SIGN
 -- no character of a name is read where a name ends
 unread : (t : List ℕ) → NameEnds t → nmchar_of t ≡ None
-unfolding nmchar_of nmchar_char_of
+unfolding nmchar_of
 unread t h =
     let p = char-no is_nmchar t _ refl _ refl (sym (code-point-is _) ∙ h.no-character) in
     sym (either_second _ _ _ p refl _ (escape-no t _ refl (is-no _ _ h.no-escape)))
@@ -392,7 +393,7 @@ module _ (m u : List ℕ) where
 
 -- no character that does not start a name is read as one that does
 no_start : (t : List ℕ) → ident_start (get_or t 0 0) ≡ false → is (get_or t 0 0) ascii.reverse_solidus ≡ false → nmstart_of t ≡ None
-unfolding nmstart_of nmstart_char_of
+unfolding nmstart_of
 no_start t e d =
     let p = char-no is_nmstart t _ refl _ refl (sym (start_is (get_or t 0 0)) ∙ e) in
     sym (either_second _ _ _ p refl _ (escape-no t _ refl d))

@@ -25,8 +25,8 @@ use Rattle.lexer.specs.Whitespace.{is_whitespace, comment_of, whitespace_item, s
 use Rattle.lexer.proofs.SyntaxName.{ident_start, ident_code_point, letter}
 use Rattle.lexer.proofs.SyntaxWhitespace.{Blank, none, white, comment, skips-blank}
 use Rattle.lexer.proofs.TokenBounds.{token-fits}
-use Rattle.values.specs.Value.{Placed, bracket_by, bracket_of, next, before, closing, ending, step_of, Statement, stop, cons, on_step, scan, statement_of, tokens_of, is_mark, is_important, without_mark, value_from, value_of}
-use Rattle.values.specs.Words.{kind_of, token_first, is_kind, is_word, is_delim}
+use Rattle.values.specs.Value.{Placed, bracket_of, next, before, closing, ending, step_of, Statement, stop, cons, on_step, scan, statement_of, tokens_of, is_mark, is_important, without_mark, value_from, value_of}
+use Rattle.values.specs.Words.{kind_of, is_kind, is_word, is_delim}
 use Rattle.grammar.specs.Nth.{Blanks}
 use Rattle.grammar.specs.Tokens.{is_delimiter, Atom, word, string, hash, number, percentage, dimension, comma, colon, semicolon, delimiter, point, hyphen, addition, Opening, function, round, square, brace, written_atom, written_opening, closer, means_atom, means_opening, means_closer, ends_name, begins_name, begins_number, may_follow, MayFollow, EndsBefore, Ident, folded}
 use Rattle.grammar.specs.Values.{Values, end, then, block, written_values, means_values, Follows, Apart, is_semicolon, is_bang, is_brace, Outermost, Unmarked, DeclarationValue, Importance, normal, important, written_importance, is_marked}
@@ -140,7 +140,7 @@ within_block (c ∷ cs) b o w v h = tt
 module _ (include : Bool) (b : Blanks) where
   -- an atom opens and closes nothing
   atom-goes : (a : Atom) (v : Values) (cs : List ℕ) → Within cs (then b a v) → step_of include (bracket_of (means_atom a)) cs ≡ next cs
-  unfolding step_of bracket_of bracket_by coded means_atom ending Within Outermost is_semicolon
+  unfolding step_of bracket_of means_atom ending Within Outermost is_semicolon
   atom-goes (word n) v cs h = refl
   atom-goes (string q) v cs h = refl
   atom-goes (hash g) v cs h = refl
@@ -158,7 +158,7 @@ module _ (include : Bool) (b : Blanks) where
 
   -- an opening token awaits its closing one
   pub opening-goes : (o : Opening) (cs : List ℕ) → step_of include (bracket_of (means_opening o)) cs ≡ next (closer o ∷ cs)
-  unfolding step_of bracket_of bracket_by coded means_opening closer
+  unfolding step_of bracket_of means_opening closer
   opening-goes (function n d) cs = refl
   opening-goes round cs = refl
   opening-goes square cs = refl
@@ -166,7 +166,7 @@ module _ (include : Bool) (b : Blanks) where
 
   -- which closes it, and the statement goes on, but for a brace outside all brackets
   closing-goes : (o : Opening) (w v : Values) (cs : List ℕ) → Within cs (block b o w v) → step_of include (bracket_of (means_closer o)) (closer o ∷ cs) ≡ next cs
-  unfolding step_of bracket_of bracket_by coded means_closer closer closing pick is Within Outermost is_brace
+  unfolding step_of bracket_of means_closer closer closing pick is Within Outermost is_brace
   closing-goes (function n d) w v [] h = refl
   closing-goes (function n d) w v (c ∷ cs) h = refl
   closing-goes round w v [] h = refl
@@ -355,7 +355,7 @@ closer-halts o r = halts {l = []} none (closed o r)
 -- ---- the last two tokens of a value
 -- both of the mark go on
 mark-goes : (step_of false (bracket_of (tokens.delim ascii.exclamation_mark)) [] ≡ next []) × (step_of false (bracket_of (tokens.ident (text "important"))) [] ≡ next [])
-unfolding step_of bracket_of bracket_by coded
+unfolding step_of bracket_of
 mark-goes = (refl, refl)
 
 -- one that is no '!' is not of the mark
@@ -376,7 +376,7 @@ plain-behind (x ∷ z ∷ a ∷ xs) k ys e = plain-behind (z ∷ a ∷ xs) k ys 
 
 -- an atom that is no '!'
 atom-plain : (a : Atom) → is_bang a ≡ false → is_delim ascii.exclamation_mark (means_atom a) ≡ false
-unfolding is_bang means_atom is_delim is_kind kind_of token_first columns_of coded and is
+unfolding is_bang means_atom is_delim is_kind kind_of and is
 atom-plain (word n) e = refl
 atom-plain (string q) e = refl
 atom-plain (hash h) e = refl
@@ -394,7 +394,7 @@ atom-plain addition e = refl
 -- nor is a bracket, which is no word either
 brackets-plain : (o : Opening) → (is_delim ascii.exclamation_mark (means_opening o) ≡ false) × (is_delim ascii.exclamation_mark (means_closer o) ≡ false)
     × (is_word (text "important") (means_closer o) ≡ false)
-unfolding means_opening means_closer is_delim is_word is_kind kind_of columns_of coded and is
+unfolding means_opening means_closer is_delim is_word is_kind kind_of and is
 brackets-plain (function n d) = (refl, refl, refl)
 brackets-plain round = (refl, refl, refl)
 brackets-plain square = (refl, refl, refl)
@@ -425,7 +425,7 @@ mark_tokens = tokens.delim ascii.exclamation_mark ∷ tokens.ident (text "import
 -- behind any tokens they are the mark
 marked-is : (ks : List Token) → is_important (ks ++ mark_tokens) ≡ true
 unfolding is_important
-marked-is [] = unfold is_mark is_delim is_word is_kind kind_of token_first text_of columns_of coded same_text and is text utf8 pick in refl
+marked-is [] = unfold is_mark is_delim is_word is_kind kind_of text_of columns_of coded same_text and is text utf8 pick in refl
 marked-is (a ∷ []) = marked-is []
 marked-is (a ∷ b ∷ []) = marked-is (b ∷ [])
 marked-is (a ∷ b ∷ c ∷ ks) = marked-is (b ∷ c ∷ ks)
@@ -433,7 +433,7 @@ marked-is (a ∷ b ∷ c ∷ ks) = marked-is (b ∷ c ∷ ks)
 -- the mark behind tokens is taken off, and the tokens are left
 marked-without : (ks : List Token) → without_mark (ks ++ mark_tokens) ≡ ks
 unfolding without_mark
-marked-without [] = unfold is_mark is_delim is_word is_kind kind_of token_first text_of columns_of coded same_text and is text utf8 pick in refl
+marked-without [] = unfold is_mark is_delim is_word is_kind kind_of text_of columns_of coded same_text and is text utf8 pick in refl
 marked-without (a ∷ []) = ap (λ (l : List Token). a ∷ l) (marked-without [])
 marked-without (a ∷ b ∷ []) = ap (λ (l : List Token). a ∷ l) (marked-without (b ∷ []))
 marked-without (a ∷ b ∷ c ∷ ks) = ap (λ (l : List Token). a ∷ l) (marked-without (b ∷ c ∷ ks))
@@ -510,7 +510,7 @@ blank-token b = rw (blank-skipped b, drop_of_length-le b.bytes {i = length b.byt
 
 -- the marks that end a statement
 mark-steps : (step_of false (bracket_of tokens.semicolon) [] ≡ before) × (step_of false (bracket_of (means_closer brace)) [] ≡ before)
-unfolding step_of bracket_of bracket_by coded means_atom means_closer closing ending is pick
+unfolding step_of bracket_of means_atom means_closer closing ending is pick
 mark-steps = (refl, refl)
 
 -- so the tokens of a value stop where it ends

@@ -5,7 +5,7 @@ use mathlib.Core.Bool.{Bool, true, false}
 use mathlib.Core.List.{List, []}
 use native.Mathlib.Omega.{arith}
 use lib.ListN.{length, get_or, take, drop}
-use lib.Seq.{sets, drop-drop, take_at, drop_at}
+use lib.Seq.{sets, drop-drop}
 use Rattle.std.specs.Int.{from_bool}
 use Rattle.combinators.specs.Ascii.{percent_sign, plus_sign}
 use Rattle.combinators.specs.Choice.{pick, is}
@@ -14,8 +14,7 @@ use Rattle.combinators.specs.Part.{part}
 use Rattle.combinators.proofs.Lists.{rest, byte-there}
 use Rattle.combinators.proofs.Rules.{pick_true, pick-false, pick-holds, is-yes, is-no, told}
 use Rattle.lexer.specs.Name.{ident_of, name_answer, name_text}
-use Rattle.lexer.specs.Token.{Token, number, dimension, percentage, numeric_from, coded, text_of}
-use Rattle.lexer.specs.TokenRow.{columns_of}
+use Rattle.lexer.specs.Token.{Token, number, dimension, percentage, numeric_from, text_of}
 use Rattle.lexer.specs.Whitespace.{skip_whitespace}
 use Rattle.lexer.specs.declared.Written.{Written}
 use Rattle.lexer.proofs.Bounds.{Fits, bound-two}
@@ -23,7 +22,7 @@ use Rattle.lexer.proofs.IdentBounds.{ident-fits}
 use Rattle.lexer.proofs.TokenAnswers.{name-ok}
 use Rattle.lexer.proofs.NameAnswers.{unnamed-from}
 use Rattle.syntax.proofs.Streams.{held-part, sets-held}
-use Rattle.values.specs.Words.{is_kind, kind_of, token_first, number_of, unit_of}
+use Rattle.values.specs.Words.{is_kind, kind_of, number_of, unit_of}
 use Rattle.lengths.specs.Number as numbers
 use Rattle.lengths.specs.Number.{numeric_of, plus, text_start, numeric_token}
 use Rattle.lengths.specs.Length.{dimension_length, number_length, token_length, only_whitespace, length_of}
@@ -104,17 +103,17 @@ module _ (place : ℕ) (n t : List ℕ) where
 module _ (place : ℕ) (n u : List ℕ) where
   -- the length of a dimension is that of its number with its unit
   of-dimension : token_length place (dimension n u) ≡ dimension_length place n u
-  unfolding token_length is_kind kind_of token_first number_of unit_of coded columns_of text_of pick is
-  of-dimension = rw (take_at n u (length n) refl, drop_at n u (length n) refl)
+  unfolding token_length is_kind kind_of number_of unit_of pick is
+  of-dimension = refl
 
   -- the length of a number is that of a number without a unit
   of_number : token_length place (number n) ≡ number_length n
-  unfolding token_length is_kind kind_of coded columns_of text_of pick is
+  unfolding token_length is_kind kind_of text_of pick is
   of_number = refl
 
   -- a percentage is no length
   of-percentage : token_length place (percentage n) ≡ Ok None
-  unfolding token_length is_kind kind_of coded columns_of text_of pick is
+  unfolding token_length is_kind kind_of text_of pick is
   of-percentage = refl
 
 -- ---- `length_of`: the token at the start of the number's text

@@ -1,12 +1,12 @@
 -- What `height_length` answers and leaves: the refusals of documents 01 and 02 in their order, or the length that the value is.
-use Rattle.std.specs.Prelude.{ℕ, Option, Some, None, Result, Ok, Err, List, ltb, length, replicate}
+use Rattle.std.specs.Prelude.{ℕ, Option, Some, None, Result, Ok, Err, List, ltb, length}
 use Rattle.combinators.specs.Choice.{pick}
 use Rattle.combinators.specs.LeastLengths.{stores_suffice}
 use Rattle.combinators.specs.Refusal.{no_refusal, refused, refused_at, too_long, short_store, not_utf8, bad_length}
 use Rattle.combinators.specs.declared.lent.Stores.{Stores}
 use Rattle.combinators.specs.declared.refusals.Refusal.{Refusal}
 use Rattle.characters.specs.Utf8.{valid}
-use Rattle.sheets.specs.SheetAnswer.{sheet_limit}
+use Rattle.sheets.specs.SheetAnswer.{sheet_limit, zeros}
 use Rattle.lengths.specs.Unit.{no_kind, kind_number}
 use Rattle.lengths.specs.Length.{length_of}
 use Rattle.lengths.specs.declared.answers.LengthNumbers.{LengthNumbers}
@@ -45,13 +45,7 @@ leaving a stores = record { answer = a; rules = stores.rules.now; tokens = store
 -- "this call, S-8's and S-10's leave the text store zero", and all others are work stores; after 12 "buffers are then as after 4"
 unfoldable pub length_left : List ℕ → List ℕ → List ℕ → List ℕ → List ℕ → LengthLeft
 length_left s rules tokens brackets texts =
-    record {
-      answer = numbers_of (length_of s);
-      rules = replicate (length rules) 0;
-      tokens = replicate (length tokens) 0;
-      brackets = replicate (length brackets) 0;
-      texts = replicate (length texts) 0;
-    }
+    record { answer = numbers_of (length_of s); rules = zeros rules; tokens = zeros tokens; brackets = zeros brackets; texts = zeros texts }
 
 -- "after others it is unchanged"
 unfoldable pub unchanged : Refusal → List ℕ → List ℕ → List ℕ → List ℕ → LengthLeft

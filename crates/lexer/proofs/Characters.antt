@@ -1,4 +1,5 @@
 -- One character of a name: it takes a byte or more, no more than there are, and its text keeps to the bound.
+use Rattle.std.specs.Option.{option_or}
 use Rattle.std.proofs.Common.{Option, Some, None}
 use mathlib.Core.Path.{◌≡◌, refl, ap}
 use mathlib.Core.List.{List, [], ◌∷◌}
@@ -15,7 +16,7 @@ use Rattle.characters.specs.Utf8.{utf8, or_replacement, replacement_character, s
 use Rattle.combinators.specs.declared.taken.Taken.{Taken}
 use Rattle.characters.proofs.Scalars.{utf8-ascii, utf8-le, utf8-small, or-replacement-same}
 use Rattle.characters.proofs.RoundTrip.{written_back}
-use Rattle.lexer.specs.Name.{is_nmstart, is_nmchar, lower, folded_char, nmchar_char_of, is_hex_digit, hex_run, maximum_digits, hex_count, hex_value, behind_one, escaped_of, ident_escape_of, either, nmchar_of, bytes_of, char_taken, char_text}
+use Rattle.lexer.specs.Name.{is_nmstart, is_nmchar, lower, folded_char, is_hex_digit, hex_run, maximum_digits, hex_count, hex_value, behind_one, escaped_of, ident_escape_of, nmchar_of, bytes_of, char_taken, char_text}
 use Rattle.lexer.proofs.Bounds.{Bound, short, lone, Fits}
 use Rattle.lexer.proofs.Escapes.{power_of_sixteen, value-lt}
 
@@ -59,8 +60,8 @@ pub lower-byte : (x : ℕ) → is_nmchar x ≡ true → utf8 (lower x) ≡ lower
 lower-byte x e = utf8-ascii _ (lower-le x (nmchar-le x e))
 
 -- a character that is no escape takes one byte that is there, or nothing, and its text keeps to the bound
-nmchar-char-fine : (s : List ℕ) → Fine s (nmchar_char_of s)
-unfolding nmchar_char_of folded_char
+nmchar-char-fine : (s : List ℕ) → Fine s (folded_char is_nmchar s)
+unfolding folded_char
 nmchar-char-fine s =
     pick-holds (Fine s) _ _ _
     (λ e. record {
@@ -194,8 +195,7 @@ escape-fine s = pick-holds (Fine s) _ _ _ (λ e. escaped-fine s (is_true _ _ e))
 
 -- ---- either of both
 -- where both alternatives keep to the bounds, so does the first that reads
-either-fine : (s : List ℕ) (a b : Option (Taken ℕ)) → Fine s a → Fine s b → Fine s (either a b)
-unfolding either
+either-fine : (s : List ℕ) (a b : Option (Taken ℕ)) → Fine s a → Fine s b → Fine s (option_or a b)
 either-fine s (Some c) b p q = p
 either-fine s None b p q = q
 

@@ -16,6 +16,7 @@ use Rattle.lexer.specs.Token.{Token, delim, numeric_from, numeric_of, ident_like
 use Rattle.lexer.specs.declared.tokens.Start.{Start}
 use Rattle.lexer.specs.declared.tokens.Start.TheVariants.{Quote, Hash, Plus, Minus, Dot, Less, Backslash, Letter, Digit, Other}
 use Rattle.lexer.proofs.TokenBounds.{on-holds}
+use Rattle.lexer.proofs.Starts.{by-start}
 
 -- ---- a reading that gives a delimiter only where it is a scalar value
 abbrev Only : Parsed Token → Type 0
@@ -93,7 +94,7 @@ module _ (c : ℕ) (h : is_scalar c ≡ true) where
 -- where no white space is
 at_only : (t : List ℕ) (x : Option (Taken ℕ)) → scalar_of t ≡ x → Only (token_at t x)
 unfolding token_at
-at_only t (Some c) e = by_only c.value (written_back t c.taken c.value e).scalar (start_of c.value) c.taken t
+at_only t (Some c) e = rw (by-start c.taken c.value t) (by_only c.value (written_back t c.taken c.value e).scalar (start_of c.value) c.taken t)
 at_only t None h = λ n d e. cc
 
 -- a delimiter is a scalar value

@@ -1,4 +1,5 @@
 -- How large the number is that hex digits write, and the returns of the readers of one character.
+use Rattle.std.specs.Option.{option_or}
 use Rattle.std.proofs.Common.{Option, Some, None, MatchOption}
 use mathlib.Core.Path.{◌≡◌, refl, ap, sym, ◌∙◌}
 use mathlib.Core.List.{List, [], ◌∷◌}
@@ -17,7 +18,7 @@ use Rattle.combinators.proofs.Rules.{pick-holds, pick_true, pick-false, told, is
 use Rattle.combinators.proofs.Lists.{first}
 use Rattle.characters.specs.Utf8.{or_replacement}
 use Rattle.combinators.specs.declared.taken.Taken.{Taken}
-use Rattle.lexer.specs.Name.{lower, is_hex_digit, hex_digit, hex_run, maximum_digits, hex_count, hex_value, escaped_of, ident_escape_of, folded_char, either}
+use Rattle.lexer.specs.Name.{lower, is_hex_digit, hex_digit, hex_run, maximum_digits, hex_count, hex_value, escaped_of, ident_escape_of, folded_char}
 
 -- ---- how large the number is that hex digits write
 -- what k of them write is below this
@@ -146,15 +147,13 @@ escape-yes s t h x ex = pick_true _ _ _ _ (sym (backslash-told s) ∙ h.0) (ex �
 -- ---- the returns of `nmstart` and `nmchar`
 module _ (x a b : Option (Taken ℕ)) (ex : x ≡ a) where
   -- where the first does not, the second is the answer
-  pub either_second : x ≡ None → (y : Option (Taken ℕ)) → y ≡ b → y ≡ either a b
-  unfolding either
+  pub either_second : x ≡ None → (y : Option (Taken ℕ)) → y ≡ b → y ≡ option_or a b
   either_second h y ey = rw (sym ex ∙ h) ey
 
   -- both at once, as `or_else` answers
-  pub either-by : {E : Type 0} (r : Option (Taken ℕ)) → MatchOption x E (λ c. r ≡ Some c) → (E → r ≡ b) → r ≡ either a b
-  unfolding either
+  pub either-by : {E : Type 0} (r : Option (Taken ℕ)) → MatchOption x E (λ c. r ≡ Some c) → (E → r ≡ b) → r ≡ option_or a b
   either-by {E = E} r m f = go x ex m
     where
-      go : (y : Option (Taken ℕ)) → y ≡ a → MatchOption y E (λ c. r ≡ Some c) → r ≡ either a b
+      go : (y : Option (Taken ℕ)) → y ≡ a → MatchOption y E (λ c. r ≡ Some c) → r ≡ option_or a b
       go (Some c) e m = rw (← e) m
       go None e m = rw (← e) (f m)

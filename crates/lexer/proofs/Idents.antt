@@ -22,7 +22,7 @@ use Rattle.combinators.proofs.Lists.{rest, inside, front-one, byte-there}
 use Rattle.characters.specs.Utf8.{utf8}
 use Rattle.combinators.specs.declared.taken.Taken.{Taken}
 use Rattle.lexer.specs.Whitespace.{skip_whitespace}
-use Rattle.lexer.specs.Name.{is_nmstart, is_nmchar, lower, nmstart_char_of, nmchar_char_of, ident_escape_of, either, nmstart_of, nmchar_of, chars_end, chars_text, name_from, dash, name_of, chars_of, name_answer, name_text}
+use Rattle.lexer.specs.Name.{is_nmstart, is_nmchar, lower, ident_escape_of, nmstart_of, nmchar_of, chars_end, chars_text, name_from, dash, name_of, chars_of, name_answer, name_text}
 use Rattle.lexer.specs.declared.Written.{Written}
 use Rattle.lexer.proofs.Bounds.{none_of}
 use Rattle.lexer.proofs.Escapes.{char-yes, char-no}
@@ -41,23 +41,23 @@ dash-yes = (refl, refl, refl)
 
 -- a character of names that is no escape
 pub char-plain : (s : List ℕ) → is_nmchar (get_or s 0 0) ≡ true → nmchar_of s ≡ Some (record { taken = 1; value = lower (get_or s 0 0) })
-unfolding nmchar_of nmchar_char_of either
+unfolding nmchar_of
 char-plain s e = rw (← char-yes is_nmchar s _ refl _ refl e _ refl)
 
 -- one that starts a name
 pub start_plain : (s : List ℕ) → is_nmstart (get_or s 0 0) ≡ true → nmstart_of s ≡ nmchar_of s
-unfolding nmstart_of nmstart_char_of either is_nmchar
+unfolding nmstart_of is_nmchar
 start_plain s e = rw (← char-yes is_nmstart s _ refl _ refl e _ refl) (sym (char-plain s (or_left _ _ e)))
 
 -- at a backslash, what starts a name is any character of names
 start-escape : (s : List ℕ) → get_or s 0 0 ≡ reverse_solidus → nmstart_of s ≡ nmchar_of s
-unfolding nmstart_of nmstart_char_of nmchar_of nmchar_char_of either
+unfolding nmstart_of nmchar_of
 start-escape s e =
     rw (← char-no is_nmstart s _ refl _ refl (ap is_nmstart e ∙ slash-no.0), ← char-no is_nmchar s _ refl _ refl (ap is_nmchar e ∙ slash-no.1))
 
 -- where the first byte can start no name and is no backslash, nothing starts a name
 start_none : (s : List ℕ) → is_nmstart (get_or s 0 0) ≡ false → is (get_or s 0 0) reverse_solidus ≡ false → nmstart_of s ≡ None
-unfolding nmstart_of nmstart_char_of ident_escape_of either pick
+unfolding nmstart_of ident_escape_of pick
 start_none s e d = rw (← char-no is_nmstart s _ refl _ refl e, d)
 
 -- what starts a name reads as a character of a name does

@@ -19,6 +19,7 @@ use Rattle.lexer.specs.Token.{Token, start_of, mark_of, token_by, token_at, toke
 use Rattle.lexer.specs.declared.tokens.Lexed.{Lexed}
 use Rattle.lexer.specs.declared.tokens.Start.{Start}
 use Rattle.lexer.specs.declared.tokens.Token as declared
+use Rattle.lexer.proofs.Starts.{by-start}
 use Rattle.lexer.proofs.TokenAnswers.{Lexes, lexes-err}
 
 -- ---- `token_by`
@@ -59,7 +60,7 @@ module _ (t st : List ℕ) (fill : ℕ) (x : Option (Taken ℕ)) (ex : x ≡ sca
   pub at-char : (n c : ℕ) → x ≡ Some (record { taken = n; value = c }) → (r : Option (Taken declared.Token)) (z : List ℕ) → Lexes (token_by (start_of c) n c t) st fill r z
       → Lexes (token_at t (scalar_of t)) st fill r z
   unfolding token_at
-  at-char n c h r z w = rw (sym ex ∙ h) w
+  at-char n c h r z w = rw (sym ex ∙ h, by-start n c t) w
 
   -- where no character can be read, there is no token and the store is as it was
   pub at_none : x ≡ None → Lexes (token_at t (scalar_of t)) st fill None st

@@ -1,4 +1,5 @@
 -- The characters of a quoted string: what one takes and stands for, where the string ends, and how long its text is.
+use Rattle.std.specs.Prelude.{option_to_list}
 use Rattle.std.proofs.lemmas.Option.{same_Some, none-some}
 use Rattle.std.proofs.Common.{Option, Some, None}
 use mathlib.Core.Path.{◌≡◌, refl, sym, ap, ◌∙◌}
@@ -15,7 +16,8 @@ use Rattle.combinators.proofs.Rules.{pick-holds, is_true, is_false}
 use Rattle.combinators.proofs.Lists.{rest, first}
 use Rattle.combinators.proofs.Repeats.{many-le}
 use Rattle.combinators.proofs.Emitted.{emits_none}
-use Rattle.lexer.specs.Quoted.{one_byte, no_byte, escaped_byte, quoted_of, taken_of, text_by, text_of, quoted_answer, quoted_taken, quoted_text, string_end, string_text}
+use Rattle.characters.specs.Utf8.{taken_of}
+use Rattle.lexer.specs.Quoted.{one_byte, no_byte, escaped_byte, quoted_of, text_of, quoted_answer, quoted_taken, quoted_text, string_end, string_text}
 use Rattle.combinators.specs.declared.taken.Taken.{Taken}
 use Rattle.lexer.specs.declared.Written.{Written}
 use Rattle.lexer.proofs.Bounds.{repeated-short, many-stops}
@@ -29,12 +31,12 @@ record Fine (s : List ℕ) (c : Option (Taken (Option ℕ))) : Type 0 where
 
 -- by the cases of a turn
 fine-byte : (s : List ℕ) (n b : ℕ) → n ≤ length s → 1 ≤ n → Fine s (Some (one_byte n b))
-unfolding taken_of text_of text_by
+unfolding taken_of text_of
 fine-byte s n b h l = record { within_text = h; small = l; some = λ _ _. l }
 
 -- bytes that stand for nothing, no more than there are, are fine
 fine-skip : (s : List ℕ) (n : ℕ) → n ≤ length s → 1 ≤ n → Fine s (Some (no_byte n))
-unfolding taken_of text_of text_by
+unfolding taken_of text_of
 fine-skip s n h l = record { within_text = h; small = omega arith; some = λ _ _. l }
 
 -- the end of a string, which takes nothing, is fine
@@ -75,13 +77,13 @@ module _ (q : ℕ) (s : List ℕ) (x : Option (Taken (Option ℕ))) (e : x ≡ q
   -- where a byte of text was read: so many bytes are taken, for one byte
   pub turn_byte : (c : Taken (Option ℕ)) → x ≡ Some c → (b : ℕ) → c.value ≡ Some b
       → (Some (record { taken = c.taken; length = 1 }) ≡ quoted_answer (quoted_of q s)) × (b ∷ [] ≡ quoted_text q s)
-  unfolding quoted_answer quoted_text text_of text_by
+  unfolding quoted_answer quoted_text text_of
   turn_byte c h b k = rw (← e, h, k) (refl, refl)
 
   -- bytes that stand for nothing
   pub turn-none : (c : Taken (Option ℕ)) → x ≡ Some c → c.value ≡ None
       → (Some (record { taken = c.taken; length = 0 }) ≡ quoted_answer (quoted_of q s)) × ([] ≡ quoted_text q s)
-  unfolding quoted_answer quoted_text text_of text_by
+  unfolding quoted_answer quoted_text text_of
   turn-none c h k = rw (← e, h, k) (refl, refl)
 
   -- the end of the string
@@ -93,7 +95,7 @@ module _ (q : ℕ) (s : List ℕ) (x : Option (Taken (Option ℕ))) (e : x ≡ q
 answer-some : (c : Option (Taken (Option ℕ))) (k m : ℕ) → Some (record { taken = k; length = m }) ≡ quoted_answer c → (taken_of c ≡ k) × (m ≡ length (text_of c)) × (¬ (c ≡ None))
 unfolding quoted_answer taken_of text_of
 answer-some (Some c) k m e =
-    let q : record { taken = k; length = m } ≡ record { taken = c.taken; length = length (text_by c.value) } = same_Some _ _ e in
+    let q : record { taken = k; length = m } ≡ record { taken = c.taken; length = length (option_to_list c.value) } = same_Some _ _ e in
     (sym (ap (λ w. w.taken) q), ap (λ w. w.length) q, (λ z. none-some _ (sym z)))
 answer-some None k m e = absurd (none-some _ (sym e))
 

@@ -17,7 +17,7 @@ use Rattle.combinators.proofs.Rules.{pick-false, either, or_left, is-no, is_true
 use Rattle.combinators.proofs.Repeats.{many-stop, texts-stop}
 use Rattle.characters.specs.Utf8.{taken_of}
 use Rattle.lexer.specs.Whitespace.{comment_of, whitespace_item, skip_whitespace}
-use Rattle.lexer.specs.Name.{is_nmstart, is_nmchar, lower, nmchar_char_of, nmstart_of, nmchar_of, char_taken, char_text, chars_end, chars_text, chars_of, dash, name_of, ident_of, identstring_of}
+use Rattle.lexer.specs.Name.{is_nmstart, is_nmchar, lower, nmstart_of, nmchar_of, char_taken, char_text, chars_end, chars_text, chars_of, dash, name_of, ident_of, identstring_of}
 use Rattle.lexer.proofs.Comments.{above-space}
 use Rattle.lexer.proofs.SyntaxWhitespace.{skips-blank}
 use Rattle.lexer.proofs.SyntaxWhitespace as blanks
@@ -109,7 +109,7 @@ unskipped x l e = skips-blank [] (x ∷ l) blanks.none (code-point-item x l e)
 module _ (t : List ℕ) (e : ident_code_point (get_or t 0 0) ≡ false) (d : ¬ (get_or t 0 0 ≡ reverse_solidus)) where
   -- no character of a name is read
   unread : nmchar_of t ≡ None
-  unfolding nmchar_of nmchar_char_of
+  unfolding nmchar_of
   unread =
       let p = char-no is_nmchar t _ refl _ refl (sym (code-point-is _) ∙ e) in
       sym (either_second _ _ _ p refl _ (escape-no t _ refl (is-no _ _ d)))

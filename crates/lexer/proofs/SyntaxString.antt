@@ -1,6 +1,6 @@
 -- CSS Syntax Level 3, 4.3.5 'Consume a string token': a code point that is not the ending one, a newline or a backslash stands for
 -- itself; the ending code point, a newline and the end of the text end the string.
-use Rattle.std.proofs.Common.{Some, None}
+use Rattle.std.proofs.Common.{Option, Some, None}
 use mathlib.Core.Path.{◌≡◌, refl, ap, sym, ◌∙◌}
 use mathlib.Core.List.{List, [], ◌∷◌, ◌++◌, append-nil}
 use mathlib.Core.Bool.{Bool, true, false, not}
@@ -14,7 +14,9 @@ use Rattle.combinators.specs.Ascii.{line_feed, reverse_solidus}
 use Rattle.combinators.specs.Repeat.{many, texts, took}
 use Rattle.combinators.proofs.Rules.{pick-holds, pick_true, pick-false, and-true, is-yes, is-no}
 use Rattle.combinators.proofs.Repeats.{many-stop, texts-stop}
-use Rattle.lexer.specs.Quoted.{one_byte, quoted_of, taken_of, text_by, text_of, quoted_taken, quoted_text, string_end, string_text}
+use Rattle.combinators.specs.declared.taken.Taken.{Taken}
+use Rattle.characters.specs.Utf8.{taken_of}
+use Rattle.lexer.specs.Quoted.{one_byte, quoted_of, text_of, quoted_taken, quoted_text, string_end, string_text}
 
 -- x is not the quote q, a newline or a backslash
 unfoldable pub ordinary : ℕ → ℕ → Bool
@@ -39,7 +41,7 @@ itself q x r h =
 
 -- it takes one byte and stands for itself
 itself-read : (q x : ℕ) (r : List ℕ) → ordinary q x ≡ true → (quoted_taken q (x ∷ r) ≡ 1) × (quoted_text q (x ∷ r) ≡ x ∷ [])
-unfolding quoted_taken quoted_text taken_of text_of text_by
+unfolding quoted_taken quoted_text taken_of text_of
 itself-read q x r h = rw (← itself q x r h) (refl, refl)
 
 -- a plain text before t, where no character begins, ends there
@@ -74,8 +76,8 @@ stop-quote q t =
 stop-newline : (q : ℕ) (t : List ℕ) → quoted_taken q (line_feed ∷ t) ≡ 0
 unfolding quoted_taken quoted_of taken_of is pick
 stop-newline q t =
-    pick-holds (λ c. taken_of c ≡ 0) (is (suc (length t)) 0) None _ (λ _. refl)
-    (λ _. pick-holds (λ c. taken_of c ≡ 0) (is line_feed q) None None (λ _. refl) (λ _. refl))
+    let P : Option (Taken (Option ℕ)) → Type 0 = λ c. taken_of c ≡ 0 in
+    pick-holds P (is (suc (length t)) 0) None _ (λ _. refl) (λ _. pick-holds P (is line_feed q) None None (λ _. refl) (λ _. refl))
 
 -- nor at the end of the text
 stop-empty : (q : ℕ) → quoted_taken q [] ≡ 0

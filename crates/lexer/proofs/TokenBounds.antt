@@ -31,6 +31,7 @@ use Rattle.lexer.proofs.Quotes.{string-le, string-short}
 use Rattle.lexer.proofs.IdentBounds.{ident-fits, identstring-fits}
 use Rattle.lexer.proofs.TokenReaders.{quote-there}
 use Rattle.lexer.proofs.Lexing.{mark-text}
+use Rattle.lexer.proofs.Starts.{by-start}
 
 -- what a reading of s keeps to
 abbrev pub Bounded : List ℕ → Parsed Token → Type 0
@@ -166,7 +167,7 @@ module _ (c n : ℕ) (t : List ℕ) (i : 1 ≤ n) (h : n ≤ length t) where
 -- where no white space is
 pub at-bounded : (t : List ℕ) (x : Option (Taken ℕ)) → scalar_of t ≡ x → Bounded t (token_at t x)
 unfolding token_at
-at-bounded t (Some c) e = let r = scalar-some t c.taken c.value e in by-bounded c.value c.taken t r.0 r.1 (start_of c.value)
+at-bounded t (Some c) e = let r = scalar-some t c.taken c.value e in rw (by-start c.taken c.value t) (by-bounded c.value c.taken t r.0 r.1 (start_of c.value))
 at-bounded t None e = tt
 
 -- the next token takes a byte or more with the white space before it, no more than there are, and its text keeps to the bound

@@ -1,6 +1,7 @@
 -- Names: `nmstart_char`, `nmchar_char`, `ident_escape`, `nmstart`, `nmchar`, `parse_ident` and `parse_identstring` of
 -- src/css/parser.rs. A reader of one character answers the bytes that it takes and the scalar value that they stand for.
 use Rattle.std.specs.Prelude.{ℕ, zero, suc, ◌+◌, ◌-◌, ◌*◌, Bool, List, [], ◌++◌, ◌≡◌, refl, length, get_or, take, drop, Option, Some, None}
+use Rattle.std.specs.Option.{option_or}
 use Rattle.combinators.specs.Ascii.{hyphen_minus, digit_zero, digit_nine, capital_a, capital_f, capital_z, reverse_solidus, low_line, small_a, small_f, small_z}
 use Rattle.combinators.specs.Choice.{pick, or, and, is, within}
 use Rattle.combinators.specs.Parsed.{Parsed, ok, err, behind}
@@ -29,15 +30,9 @@ case_distance = 32
 unfoldable pub lower : ℕ → ℕ
 lower x = pick (within x capital_a capital_z) (x + case_distance) x
 
--- a first character that p holds of, folded
+-- `nmstart_char`, `nmchar_char`: a first character that p holds of, folded
 unfoldable pub folded_char : (ℕ → Bool) → List ℕ → Option (Taken ℕ)
 folded_char p s = pick (p (get_or s 0 0)) (Some (record { taken = 1; value = lower (get_or s 0 0) })) None
-
-unfoldable pub nmstart_char_of : List ℕ → Option (Taken ℕ)
-nmstart_char_of s = folded_char is_nmstart s
-
-unfoldable pub nmchar_char_of : List ℕ → Option (Taken ℕ)
-nmchar_char_of s = folded_char is_nmchar s
 
 unfoldable pub is_hex_digit : ℕ → Bool
 is_hex_digit x = or (within x digit_zero digit_nine) (or (within x small_a small_f) (within x capital_a capital_f))
@@ -85,15 +80,11 @@ unfoldable pub ident_escape_of : List ℕ → Option (Taken ℕ)
 ident_escape_of s = pick (is (get_or s 0 0) reverse_solidus) (escaped_of (drop 1 s)) None
 
 -- the first that reads (`alt`)
-unfoldable pub either : Option (Taken ℕ) → Option (Taken ℕ) → Option (Taken ℕ)
-either (Some c) r = Some c
-either None r = r
-
 unfoldable pub nmstart_of : List ℕ → Option (Taken ℕ)
-nmstart_of s = either (nmstart_char_of s) (ident_escape_of s)
+nmstart_of s = option_or (folded_char is_nmstart s) (ident_escape_of s)
 
 unfoldable pub nmchar_of : List ℕ → Option (Taken ℕ)
-nmchar_of s = either (nmchar_char_of s) (ident_escape_of s)
+nmchar_of s = option_or (folded_char is_nmchar s) (ident_escape_of s)
 
 -- ---- names
 
@@ -156,12 +147,12 @@ test-escapes : (ident_of (text "\\41") ≡ ok 3 (text "\u{4}1")) × (ident_of (t
     × (ident_of (text "\\110000x") ≡ ok 8 (text "�x"))
     × (ident_of (text "\\") ≡ ok 1 (text "�")) × (ident_of (text "\\é") ≡ ok 3 (text "é"))
     × (ident_of (text "Ab\\") ≡ ok 3 (text "ab�"))
-unfolding ident_of name_of name_from dash chars_end chars_text char_taken char_text bytes_of nmchar_of nmstart_of either nmchar_char_of nmstart_char_of folded_char ident_escape_of escaped_of behind_one hex_value hex_count hex_run hex_digit is_hex_digit lower is_nmchar is_nmstart skip_whitespace whitespace_item is_whitespace comment_of behind many texts took taken_of utf8 continuation or_replacement is_scalar scalar_of scalar_by scalar_tail lead_of two is_continuation pick or and is within text
+unfolding ident_of name_of name_from dash chars_end chars_text char_taken char_text bytes_of nmchar_of nmstart_of folded_char ident_escape_of escaped_of behind_one hex_value hex_count hex_run hex_digit is_hex_digit lower is_nmchar is_nmstart skip_whitespace whitespace_item is_whitespace comment_of behind many texts took taken_of utf8 continuation or_replacement is_scalar scalar_of scalar_by scalar_tail lead_of two is_continuation pick or and is within text
 test-escapes = (refl, refl, refl, refl, refl, refl, refl, refl)
 
 -- ` /**/-A1-b;`; `é`, `-`, `--a`, `1a` and nothing are none; `1\é;` has characters of names
 test-names : (ident_of (text " /**/-A1-b;") ≡ ok 10 (text "-a1-b"))
     × (ident_of (text "é") ≡ err) × (ident_of (text "-") ≡ err) × (ident_of (text "--a") ≡ err) × (ident_of (text "1a") ≡ err)
     × (ident_of [] ≡ err) × (identstring_of (text "1\\é;") ≡ ok 4 (text "1é")) × (identstring_of (text " ") ≡ err)
-unfolding ident_of identstring_of chars_of name_of name_from dash chars_end chars_text char_taken char_text bytes_of nmchar_of nmstart_of either nmchar_char_of nmstart_char_of folded_char ident_escape_of escaped_of behind_one hex_value hex_count hex_run hex_digit is_hex_digit lower is_nmchar is_nmstart skip_whitespace whitespace_item is_whitespace comment_of comment_end behind many texts took taken_of utf8 continuation or_replacement is_scalar scalar_of scalar_by scalar_tail lead_of two is_continuation pick or and is within text
+unfolding ident_of identstring_of chars_of name_of name_from dash chars_end chars_text char_taken char_text bytes_of nmchar_of nmstart_of folded_char ident_escape_of escaped_of behind_one hex_value hex_count hex_run hex_digit is_hex_digit lower is_nmchar is_nmstart skip_whitespace whitespace_item is_whitespace comment_of comment_end behind many texts took taken_of utf8 continuation or_replacement is_scalar scalar_of scalar_by scalar_tail lead_of two is_continuation pick or and is within text
 test-names = (refl, refl, refl, refl, refl, refl, refl, refl)

@@ -1,10 +1,10 @@
 -- The characters of a quoted string: the loop of `parse_string_token` of src/css/parser.rs, behind the quote.
-use Rattle.std.specs.Prelude.{ℕ, List, [], ◌∷◌, ◌≡◌, refl, length, get_or, Option, Some, None}
+use Rattle.std.specs.Prelude.{ℕ, List, [], ◌≡◌, refl, length, get_or, Option, Some, None, option_to_list}
 use Rattle.combinators.specs.Choice.{pick, is}
 use Rattle.combinators.specs.Ascii.{line_feed, quotation_mark, reverse_solidus}
 use Rattle.combinators.specs.Repeat.{many, texts, took}
 use Rattle.characters.specs.Literal.{text}
-use Rattle.characters.specs.Utf8.{utf8, continuation}
+use Rattle.characters.specs.Utf8.{utf8, continuation, taken_of}
 use Rattle.combinators.specs.declared.taken.Taken.{Taken}
 use Rattle.lexer.specs.declared.Written.{Written}
 
@@ -31,22 +31,14 @@ quoted_of q s =
     (pick (is (get_or s 0 0) reverse_solidus) (Some (escaped_byte s))
     (Some (one_byte 1 (get_or s 0 0))))))
 
-unfoldable pub taken_of : Option (Taken (Option ℕ)) → ℕ
-taken_of (Some c) = c.taken
-taken_of None = 0
-
--- a byte, or nothing, as a text
-unfoldable pub text_by : Option ℕ → List ℕ
-text_by (Some b) = b ∷ []
-text_by None = []
-
+-- the byte, or nothing, as a text
 unfoldable pub text_of : Option (Taken (Option ℕ)) → List ℕ
-text_of (Some c) = text_by c.value
+text_of (Some c) = option_to_list c.value
 text_of None = []
 
 -- as the code answers: the bytes taken and the length of the text, which lies in the store
 unfoldable pub quoted_answer : Option (Taken (Option ℕ)) → Option Written
-quoted_answer (Some c) = Some (record { taken = c.taken; length = length (text_by c.value) })
+quoted_answer (Some c) = Some (record { taken = c.taken; length = length (option_to_list c.value) })
 quoted_answer None = None
 
 unfoldable pub quoted_taken : ℕ → List ℕ → ℕ
@@ -67,5 +59,5 @@ test-string : (string_end quotation_mark (text "a\\") ≡ 2) × (string_text quo
     × (string_end quotation_mark (text "a\\\"b\"") ≡ 4) × (string_text quotation_mark (text "a\\\"b\"") ≡ text "a\"b")
     × (string_text quotation_mark (text "a\\\nb\"") ≡ text "ab") × (string_text quotation_mark (text "é\"") ≡ text "é")
     × (string_end quotation_mark (text "a\nb\"") ≡ 1)
-unfolding string_end string_text quoted_taken quoted_text taken_of text_of text_by quoted_of escaped_byte many texts took pick is text utf8 continuation
+unfolding string_end string_text quoted_taken quoted_text taken_of text_of quoted_of escaped_byte many texts took pick is text utf8 continuation
 test-string = (refl, refl, refl, refl, refl, refl, refl)

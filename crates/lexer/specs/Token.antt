@@ -86,20 +86,6 @@ first_above_u0080 = 0x81
 unfoldable pub is_ident_start : ℕ → Bool
 is_ident_start c = or (within c small_a small_z) (or (within c capital_a capital_z) (or (is c low_line) (leb first_above_u0080 c)))
 
--- which reader a first character selects, in the crate's order
-unfoldable pub start_of : ℕ → Start
-start_of c =
-    pick (is_quote c) Quote
-    (pick (is c number_sign) Hash
-    (pick (is c plus_sign) Plus
-    (pick (is c hyphen_minus) Minus
-    (pick (is c full_stop) Dot
-    (pick (is c less_than_sign) Less
-    (pick (is c reverse_solidus) Backslash
-    (pick (is_ident_start c) Letter
-    (pick (numbers.is_digit c) Digit
-    Other))))))))
-
 -- a character that is a token by itself: a mark, or else a delimiter. '@' is one: the crate tries `parse_ident` from the '@'
 -- itself, which never reads.
 unfoldable pub mark_of : ℕ → Token
@@ -134,7 +120,43 @@ minus_of c t = or_else (numeric_of t) (pick (starts_with cdc_mark t) (ok 3 cdc) 
 unfoldable pub less_of : ℕ → List ℕ → Parsed Token
 less_of c t = pick (starts_with cdo_mark t) (ok 4 cdo) (ok 1 (delim c))
 
--- the token at the start of t, whose first character c takes n bytes
+-- the token at the start of t, whose first character c takes n bytes, in the crate's order
+unfoldable pub token_with : ℕ → ℕ → List ℕ → Parsed Token
+token_with n c t =
+    pick (is_quote c) (string_of t)
+    (pick (is c number_sign) (hash_of c t)
+    (pick (is c plus_sign) (plus_of c t)
+    (pick (is c hyphen_minus) (minus_of c t)
+    (pick (is c full_stop) (or_else (numeric_of t) (ok 1 (delim c)))
+    (pick (is c less_than_sign) (less_of c t)
+    (pick (is c reverse_solidus) (or_else (ident_like_of t) (ok 1 (delim c)))
+    (pick (is_ident_start c) (ident_like_of t)
+    (pick (numbers.is_digit c) (numeric_of t)
+    (ok n (mark_of c))))))))))
+
+-- by the first character, if there is one
+unfoldable pub token_at : List ℕ → Option (Taken ℕ) → Parsed Token
+token_at t (Some c) = token_with c.taken c.value t
+token_at t None = err
+
+-- `parse_token`: behind white space and comments
+unfoldable pub token_of : List ℕ → Parsed Token
+token_of s = behind (skip_whitespace s) (token_at (drop (skip_whitespace s) s) (scalar_of (drop (skip_whitespace s) s)))
+
+-- ---- as the code selects a reader: which one, and what it reads
+unfoldable pub start_of : ℕ → Start
+start_of c =
+    pick (is_quote c) Quote
+    (pick (is c number_sign) Hash
+    (pick (is c plus_sign) Plus
+    (pick (is c hyphen_minus) Minus
+    (pick (is c full_stop) Dot
+    (pick (is c less_than_sign) Less
+    (pick (is c reverse_solidus) Backslash
+    (pick (is_ident_start c) Letter
+    (pick (numbers.is_digit c) Digit
+    Other))))))))
+
 unfoldable pub token_by : Start → ℕ → ℕ → List ℕ → Parsed Token
 token_by Quote n c t = string_of t
 token_by Hash n c t = hash_of c t
@@ -146,15 +168,6 @@ token_by Backslash n c t = or_else (ident_like_of t) (ok 1 (delim c))
 token_by Letter n c t = ident_like_of t
 token_by Digit n c t = numeric_of t
 token_by Other n c t = ok n (mark_of c)
-
--- by the first character, if there is one
-unfoldable pub token_at : List ℕ → Option (Taken ℕ) → Parsed Token
-token_at t (Some c) = token_by (start_of c.value) c.taken c.value t
-token_at t None = err
-
--- `parse_token`: behind white space and comments
-unfoldable pub token_of : List ℕ → Parsed Token
-token_of s = behind (skip_whitespace s) (token_at (drop (skip_whitespace s) s) (scalar_of (drop (skip_whitespace s) s)))
 
 -- ---- as the code answers: the token with the lengths of its texts, which lie in the store one behind the other
 unfoldable pub coded : Token → declared.Token
@@ -179,27 +192,17 @@ coded close_round = code.CloseRound
 coded open_brace = code.OpenBrace
 coded close_brace = code.CloseBrace
 
+-- its texts, one behind the other; a delimiter's character is none
 unfoldable pub text_of : Token → List ℕ
 text_of (ident b) = b
 text_of (function b) = b
 text_of (hash b) = b
 text_of (string b) = b
 text_of (bad_string b) = b
-text_of (delim c) = []
 text_of (number b) = b
 text_of (dimension b u) = b ++ u
 text_of (percentage b) = b
-text_of cdo = []
-text_of cdc = []
-text_of colon = []
-text_of semicolon = []
-text_of comma = []
-text_of open_square = []
-text_of close_square = []
-text_of open_round = []
-text_of close_round = []
-text_of open_brace = []
-text_of close_brace = []
+text_of _ = []
 
 -- how many bytes the texts of a token as the code has it take, one behind the other; a delimiter's character is not in the store
 unfoldable pub length_by : declared.Token → ℕ
@@ -208,21 +211,10 @@ length_by (code.Function n) = n
 length_by (code.Hash n) = n
 length_by (code.String n) = n
 length_by (code.BadString n) = n
-length_by (code.Delim c) = 0
 length_by (code.Number n) = n
 length_by (code.Dimension n m) = n + m
 length_by (code.Percentage n) = n
-length_by code.CDO = 0
-length_by code.CDC = 0
-length_by code.Colon = 0
-length_by code.Semicolon = 0
-length_by code.Comma = 0
-length_by code.OpenSquare = 0
-length_by code.CloseSquare = 0
-length_by code.OpenRound = 0
-length_by code.CloseRound = 0
-length_by code.OpenBrace = 0
-length_by code.CloseBrace = 0
+length_by _ = 0
 
 unfoldable pub token_answer : Parsed Token → Option (Taken declared.Token)
 token_answer (ok n k) = Some (record { taken = n; value = coded k })

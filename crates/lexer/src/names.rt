@@ -1,7 +1,7 @@
 // Names and their characters, with escapes. A name's text goes to the store, from a fill that the callers keep, so that no writer is lent.
 ghost use Rattle.std.specs.Prelude.{◌≡◌, ◌≤◌, length};
 ghost use Rattle.std.proofs.lemmas.List.Edits.{sets};
-ghost use Rattle.lexer.specs.Name.{is_nmstart, is_nmchar, lower, nmstart_char_of, nmchar_char_of, is_hex_digit, hex_digit, hex_run, maximum_digits, hex_count, hex_value, escaped_of, ident_escape_of, nmstart_of, nmchar_of, chars_end, chars_text, dash, name_of, chars_of, ident_of, identstring_of, name_answer, name_text};
+ghost use Rattle.lexer.specs.Name.{is_nmstart, is_nmchar, lower, folded_char, is_hex_digit, hex_digit, hex_run, maximum_digits, hex_count, hex_value, escaped_of, ident_escape_of, nmstart_of, nmchar_of, chars_end, chars_text, dash, name_of, chars_of, ident_of, identstring_of, name_answer, name_text};
 
 use crate::Written;
 use crate::whitespace::skip_optional_whitespace;
@@ -49,18 +49,18 @@ fn folded(b: u8) -> Taken<char>
 
 // A character that can start a name, other than an escape. This one and the next have a definition each and share all but their test, which would
 // bring its clauses along if it were handed in.
-#[tactic(auto, unfolding(crate::specs::Name::nmstart_char_of, crate::specs::Name::folded_char, combinators::specs::Choice::pick))]
+#[tactic(auto, unfolding(crate::specs::Name::folded_char, combinators::specs::Choice::pick))]
 pub fn nmstart_char(s: &[u8]) -> Option<Taken<char>>
-    ensures { result ≡ nmstart_char_of s.now }
+    ensures { result ≡ folded_char is_nmstart s.now }
 {
     let b = peek(s, 0);
     is_nmstart(b).then_some(folded(b))
 }
 
 // A character of a name, other than an escape.
-#[tactic(auto, unfolding(crate::specs::Name::nmchar_char_of, crate::specs::Name::folded_char, combinators::specs::Choice::pick))]
+#[tactic(auto, unfolding(crate::specs::Name::folded_char, combinators::specs::Choice::pick))]
 pub fn nmchar_char(s: &[u8]) -> Option<Taken<char>>
-    ensures { result ≡ nmchar_char_of s.now }
+    ensures { result ≡ folded_char is_nmchar s.now }
 {
     let b = peek(s, 0);
     is_nmchar(b).then_some(folded(b))

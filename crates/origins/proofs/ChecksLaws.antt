@@ -27,16 +27,7 @@ pub lent_by : (agent user author rules tokens brackets texts : List ℕ) → any
     → Lent agent user author rules tokens brackets texts
 unfolding stores_suffice
 lent_by agent user author rules tokens brackets texts e g =
-    let w = none-long (length agent) (length user) (length author) e in
     let p = and-true _ _ g in
     let q = and-true _ _ p.1 in
     let u = and-true _ _ q.1 in
-    record {
-      agent-within = w.0;
-      user-within = w.1;
-      author-within = w.2;
-      for-rules = leb-true _ _ u.0;
-      for-tokens = leb-true _ _ u.1;
-      for-brackets = leb-true _ _ q.0;
-      for-texts = leb-true _ _ p.0;
-    }
+    record { within = e; least = record { for-texts = leb-true _ _ p.0; for-brackets = leb-true _ _ q.0; for-rules = leb-true _ _ u.0; for-tokens = leb-true _ _ u.1 } }

@@ -25,6 +25,7 @@ use Rattle.origins.specs.declared.reading.SheetRules.{SheetRules}
 use Rattle.origins.specs.Reading.{SheetsRules}
 use Rattle.std.specs.Prelude.{Ok, Err}
 use Rattle.origins.specs.declared.reading.SheetPanic.{SheetPanic}
+use Rattle.origins.proofs.ChecksLaws.{none-long}
 use Rattle.origins.proofs.RuleStyles.{each-room, styles-few-enough}
 
 -- ---- a sheet that others follow was read
@@ -147,19 +148,20 @@ zeros_of l m e =
 pub room-cleared : {agent user author rules₀ tokens brackets texts : List ℕ} → Lent agent user author rules₀ tokens brackets texts → length rules₀ < 2 ^ 64
     → SheetsRoom agent user author (cleared 0 rules₀) (cleared 0 tokens) (cleared 0 brackets) (cleared 0 texts)
 room-cleared {agent} {user} {author} {rules₀} {tokens} {brackets} {texts} o h =
+    let w = none-long (length agent) (length user) (length author) o.within in
     record {
-      agent-within = o.agent-within;
-      user-within = o.user-within;
-      author-within = o.author-within;
+      agent-within = w.0;
+      user-within = w.1;
+      author-within = w.2;
       rules-zeros = clear-zeros rules₀;
       tokens-zeros = clear-zeros tokens;
       brackets-zeros = clear-zeros brackets;
       texts-zeros = clear-zeros texts;
       row-bits = omega (arith, h, length-cleared 0 rules₀);
-      for-rules = omega (arith, o.for-rules, length-cleared 0 rules₀);
-      for-tokens = omega (arith, o.for-tokens, length-cleared 0 tokens);
-      for-brackets = omega (arith, o.for-brackets, length-cleared 0 brackets);
-      for-texts = omega (arith, o.for-texts, length-cleared 0 texts);
+      for-rules = omega (arith, o.least.for-rules, length-cleared 0 rules₀);
+      for-tokens = omega (arith, o.least.for-tokens, length-cleared 0 tokens);
+      for-brackets = omega (arith, o.least.for-brackets, length-cleared 0 brackets);
+      for-texts = omega (arith, o.least.for-texts, length-cleared 0 texts);
     }
 
 -- ---- what lies in the stores is what the sheets mean
@@ -200,12 +202,12 @@ module _ {agent user author rules₀ tokens brackets texts₀ : List ℕ} (o : L
   -- rows and texts are no more than the stores hold
   pub rows_fit : length rows_held ≤ length rules₀
   rows_fit =
-      omega (arith, rows-length, agent-keeps.wide, user-keeps.wide, author-keeps.wide, agent-keeps.within, user-keeps.within, author-keeps.within, o.for-rules)
+      omega (arith, rows-length, agent-keeps.wide, user-keeps.wide, author-keeps.wide, agent-keeps.within, user-keeps.within, author-keeps.within, o.least.for-rules)
 
   -- their texts are no longer than the text store
   pub texts-fit : length texts_held ≤ length texts₀
   texts-fit =
-      omega (arith, texts-length, agent-keeps.long, user-keeps.long, author-keeps.long, agent-keeps.within, user-keeps.within, author-keeps.within, o.for-texts)
+      omega (arith, texts-length, agent-keeps.long, user-keeps.long, author-keeps.long, agent-keeps.within, user-keeps.within, author-keeps.within, o.least.for-texts)
 
   -- how the texts lie there
   pub texts-lie : sets (cleared 0 texts₀) 0 texts_held ≡ padded texts_held (length texts₀)
@@ -298,15 +300,15 @@ module _ {agent user author rules₀ tokens brackets texts₀ : List ℕ} (o : L
 
     -- the store of tokens has room for the styles of each
     pub agent-styled : RulesRoom s.agent.count (drop s.agent.place rows) (length tokens)
-    agent-styled = styled agent-lies agent-keeps.fit (length tokens) (styles-few-enough agent _ _ known.agent-read _ _ (omega arith) o.for-tokens)
+    agent-styled = styled agent-lies agent-keeps.fit (length tokens) (styles-few-enough agent _ _ known.agent-read _ _ (omega arith) o.least.for-tokens)
 
     -- the store of tokens has room for the styles of each of the user's rules
     pub user-styled : RulesRoom s.user.count (drop s.user.place rows) (length tokens)
-    user-styled = styled user-lies user-keeps.fit (length tokens) (styles-few-enough user _ _ known.user-read _ _ (omega arith) o.for-tokens)
+    user-styled = styled user-lies user-keeps.fit (length tokens) (styles-few-enough user _ _ known.user-read _ _ (omega arith) o.least.for-tokens)
 
     -- the store of tokens has room for the styles of each of the author's rules
     pub author-styled : RulesRoom s.author.count (drop s.author.place rows) (length tokens)
-    author-styled = styled author-lies author-keeps.fit (length tokens) (styles-few-enough author _ _ known.author-read _ _ (omega arith) o.for-tokens)
+    author-styled = styled author-lies author-keeps.fit (length tokens) (styles-few-enough author _ _ known.author-read _ _ (omega arith) o.least.for-tokens)
 
     -- the texts of each sheet lie in the store
     pub texts-within : (s.agent.from ≤ length texts) × (s.user.from ≤ length texts) × (s.author.from ≤ length texts)

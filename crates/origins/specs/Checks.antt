@@ -1,7 +1,7 @@
 -- What a call with three sheets asks of them and of its stores.
-use Rattle.std.specs.Prelude.{ℕ, ◌+◌, ◌≤◌, Bool, List, ltb, length}
+use Rattle.std.specs.Prelude.{ℕ, ◌+◌, ◌≡◌, Bool, false, List, ltb, length}
 use Rattle.combinators.specs.Choice.{or, and}
-use Rattle.combinators.specs.LeastLengths.{text_least, bracket_least, number_least}
+use Rattle.combinators.specs.LeastLengths.{Least}
 use Rattle.characters.specs.Utf8.{valid}
 use Rattle.sheets.specs.SheetAnswer.{sheet_limit}
 
@@ -14,10 +14,5 @@ all_valid agent user author = and (valid agent) (and (valid user) (valid author)
 
 -- ---- no text too long, and stores of the least lengths for all texts together
 pub record Lent (agent user author rules tokens brackets texts : List ℕ) : Type 0 where
-  pub agent-within : length agent ≤ sheet_limit
-  pub user-within : length user ≤ sheet_limit
-  pub author-within : length author ≤ sheet_limit
-  pub for-rules : number_least (length agent + length user + length author) ≤ length rules
-  pub for-tokens : number_least (length agent + length user + length author) ≤ length tokens
-  pub for-brackets : bracket_least (length agent + length user + length author) ≤ length brackets
-  pub for-texts : text_least (length agent + length user + length author) ≤ length texts
+  pub within : any_too_long (length agent) (length user) (length author) ≡ false
+  pub least : Least (length agent + length user + length author) (length rules) (length tokens) (length brackets) (length texts)

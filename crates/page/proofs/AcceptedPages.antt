@@ -14,7 +14,7 @@ use Rattle.combinators.specs.Refusal.{no_refusal, refused, refused_at, too_large
 use Rattle.combinators.specs.declared.refusals.Refusal.{Refusal}
 use Rattle.combinators.proofs.Rules.{pick_true, pick-false, and_both, and-true, is-yes, is-no, is_true, is_false}
 use Rattle.page.specs.Rows.{node_width, node_count, attribute_width, attribute_rows}
-use Rattle.page.specs.Accepted.{node_limit, attribute_limit, text_limit, within_limits, row_right, texts_right, first_fault, first_bad_row, first_bad_text, refused_row, rows_refusal, page_refusal}
+use Rattle.page.specs.Accepted.{node_limit, attribute_limit, text_limit, within_limits, row_right, texts_right, first_fault, first_bad_row, first_bad_text, refused_row, page_refusal}
 use Rattle.page.proofs.FirstFault.{fault-range, fault-passed, fault-fails, fault-none, fault-all}
 
 -- a page that is accepted: within the limits, every row by the rules, every text readable
@@ -100,7 +100,7 @@ bad-row-tests false z b t row e = absurd (let n : too_large ≡ bad_row = number
 module _ (nodes attributes text : List ℕ) where
   -- a page is accepted only if all this holds
   pub accepted : page_refusal nodes attributes text ≡ no_refusal → Accepted nodes attributes text
-  unfolding page_refusal rows_refusal within_limits first_bad_row first_bad_text
+  unfolding page_refusal within_limits first_bad_row first_bad_text
   accepted e =
       let t = accepted-tests _ _ _ _ e in
       let w = and-true _ _ t.0 in
@@ -125,7 +125,7 @@ module _ (nodes attributes text : List ℕ) where
 
   -- and always if it does
   pub accepts : Accepted nodes attributes text → page_refusal nodes attributes text ≡ no_refusal
-  unfolding page_refusal rows_refusal within_limits first_bad_row first_bad_text refused_row
+  unfolding page_refusal within_limits first_bad_row first_bad_text refused_row
   accepts a =
       let n = node_count nodes in
       let r = fault-none (row_right nodes attributes) n 0 (λ (m : ℕ) _ (l : m < 0 + n). a.rules m (omega arith)) in
@@ -137,13 +137,13 @@ module _ (nodes attributes text : List ℕ) where
 
   -- refusal 5 says that the page is over a limit, or a list no whole count of rows
   pub refused-limit : page_refusal nodes attributes text ≡ refused too_large → within_limits nodes attributes text ≡ false
-  unfolding page_refusal rows_refusal
+  unfolding page_refusal
   refused-limit e = limit-tests _ _ _ _ e
 
   -- refusal 6 names the first row against the rules, or row 0 where there is none
   pub refused-row : (row : ℕ) → page_refusal nodes attributes text ≡ refused_at bad_row row
       → ((node_count nodes ≡ 0) × (row ≡ 0)) ⊎ First (row_right nodes attributes) (node_count nodes) row
-  unfolding page_refusal rows_refusal first_bad_row first_bad_text
+  unfolding page_refusal first_bad_row first_bad_text
   refused-row row e = go (bad-row-tests _ _ _ _ row e).1
     where
       go : ((is (node_count nodes) 0 ≡ true) × (row ≡ 0)) ⊎ (first_fault (row_right nodes attributes) (node_count nodes) 0 ≡ Some row)
@@ -154,7 +154,7 @@ module _ (nodes attributes text : List ℕ) where
   -- refusal 7 names the first row with a text that cannot be read; no row is against the rules then
   pub refused-text : (row : ℕ) → page_refusal nodes attributes text ≡ refused_at bad_text row
       → ((m : ℕ) → m < node_count nodes → row_right nodes attributes m ≡ true) × First (texts_right nodes attributes text) (node_count nodes) row
-  unfolding page_refusal rows_refusal first_bad_row first_bad_text
+  unfolding page_refusal first_bad_row first_bad_text
   refused-text row e =
       let t = bad-text-tests _ _ _ _ row e in
       (all-of (row_right nodes attributes) (node_count nodes) t.2, first-of (texts_right nodes attributes text) (node_count nodes) row t.3)

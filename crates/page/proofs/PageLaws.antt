@@ -7,7 +7,7 @@ use Rattle.std.specs.Prelude.{Option, Some, None, Ok, Err}
 use Rattle.combinators.specs.Choice.{is}
 use Rattle.combinators.proofs.Rules.{pick_true, pick-false, is-yes, is-no}
 use Rattle.page.specs.Rows.{node_count}
-use Rattle.page.specs.Accepted.{within_limits, first_bad_row, first_bad_text, refused_row, rows_refusal, page_refusal, error_refusal, refusal_of}
+use Rattle.page.specs.Accepted.{within_limits, first_bad_row, first_bad_text, refused_row, page_refusal, error_refusal, refusal_of}
 use Rattle.page.specs.declared.check.PageError.TheVariants.{TooLarge, BadRow, BadText}
 
 -- ---- `check_page`: limits, rows and texts, the first that fails
@@ -20,7 +20,7 @@ module _ (nodes attributes text : List ℕ) (t : Bool) (et : t ≡ within_limits
   module _ (y : t ≡ true) (rows : ℕ) (er : rows ≡ node_count nodes) where
     -- the return where the page has no row: refusal 6 at row 0
     pub page-empty : rows ≡ 0 → refusal_of (Err (BadRow 0)) ≡ page_refusal nodes attributes text
-    unfolding page_refusal rows_refusal refusal_of error_refusal
+    unfolding page_refusal refusal_of error_refusal
     page-empty e = pick_true _ _ _ _ (sym et ∙ y) (pick_true _ _ _ _ (is-yes _ _ (sym er ∙ e)) refl)
 
     module _ (d : ¬ (rows ≡ 0)) (bad : Option ℕ) (eb : bad ≡ first_bad_row nodes attributes) where
@@ -30,16 +30,16 @@ module _ (nodes attributes text : List ℕ) (t : Bool) (et : t ≡ within_limits
 
       -- a row is against the rules
       pub page-bad-row : (row : ℕ) → bad ≡ Some row → refusal_of (Err (BadRow row)) ≡ page_refusal nodes attributes text
-      unfolding page_refusal rows_refusal refused_row refusal_of error_refusal
+      unfolding page_refusal refused_row refusal_of error_refusal
       page-bad-row row e = pick_true _ _ _ _ (sym et ∙ y) (pick-false _ _ _ _ none (rw (← eb, e) refl))
 
       module _ (l : bad ≡ None) (unread : Option ℕ) (eu : unread ≡ first_bad_text nodes attributes text) where
         -- the return where a text cannot be read: refusal 7 at that row
         pub page-bad-text : (row : ℕ) → unread ≡ Some row → refusal_of (Err (BadText row)) ≡ page_refusal nodes attributes text
-        unfolding page_refusal rows_refusal refused_row refusal_of error_refusal
+        unfolding page_refusal refused_row refusal_of error_refusal
         page-bad-text row e = pick_true _ _ _ _ (sym et ∙ y) (pick-false _ _ _ _ none (rw (← eb, ← eu, l, e) refl))
 
         -- a page of which no row and no text is at fault is accepted
         pub page-accepted : unread ≡ None → refusal_of (Ok tt) ≡ page_refusal nodes attributes text
-        unfolding page_refusal rows_refusal refused_row refusal_of
+        unfolding page_refusal refused_row refusal_of
         page-accepted e = pick_true _ _ _ _ (sym et ∙ y) (pick-false _ _ _ _ none (rw (← eb, ← eu, l, e) refl))

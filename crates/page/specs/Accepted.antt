@@ -137,18 +137,12 @@ unfoldable pub refused_row : ℕ → Option ℕ → Refusal → Refusal
 refused_row number (Some row) others = refused_at number row
 refused_row number None others = others
 
--- of a page within the limits: any 6 comes before any 7, and to have no row at all is against the rules
-unfoldable pub rows_refusal : List ℕ → List ℕ → List ℕ → Refusal
-rows_refusal nodes attributes text =
-    let texts = refused_row bad_text (first_bad_text nodes attributes text) no_refusal in
-    let rows = refused_row bad_row (first_bad_row nodes attributes) texts in
-    pick (is (node_count nodes) 0) (refused_at bad_row 0) rows
-
--- the lowest number that applies, with its place
+-- the lowest number that applies, with its place: of a page within the limits any 6 comes before any 7, and to have no row at all is against the rules
 unfoldable pub page_refusal : List ℕ → List ℕ → List ℕ → Refusal
 page_refusal nodes attributes text =
-    let rows = rows_refusal nodes attributes text in
-    pick (within_limits nodes attributes text) rows (refused too_large)
+    let texts = refused_row bad_text (first_bad_text nodes attributes text) no_refusal in
+    let rows = refused_row bad_row (first_bad_row nodes attributes) texts in
+    pick (within_limits nodes attributes text) (pick (is (node_count nodes) 0) (refused_at bad_row 0) rows) (refused too_large)
 
 -- what each error of `check_page` stands for
 unfoldable pub error_refusal : PageError → Refusal

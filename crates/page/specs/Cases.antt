@@ -8,7 +8,7 @@ use Rattle.combinators.specs.All.{member}
 use Rattle.characters.specs.Utf8.{valid, scalar_taken, taken_of, scalar_of, scalar_by, scalar_tail, lead_of, is_continuation, two}
 use Rattle.page.specs.Rows.{element_kind, other_kind, node_number, attribute_number, name_of, attribute_name, attribute_value}
 use Rattle.page.specs.Ancestors.{ancestors_from, ancestors_of, depth_of, is_element_child, element_children, place_of}
-use Rattle.page.specs.Accepted.{within_limits, attributes_before, attributes_end, texts_end, bytes_before, ends_in_zeros, is_document, is_parent, parent_right, attributes_follow, element_follows, kind_right, row_right, text_right, attribute_text_right, attribute_texts_right, texts_right, first_fault, first_bad_row, first_bad_text, refused_row, rows_refusal, page_refusal}
+use Rattle.page.specs.Accepted.{within_limits, attributes_before, attributes_end, texts_end, bytes_before, ends_in_zeros, is_document, is_parent, parent_right, attributes_follow, element_follows, kind_right, row_right, text_right, attribute_text_right, attribute_texts_right, texts_right, first_fault, first_bad_row, first_bad_text, refused_row, page_refusal}
 use Rattle.page.specs.PathOf.{attributes_from, element_at, elements_of, path_of}
 
 document : List ℕ
@@ -57,7 +57,7 @@ answers : (page_refusal (named ++ other_row 1 ++ empty 1 4 1) (attribute ++ attr
     × (page_refusal (named ++ empty 1 4 1) (1 ∷ 2 ∷ 3 ∷ 2 ∷ []) text ≡ refused_at bad_row 2)
     × (page_refusal (document ++ chain 64 0) [] [] ≡ no_refusal) × (page_refusal (document ++ chain 65 0) [] [] ≡ refused_at bad_row 65)
     × (page_refusal (document ++ chain 63 0 ++ other_row 63) [] [] ≡ no_refusal) × (page_refusal (document ++ chain 64 0 ++ other_row 64) [] [] ≡ refused_at bad_row 65)
-unfolding page_refusal rows_refusal refused_row within_limits first_bad_row first_bad_text first_fault row_right is_document ends_in_zeros parent_right is_parent kind_right element_follows attributes_follow attributes_before bytes_before attributes_end texts_end texts_right text_right attribute_text_right attribute_texts_right ancestors_of ancestors_from depth_of member node_number attribute_number part valid many took scalar_taken taken_of scalar_of scalar_by scalar_tail lead_of is_continuation within two pick or and is document empty text named attribute chain
+unfolding page_refusal refused_row within_limits first_bad_row first_bad_text first_fault row_right is_document ends_in_zeros parent_right is_parent kind_right element_follows attributes_follow attributes_before bytes_before attributes_end texts_end texts_right text_right attribute_text_right attribute_texts_right ancestors_of ancestors_from depth_of member node_number attribute_number part valid many took scalar_taken taken_of scalar_of scalar_by scalar_tail lead_of is_continuation within two pick or and is document empty text named attribute chain
 answers = (refl, refl, refl, refl, refl, refl, refl, refl, refl, refl, refl, refl, refl, refl, refl, refl, refl, refl, refl)
 
 -- the path of the last row: the second element child of `a`

@@ -60,9 +60,8 @@ fn put_row(came: MatchResult, slots: &mut [u32]) {
         came.classes,
         came.types,
     ];
-    for (slot, number) in slots.iter_mut().zip(numbers) {
-        *slot = number;
-    }
+    let n = slots.len().min(ROW_NUMBERS);
+    slots[..n].copy_from_slice(&numbers[..n]);
 }
 
 /// Asks for each row of the page for which `rules` have slots. The result is how many rows there are.

@@ -13,6 +13,7 @@ use Rattle.syntax.specs.Selector.{RuleSet}
 use Rattle.combinators.proofs.ZeroLaws.{zeros-behind, clear-zeros}
 use Rattle.origins.specs.Reading.{Sheets, SheetsRules, sheets_of, sheets_rows, sheets_texts, sheets_rules}
 use Rattle.origins.specs.declared.reading.SheetRules.{SheetRules}
+use Rattle.origins.proofs.ChecksLaws.{none-long}
 use Rattle.origins.proofs.Parts.{sets-take}
 use Rattle.origins.proofs.SheetsKnown.{Came, came, from_first, from_second, from-third, rows_held, texts_held, texts-length, agent-keeps, user-keeps, author-keeps, zr, zt, rows_are, texts-are, place₁, place₂, place₃, agent-back, user-back, author-back}
 use Rattle.styles.specs.Said.{Rules}
@@ -98,10 +99,11 @@ module _ {s : SheetsRules} {rows tokens texts : List ℕ} (h : SheetsHeld s rows
       let ka = agent-keeps h.lent m in
       let ku = user-keeps h.lent m in
       let kw = author-keeps h.lent m in
+      let short = none-long (length h.agent) (length h.user) (length h.author) h.lent.within in
       record {
         rows_short = omega (arith, ka.wide, ku.wide, kw.wide, ka.within, ku.within, kw.within);
         texts-short = omega (arith, ka.long, ku.long, kw.long, ka.within, ku.within, kw.within);
-        few = omega (arith, h.lent.agent-within, h.lent.user-within, h.lent.author-within);
+        few = omega (arith, short.0, short.1, short.2);
       }
 
   -- the store of tokens is zero throughout
@@ -223,9 +225,9 @@ module _ {s : SheetsRules} {rows tokens texts : List ℕ} (h : SheetsHeld s rows
         contents-a = contents-short a;
         contents-u = contents-short u;
         contents-w = contents-short w;
-        tokens-room = omega (arith, tokens-long, h.lent.for-tokens);
-        texts-room = omega (arith, texts-long, h.lent.for-texts);
-        rows-room = omega (arith, rows_long, h.lent.for-rules);
+        tokens-room = omega (arith, tokens-long, h.lent.least.for-tokens);
+        texts-room = omega (arith, texts-long, h.lent.least.for-texts);
+        rows-room = omega (arith, rows_long, h.lent.least.for-rules);
       }
 
   -- the author's rows end before the end of the rules store

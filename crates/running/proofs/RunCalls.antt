@@ -40,7 +40,8 @@ use Rattle.runner.proofs.RunRows.{run-rows}
 use Rattle.running.specs.declared.run.RunError.{RunError}
 use Rattle.running.specs.declared.run.RunError.TheVariants.{TooLong, ShortStore, BadPage, BadBytes}
 use Rattle.running.specs.Ready.{Lengths, RunReady}
-use Rattle.running.specs.RunAnswer.{RunAnswer, RunLeft, run_refusal, numbers_of, unchanged, ran, run_suffices, run_by, run_call}
+use Rattle.styles.specs.Answer.{TextsAnswer}
+use Rattle.running.specs.RunAnswer.{RunLeft, run_refusal, numbers_of, unchanged, ran, run_suffices, run_by, run_call}
 
 -- ---- answers in numbers
 -- those of a page that was styled
@@ -62,7 +63,7 @@ error-loud (error.BadText row) n = omega (arith, n)
 
 -- ---- the answer and the six buffers, one by one
 -- what is left is the same where the answer and each of the six buffers are
-left_by : {a a' : RunAnswer} {r r' t t' s s' u u' k k' b b' : List ℕ} → a ≡ a' → r ≡ r' → t ≡ t' → s ≡ s' → u ≡ u' → k ≡ k' → b ≡ b'
+left_by : {a a' : TextsAnswer} {r r' t t' s s' u u' k k' b b' : List ℕ} → a ≡ a' → r ≡ r' → t ≡ t' → s ≡ s' → u ≡ u' → k ≡ k' → b ≡ b'
     → ◌≡◌ {A = RunLeft} (record { answer = a; rows = r; texts = t; state = s; rules = u; tokens = k; brackets = b }) (record { answer = a'; rows = r'; texts = t'; state = s'; rules = u'; tokens = k'; brackets = b' })
 left_by ea er et es eu ek eb = rw (ea, er, et, es, eu, ek, eb) refl
 
@@ -95,7 +96,7 @@ module _ (settings : Settings) {code : List ℕ} {g : Page} {rows₀ state₀ ru
       → count ≡ node_count g.nodes
       → (rows₂ texts₂ state₂ rules₂ tokens₂ brackets₂ : List ℕ) → rows₂ ≡ cleared (count * style_row_width) rows₁ → texts₂ ≡ cleared n texts₁
       → rules₂ ≡ cleared 0 rules₁ → tokens₂ ≡ cleared 0 tokens₁ → brackets₂ ≡ cleared 0 brackets₁ → state₂ ≡ replicate (length state₁) 0
-      → (a : RunAnswer) → a ≡ record { refusal = no_refusal; texts = n }
+      → (a : TextsAnswer) → a ≡ record { refusal = no_refusal; texts = n }
       → record { answer = a; rows = rows₂; texts = texts₂; state = state₂; rules = rules₂; tokens = tokens₂; brackets = brackets₂ } ≡ ran rows₀ texts₀ state₀ rules₀ tokens₀ brackets₀ code settings g
   unfolding ran padded
   page-left rows₁ state₁ rules₁ tokens₁ brackets₁ texts₁ n count e w ls lu lk lb lt ec rows₂ texts₂ state₂ rules₂ tokens₂ brackets₂ er et eu ek eb es a ea =
@@ -113,7 +114,7 @@ module _ (settings : Settings) {code : List ℕ} {g : Page} {rows₀ state₀ ru
 
 -- ---- the refusals
 module _ (rows₀ texts₀ state₀ rules₀ tokens₀ brackets₀ code : List ℕ) (settings : Settings) (g : Page) where
-  abbrev refuses : RunAnswer → RunLeft
+  abbrev refuses : TextsAnswer → RunLeft
   refuses a = record { answer = a; rows = rows₀; texts = texts₀; state = state₀; rules = rules₀; tokens = tokens₀; brackets = brackets₀ }
 
   -- an error leaves all buffers as they were

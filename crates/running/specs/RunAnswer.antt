@@ -1,14 +1,15 @@
 -- What `run` answers and leaves: the refusals of document 01 in the order in which they are looked for, or the style rows of a page.
-use Rattle.std.specs.Prelude.{ℕ, Bool, Result, Ok, Err, List, leb, ltb, length, replicate}
+use Rattle.std.specs.Prelude.{ℕ, Bool, Result, Ok, Err, List, leb, ltb, length}
 use Rattle.combinators.specs.Choice.{pick, and, is}
 use Rattle.combinators.specs.LeastLengths.{stores_suffice}
 use Rattle.combinators.specs.Refusal.{no_refusal, refused, refused_at, too_long, short_store, bad_bytes}
 use Rattle.combinators.specs.declared.refusals.Refusal.{Refusal}
-use Rattle.sheets.specs.SheetAnswer.{padded}
+use Rattle.sheets.specs.SheetAnswer.{padded, zeros}
 use Rattle.page.specs.Accepted.{error_refusal, page_refusal}
 use Rattle.compiled.specs.Answer.{bytes_refusal}
 use Rattle.compiled.specs.Sheet.{compiled_limit}
 use Rattle.combinators.specs.declared.lent.Stores.{Stores}
+use Rattle.styles.specs.Answer.{TextsAnswer, refused_texts}
 use Rattle.styles.specs.declared.settings.Settings.{Settings}
 use Rattle.page.specs.Lent.{Page, page_in}
 use Rattle.runner.specs.LeastLengths.{run_text_bytes, state_least, rows_least}
@@ -17,25 +18,21 @@ use Rattle.running.specs.declared.input.RunInput.{RunInput}
 use Rattle.running.specs.declared.run.RunError.{RunError}
 use Rattle.running.specs.declared.run.RunError.TheVariants.{TooLong, ShortStore, BadPage, BadBytes}
 
--- ---- an answer in numbers: the refusal; of a page that was styled the bytes of its texts. What does not apply is 0.
-pub record RunAnswer : Type 0 where
-  pub refusal : Refusal
-  pub texts : ℕ
-
--- why a run is refused, in numbers
+-- ---- the answer in numbers
+-- why a run is refused
 unfoldable pub run_refusal : RunError → Refusal
 run_refusal TooLong = refused too_long
 run_refusal ShortStore = refused short_store
 run_refusal (BadPage e) = error_refusal e
 run_refusal (BadBytes f) = refused_at bad_bytes f.place
 
-unfoldable pub numbers_of : Result ℕ RunError → RunAnswer
+unfoldable pub numbers_of : Result ℕ RunError → TextsAnswer
 numbers_of (Ok texts) = record { refusal = no_refusal; texts = texts }
-numbers_of (Err e) = record { refusal = run_refusal e; texts = 0 }
+numbers_of (Err e) = refused_texts (run_refusal e)
 
 -- ---- what is left of the call: its answer and the six buffers
 pub record RunLeft : Type 0 where
-  pub answer : RunAnswer
+  pub answer : TextsAnswer
   pub rows : List ℕ
   pub texts : List ℕ
   pub state : List ℕ
@@ -44,28 +41,22 @@ pub record RunLeft : Type 0 where
   pub brackets : List ℕ
 
 -- of a call that is lent rows, a state and the stores
-abbrev pub left_in : RunAnswer → List ℕ → List ℕ → Stores → RunLeft
+abbrev pub left_in : TextsAnswer → List ℕ → List ℕ → Stores → RunLeft
 left_in a rows state s =
     record { answer = a; rows = rows; texts = s.texts.now; state = state; rules = s.rules.now; tokens = s.tokens.now; brackets = s.brackets.now }
 
 module _ (rows texts state rules tokens brackets : List ℕ) where
   -- "after others it is unchanged"
   unfoldable pub unchanged : Refusal → RunLeft
-  unchanged r =
-      record { answer = record { refusal = r; texts = 0 }; rows = rows; texts = texts; state = state; rules = rules; tokens = tokens; brackets = brackets }
+  unchanged r = record { answer = refused_texts r; rows = rows; texts = texts; state = state; rules = rules; tokens = tokens; brackets = brackets }
 
   -- the style rows of the page and the contents of its `style` attributes; "After an answer all beyond it, and all work stores, are zero"
   unfoldable pub ran : List ℕ → Settings → Page → RunLeft
   ran code settings g =
-      record {
-        answer = record { refusal = no_refusal; texts = length (page_contents settings g) };
-        rows = padded (page_rows code settings g) (length rows);
-        texts = padded (page_contents settings g) (length texts);
-        state = replicate (length state) 0;
-        rules = replicate (length rules) 0;
-        tokens = replicate (length tokens) 0;
-        brackets = replicate (length brackets) 0;
-      }
+      let a : TextsAnswer = record { refusal = no_refusal; texts = length (page_contents settings g) } in
+      let styles = padded (page_rows code settings g) (length rows) in
+      let contents = padded (page_contents settings g) (length texts) in
+      record { answer = a; rows = styles; texts = contents; state = zeros state; rules = zeros rules; tokens = zeros tokens; brackets = zeros brackets }
 
   -- "2 a lent buffer too short": rows and state, and the stores for the texts that are lent
   unfoldable pub run_suffices : List ℕ → Page → Bool

@@ -21,7 +21,7 @@ use Rattle.combinators.proofs.Wiped.{sets-append}
 use Rattle.lexer.specs.Name.{ident_of, name_answer, name_text}
 use Rattle.lexer.specs.Quoted.{string_end, string_text}
 use Rattle.lexer.specs.Token.{Token, string, bad_string, string_from, string_of, coded, text_of, token_answer, token_text}
-use Rattle.lexer.specs.TokenRow.{string_kind, columns_of}
+use Rattle.lexer.specs.TokenRow.{string_kind}
 use Rattle.lexer.specs.declared.Written.{Written}
 use Rattle.lexer.specs.declared.tokens.Token as declared
 use Rattle.lexer.specs.declared.tokens.Token.TheVariants as code
@@ -80,7 +80,7 @@ string-like s = pick-holds StringLike _ _ _ (λ _. string-from (get_or s 0 0) (d
 
 -- a string is of the kind of strings, a bad string is not
 string-kind : (b : List ℕ) → (is_kind string_kind (string b) ≡ true) × (is_kind string_kind (bad_string b) ≡ false)
-unfolding is_kind kind_of coded columns_of is
+unfolding is_kind kind_of is
 string-kind b = (refl, refl)
 
 module _ (s : List ℕ) where

@@ -24,7 +24,7 @@ component-some t n c e = (where-read (length t) _ (component_of t) n c e (compon
 -- ---- at the end of the text there is none
 -- of the empty text no component reads
 pub none_left : component_of [] ≡ fails
-unfolding component_of marked blank_of class_of attr_of hash_of pseudo_class_of or_else outcome.parsed ident_of name.name_of name.name_from name.dash name.nmstart_of name.nmstart_char_of name.folded_char name.either name.ident_escape_of name.is_nmstart skip_whitespace many parsed.behind pick or within is and
+unfolding component_of marked blank_of class_of attr_of hash_of pseudo_class_of or_else outcome.parsed ident_of name.name_of name.name_from name.dash name.nmstart_of name.folded_char name.ident_escape_of name.is_nmstart skip_whitespace many parsed.behind pick or within is and
 none_left = refl
 
 -- ---- turns beyond the bytes there are change nothing

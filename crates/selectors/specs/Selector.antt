@@ -178,15 +178,8 @@ unfoldable pub body_of : List ℕ → Outcome (List Component)
 body_of t = or_else (with_element_of t) (without_element_of t)
 
 unfoldable pub is_descendant : Component → Bool
-is_descendant star = false
-is_descendant (class t) = false
-is_descendant (element t) = false
-is_descendant (hash t) = false
-is_descendant child = false
 is_descendant descendant = true
-is_descendant (nth a b) = false
-is_descendant (attribute n) = false
-is_descendant (attribute_equal n v) = false
+is_descendant _ = false
 
 -- without a blank at the end
 unfoldable pub without_blank : List Component → List Component

@@ -21,7 +21,7 @@ use Rattle.combinators.proofs.Rules.{pick-false, pick-holds, never, is_true}
 use Rattle.characters.specs.Literal.{text}
 use Rattle.characters.specs.Utf8.{utf8, taken_of}
 use Rattle.lexer.specs.Name as name
-use Rattle.lexer.specs.Name.{ident_of, name_of, name_from, dash, nmstart_of, either, nmstart_char_of, folded_char, ident_escape_of, is_nmstart}
+use Rattle.lexer.specs.Name.{ident_of, name_of, name_from, dash, nmstart_of, folded_char, ident_escape_of, is_nmstart}
 use Rattle.lexer.specs.Number.{is_digit}
 use Rattle.lexer.specs.Token.{is_quote, string_of}
 use Rattle.lexer.specs.Whitespace.{skip_whitespace, whitespace_item, is_whitespace, comment_of}
@@ -117,7 +117,7 @@ sheet_before s = sheet_from_before (length s) s 0
 
 -- it panicked at the `=`
 test-before : sheet_before (text "[a=") ≡ panics 2
-unfolding sheet_before sheet_from_before statements_before ruleset_before selectors_before selector_before body_before components_before component_before component_with attr_before value_before closed some_of marked blank_of class_of on_outcome or_else behind parsed on_parsed text utf8 taken_of name.is_nmstart name.is_nmchar name.lower name.folded_char name.nmstart_char_of name.nmchar_char_of name.ident_escape_of name.either name.nmstart_of name.nmchar_of name.bytes_of name.char_taken name.char_text name.chars_end name.chars_text name.name_from name.dash name.name_of name.ident_of parser.behind skip_whitespace many took texts whitespace_item is_whitespace comment_of pick or and within is
+unfolding sheet_before sheet_from_before statements_before ruleset_before selectors_before selector_before body_before components_before component_before component_with attr_before value_before closed some_of marked blank_of class_of on_outcome or_else behind parsed on_parsed text utf8 taken_of name.is_nmstart name.is_nmchar name.lower name.folded_char name.ident_escape_of name.nmstart_of name.nmchar_of name.bytes_of name.char_taken name.char_text name.chars_end name.chars_text name.name_from name.dash name.name_of name.ident_of parser.behind skip_whitespace many took texts whitespace_item is_whitespace comment_of pick or and within is
 test-before = refl
 
 -- ---- one outcome before, and one now
@@ -196,7 +196,7 @@ NoneRead t o = (o ≡ fails) × (get_or t 0 0 ≡ ascii.left_square_bracket)
 
 -- at the end of the text there is no value
 no_value : (t : List ℕ) (j : ℕ) (name : List ℕ) → drop j t ≡ [] → value_of t j name ≡ fails
-unfolding value_of quoted_of string_of is_quote ident_of name_of name_from dash nmstart_of either nmstart_char_of folded_char ident_escape_of is_nmstart parser.behind skip_whitespace many on_parsed or_else pick or and within is
+unfolding value_of quoted_of string_of is_quote ident_of name_of name_from dash nmstart_of folded_char ident_escape_of is_nmstart parser.behind skip_whitespace many on_parsed or_else pick or and within is
 no_value t j name e = rw e
 
 -- a value: where the text ends behind its `=`, it was cut
@@ -222,7 +222,7 @@ attr-compared t =
 
 -- `[` begins no component but an attribute
 bracket-alone : (l : List ℕ) (a : Outcome Component) → component_with a (ascii.left_square_bracket ∷ l) ≡ a
-unfolding component_with marked blank_of class_of hash_of pseudo_class_of or_else parsed on_parsed ident_of name_of name_from dash nmstart_of either nmstart_char_of folded_char ident_escape_of is_nmstart parser.behind skip_whitespace many took whitespace_item is_whitespace comment_of pick or and within is
+unfolding component_with marked blank_of class_of hash_of pseudo_class_of or_else parsed on_parsed ident_of name_of name_from dash nmstart_of folded_char ident_escape_of is_nmstart parser.behind skip_whitespace many took whitespace_item is_whitespace comment_of pick or and within is
 bracket-alone l (reads n c) = refl
 bracket-alone l fails = refl
 bracket-alone l (panics p) = refl
@@ -480,7 +480,7 @@ rule-compared S S' t h c =
 
 -- '@' begins no selector
 at_first : (l : List ℕ) → (selectors_before (ascii.commercial_at ∷ l) ≡ reads 0 []) × (selectors_of (ascii.commercial_at ∷ l) ≡ reads 0 [])
-unfolding selectors_before selector_before body_before components_before component_before component_with attr_before selectors_of selector_of body_of with_element_of without_element_of some_of components_from components_of component_of marked blank_of class_of attr_of hash_of pseudo_class_of on_outcome or_else parsed on_parsed ident_of name_of name_from dash nmstart_of either nmstart_char_of folded_char ident_escape_of is_nmstart parser.behind skip_whitespace many took whitespace_item is_whitespace comment_of pick or and within is
+unfolding selectors_before selector_before body_before components_before component_before component_with attr_before selectors_of selector_of body_of with_element_of without_element_of some_of components_from components_of component_of marked blank_of class_of attr_of hash_of pseudo_class_of on_outcome or_else parsed on_parsed ident_of name_of name_from dash nmstart_of folded_char ident_escape_of is_nmstart parser.behind skip_whitespace many took whitespace_item is_whitespace comment_of pick or and within is
 at_first l = (refl, refl)
 
 -- so where a text begins with it

@@ -36,7 +36,7 @@ use Rattle.sheets.proofs.SheetBounds.{RulesKeep, moved_keeps}
 -- ---- no statement at the end of a text
 -- no name reads at the end of a text
 no_name : name.ident_of [] ≡ err
-unfolding name.ident_of name.name_of name.name_from name.dash name.nmstart_of name.either name.nmstart_char_of name.folded_char name.ident_escape_of name.escaped_of name.behind_one name.lower name.is_nmstart skip_whitespace whitespace_item is_whitespace comment_of parsed.behind many took utf8.taken_of utf8.scalar_of utf8.scalar_by utf8.lead_of pick or and is within
+unfolding name.ident_of name.name_of name.name_from name.dash name.nmstart_of name.folded_char name.ident_escape_of name.escaped_of name.behind_one name.lower name.is_nmstart skip_whitespace whitespace_item is_whitespace comment_of parsed.behind many took utf8.taken_of utf8.scalar_of utf8.scalar_by utf8.lead_of pick or and is within
 no_name = refl
 
 -- no white space begins at the end of a text

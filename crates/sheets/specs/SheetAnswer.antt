@@ -54,6 +54,10 @@ leaving a stores = record { answer = a; rules = stores.rules.now; tokens = store
 unfoldable pub padded : List ℕ → ℕ → List ℕ
 padded xs n = xs ++ replicate (n - length xs) 0
 
+-- a store with zeros in place of what it holds
+abbrev pub zeros : List ℕ → List ℕ
+zeros store = replicate (length store) 0
+
 -- of a sheet that was read how many rules, the first byte not read, the numbers that the rules take and the bytes of their texts. Reading a sheet
 -- never fails (proofs/SheetLaws.antt).
 unfoldable pub sheet_numbers : Outcome (List RuleSet) → SheetNumbers
@@ -65,13 +69,9 @@ sheet_numbers o =
 -- "After an answer all beyond it, and all work stores, are zero", "After 4 .. each writable buffer is zero throughout"
 unfoldable pub sheet_left : List ℕ → List ℕ → List ℕ → List ℕ → List ℕ → SheetLeft
 sheet_left s rules tokens brackets texts =
-    record {
-      answer = sheet_numbers (sheet_of s);
-      rules = padded (written (rule_rows 0) (sheet_of s)) (length rules);
-      tokens = replicate (length tokens) 0;
-      brackets = replicate (length brackets) 0;
-      texts = padded (written rule_texts (sheet_of s)) (length texts);
-    }
+    let rows = padded (written (rule_rows 0) (sheet_of s)) (length rules) in
+    let names = padded (written rule_texts (sheet_of s)) (length texts) in
+    record { answer = sheet_numbers (sheet_of s); rules = rows; tokens = zeros tokens; brackets = zeros brackets; texts = names }
 
 -- "after others it is unchanged"
 unfoldable pub unchanged : Refusal → List ℕ → List ℕ → List ℕ → List ℕ → SheetLeft

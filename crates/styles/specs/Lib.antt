@@ -1,3 +1,4 @@
+pub mod Answer
 pub mod Lent
 pub mod Said
 pub mod Computed

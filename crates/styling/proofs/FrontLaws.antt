@@ -181,13 +181,14 @@ module _ {agent user author out rules₀ tokens brackets texts : List ℕ} {p : 
   pub front-sheets : Lent agent user author yf xf bf tf
   front-sheets =
       record {
-        agent-within = o.lent.agent-within;
-        user-within = o.lent.user-within;
-        author-within = o.lent.author-within;
-        for-rules = omega (arith, long-y, o.enough);
-        for-tokens = omega (arith, long-x, o.enough);
-        for-brackets = omega (arith, long-b, o.enough);
-        for-texts = omega (arith, long-t, o.enough);
+        within = o.lent.within;
+        least =
+            record {
+              for-texts = omega (arith, long-t, o.enough);
+              for-brackets = omega (arith, long-b, o.enough);
+              for-rules = omega (arith, long-y, o.enough);
+              for-tokens = omega (arith, long-x, o.enough);
+            };
       }
 
   -- and for the path

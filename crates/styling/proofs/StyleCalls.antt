@@ -29,7 +29,7 @@ use Rattle.origins.proofs.ChecksLaws.{none-long}
 use Rattle.origins.proofs.SheetsKnown.{zeros_of, room-cleared, panic-known}
 use Rattle.cascade.specs.declared.slots.Cascade.{Cascade}
 use Rattle.cascade.specs.Row.{style_row_width}
-use Rattle.page.specs.Accepted.{first_bad_row, first_bad_text, refused_row, error_refusal, refusal_of, rows_refusal, page_refusal}
+use Rattle.page.specs.Accepted.{first_bad_row, first_bad_text, refused_row, error_refusal, refusal_of, page_refusal}
 use Rattle.page.specs.declared.check.PageError.{PageError}
 use Rattle.page.specs.declared.check.PageError.TheVariants.{TooLarge, BadRow, BadText}
 use Rattle.page.specs.Path.{Path}
@@ -50,7 +50,8 @@ use Rattle.page.specs.Lent.{Page}
 use Rattle.styles.specs.Lent.{SheetTexts}
 use Rattle.styling.specs.declared.style.StyleError.{StyleError}
 use Rattle.styling.specs.declared.style.StyleError.TheVariants.{TooLong, ShortStore, NotUtf8, BadPage, NoElement, Panic}
-use Rattle.styling.specs.StyleAnswer.{call_bytes, is_element, StyleAnswer, style_refusal, numbers_of, StyleLeft, zeroed, unchanged, answered, styled_left, asked_left, style_of}
+use Rattle.styles.specs.Answer.{TextsAnswer}
+use Rattle.styling.specs.StyleAnswer.{call_bytes, is_element, style_refusal, numbers_of, StyleLeft, zeroed, unchanged, answered, styled_left, asked_left, style_of}
 use Rattle.styling.specs.Styling.{FewBytes, ReadRoom, CallLent, AskedLent}
 use Rattle.rule_styles.proofs.SheetsHeldLaws as held
 
@@ -88,7 +89,7 @@ told-panic p = refl
 
 -- ---- what is left, by its parts
 -- what is left is the same where the answer and each of the five buffers are
-pub left_by : {a a' : StyleAnswer} {o o' t t' y y' x x' b b' : List ℕ} → a ≡ a' → o ≡ o' → t ≡ t' → y ≡ y' → x ≡ x' → b ≡ b'
+pub left_by : {a a' : TextsAnswer} {o o' t t' y y' x x' b b' : List ℕ} → a ≡ a' → o ≡ o' → t ≡ t' → y ≡ y' → x ≡ x' → b ≡ b'
     → ◌≡◌ {A = StyleLeft} (record { answer = a; row = o; texts = t; rules = y; tokens = x; brackets = b }) (record { answer = a'; row = o'; texts = t'; rules = y'; tokens = x'; brackets = b' })
 left_by p q r s t u = rw (p, q, r, s, t, u) refl
 
@@ -102,13 +103,13 @@ module _ (c : Cascade) (settings : Settings) (p : Path) {agent user author rules
   abbrev meant : Sheets
   meant = sheets_of agent user author
 
-  abbrev Left : StyleAnswer → List ℕ → List ℕ → List ℕ → List ℕ → List ℕ → Type 0
+  abbrev Left : TextsAnswer → List ℕ → List ℕ → List ℕ → List ℕ → List ℕ → Type 0
   Left a k t y x b =
       ◌≡◌ {A = StyleLeft} (record { answer = a; row = k; texts = t; rules = y; tokens = x; brackets = b }) (styled_left out₀ texts₀ rules₀ tokens₀ brackets₀ c settings p meant)
 
   module _ {r : Result SheetsRules SheetPanic} {y₂ x₂ b₂ t₂ : List ℕ} (er : r ≡ sheets_answer meant) (ey : y₂ ≡ sets y₁ 0 (sheets_rows meant)) (ex : x₂ ≡ x₁) (eb : b₂ ≡ b₁) (et : t₂ ≡ sets t₁ 0 (sheets_texts meant)) where
     -- where the crate panics all is zero
-    pub panics : {at : SheetPanic} → r ≡ Err at → {a : StyleAnswer} {q : Refusal} → q ≡ refused_in panic at.text at.place → a ≡ record { refusal = q; texts = 0 } → Left a o₁ t₂ y₂ x₂ b₂
+    pub panics : {at : SheetPanic} → r ≡ Err at → {a : TextsAnswer} {q : Refusal} → q ≡ refused_in panic at.text at.place → a ≡ record { refusal = q; texts = 0 } → Left a o₁ t₂ y₂ x₂ b₂
     unfolding styled_left zeroed sheets_rows sheets_texts
     panics {at} g {a} {q} eq ea =
         let k : meant ≡ panicked at.text at.place = panic-known meant at (sym g ∙ er) in
@@ -181,7 +182,7 @@ module _ (c : Cascade) (settings : Settings) (p : Path) {agent user author rules
       pub styled : {o₂ t₃ y₃ x₃ b₃ : List ℕ} {n : ℕ}
           → o₂ ≡ call_row c (sheets_from y₂ t₂ s) settings p ++ drop style_row_width o₁ → n ≡ length (call_store (sheets_from y₂ t₂ s) settings p)
           → t₃ ≡ padded (call_store (sheets_from y₂ t₂ s) settings p) (length t₂) → y₃ ≡ replicate (length y₂) 0 → x₃ ≡ replicate (length x₂) 0 → b₃ ≡ replicate (length b₂) 0
-          → {a : StyleAnswer} → a ≡ record { refusal = no_refusal; texts = n } → Left a o₂ t₃ y₃ x₃ b₃
+          → {a : TextsAnswer} → a ≡ record { refusal = no_refusal; texts = n } → Left a o₂ t₃ y₃ x₃ b₃
       unfolding styled_left answered padded lies
       styled {o₂} {t₃} {y₃} {x₃} {b₃} {n} eo en et₃ ey₃ ex₃ eb₃ {a} ea =
           let R = held.read lies in
@@ -231,7 +232,7 @@ row-quiet n None r h q = q
 
 -- a page that is refused with the number 0 is not refused
 pub quiet : (nodes attributes text : List ℕ) → Quiet (page_refusal nodes attributes text)
-unfolding page_refusal rows_refusal Quiet
+unfolding page_refusal Quiet
 quiet nodes attributes text =
     pick-holds Quiet _ _ _
     (λ _. pick-holds Quiet _ _ _ (λ _. loud _ _)
@@ -243,11 +244,11 @@ module _ (c : Cascade) (settings : Settings) (s : SheetTexts) (g : Page) (row : 
   abbrev Asked : StyleLeft → Type 0
   Asked z = z ≡ asked_left out texts rules₀ tokens brackets c settings g row (sheets_of s.agent s.user s.author)
 
-  abbrev refuses : StyleAnswer → StyleLeft
+  abbrev refuses : TextsAnswer → StyleLeft
   refuses a = record { answer = a; row = out; texts = texts; rules = rules₀; tokens = tokens; brackets = brackets }
 
   -- a page that is refused is answered with that refusal, and the stores stay
-  pub page-refused : ¬ (r.number ≡ 0) → {a : StyleAnswer} → a ≡ record { refusal = r; texts = 0 } → Asked (refuses a)
+  pub page-refused : ¬ (r.number ≡ 0) → {a : TextsAnswer} → a ≡ record { refusal = r; texts = 0 } → Asked (refuses a)
   unfolding asked_left unchanged
   page-refused h {a} ea = pick-false _ _ _ _ (is-no _ _ (λ e. h (ap (λ (q : Refusal). q.number) er ∙ e))) (left_by (ea ∙ ap (λ (q : Refusal). record { refusal = q; texts = 0 }) er) refl refl refl refl refl)
 
@@ -262,7 +263,7 @@ module _ (c : Cascade) (settings : Settings) (s : SheetTexts) (g : Page) (row : 
 
     module _ {t : Bool} (et : t ≡ is_element g.nodes row) where
       -- a row that is no element is refused, and the stores stay
-      pub no-element : t ≡ false → {a : StyleAnswer} {q : Refusal} → q ≡ refused no_element → a ≡ record { refusal = q; texts = 0 } → Asked (refuses a)
+      pub no-element : t ≡ false → {a : TextsAnswer} {q : Refusal} → q ≡ refused no_element → a ≡ record { refusal = q; texts = 0 } → Asked (refuses a)
       unfolding asked_left unchanged
       no-element f {a} {q} eq ea =
           pick_true _ _ _ _ (is-yes _ _ no_number) (pick-false _ _ _ _ (sym et ∙ f) (left_by (ea ∙ ap (λ (z : Refusal). record { refusal = z; texts = 0 }) eq) refl refl refl refl refl))
@@ -294,13 +295,14 @@ module _ (c : Cascade) (settings : Settings) (s : SheetTexts) (g : Page) (row : 
         unfolding call_bytes
         lent =
             record {
-              agent-within = l.agent-within;
-              user-within = l.user-within;
-              author-within = l.author-within;
-              for-rules = omega (arith, l.least.for-rules);
-              for-tokens = omega (arith, l.least.for-tokens);
-              for-brackets = omega (arith, l.least.for-brackets);
-              for-texts = omega (arith, l.least.for-texts);
+              within = l.within;
+              least =
+                  record {
+                    for-texts = omega (arith, l.least.for-texts);
+                    for-brackets = omega (arith, l.least.for-brackets);
+                    for-rules = omega (arith, l.least.for-rules);
+                    for-tokens = omega (arith, l.least.for-tokens);
+                  };
             }
 
         abbrev path : Path
@@ -353,17 +355,17 @@ module _ (c : Cascade) (settings : Settings) (s : SheetTexts) (g : Page) (row : 
   abbrev Called : StyleLeft → Type 0
   Called z = z ≡ style_of c settings s g row out texts rules₀ tokens brackets
 
-  abbrev refuse : StyleAnswer → StyleLeft
+  abbrev refuse : TextsAnswer → StyleLeft
   refuse a = record { answer = a; row = out; texts = texts; rules = rules₀; tokens = tokens; brackets = brackets }
 
   -- an answer with a refusal and the stores as they were is what the definition refuses with
-  refused_as : {a : StyleAnswer} {q : Refusal} (n : ℕ) → q ≡ refused n → a ≡ record { refusal = q; texts = 0 } → refuse a ≡ unchanged out texts rules₀ tokens brackets (refused n)
+  refused_as : {a : TextsAnswer} {q : Refusal} (n : ℕ) → q ≡ refused n → a ≡ record { refusal = q; texts = 0 } → refuse a ≡ unchanged out texts rules₀ tokens brackets (refused n)
   unfolding unchanged
   refused_as n eq ea = left_by (ea ∙ ap (λ (z : Refusal). record { refusal = z; texts = 0 }) eq) refl refl refl refl refl
 
   module _ {t : Bool} (e : t ≡ any_too_long (length s.agent) (length s.user) (length s.author)) where
     -- a sheet that is too long is refused, and the stores stay
-    pub too_long_lem : t ≡ true → {a : StyleAnswer} {q : Refusal} → q ≡ refused too_long → a ≡ record { refusal = q; texts = 0 } → Called (refuse a)
+    pub too_long_lem : t ≡ true → {a : TextsAnswer} {q : Refusal} → q ≡ refused too_long → a ≡ record { refusal = q; texts = 0 } → Called (refuse a)
     unfolding style_of
     too_long_lem f eq ea = pick_true _ _ _ _ (sym e ∙ f) (refused_as too_long eq ea)
 
@@ -378,7 +380,7 @@ module _ (c : Cascade) (settings : Settings) (s : SheetTexts) (g : Page) (row : 
 
       module _ {v : Bool} (ev : v ≡ and (leb style_row_width (length out)) (stores_suffice (call_bytes s g) (length rules₀) (length tokens) (length brackets) (length texts))) where
         -- a row or a store that is too short is refused, and all of them stay
-        pub short-store : v ≡ false → {a : StyleAnswer} {q : Refusal} → q ≡ refused short_store → a ≡ record { refusal = q; texts = 0 } → Called (refuse a)
+        pub short-store : v ≡ false → {a : TextsAnswer} {q : Refusal} → q ≡ refused short_store → a ≡ record { refusal = q; texts = 0 } → Called (refuse a)
         unfolding style_of
         short-store h eq ea = pick-false _ _ _ _ (sym e ∙ f) (pick-false _ _ _ _ (sym ev ∙ h) (refused_as short_store eq ea))
 
@@ -389,11 +391,11 @@ module _ (c : Cascade) (settings : Settings) (s : SheetTexts) (g : Page) (row : 
 
           -- so what is lent is what the call asks for
           pub asked-lent : AskedLent s g out rules₀ tokens brackets texts
-          asked-lent = record { agent-within = within.0; user-within = within.1; author-within = within.2; row = leb-true _ _ both.0; least = least refl both.1 }
+          asked-lent = record { within = sym e ∙ f; row = leb-true _ _ both.0; least = least refl both.1 }
 
           module _ {x : Bool} (i : x ≡ all_valid s.agent s.user s.author) where
             -- sheets that are no UTF-8 are refused, and the stores stay
-            pub not-utf8 : x ≡ false → {a : StyleAnswer} {q : Refusal} → q ≡ refused not_utf8 → a ≡ record { refusal = q; texts = 0 } → Called (refuse a)
+            pub not-utf8 : x ≡ false → {a : TextsAnswer} {q : Refusal} → q ≡ refused not_utf8 → a ≡ record { refusal = q; texts = 0 } → Called (refuse a)
             unfolding style_of
             not-utf8 j eq ea = pick-false _ _ _ _ (sym e ∙ f) (pick_true _ _ _ _ (sym ev ∙ h) (pick-false _ _ _ _ (sym i ∙ j) (refused_as not_utf8 eq ea)))
 

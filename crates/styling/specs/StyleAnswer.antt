@@ -1,10 +1,10 @@
 -- What a style call answers and leaves: the refusals of document 01 in the order in which they are looked for, or the style row of the asked element.
-use Rattle.std.specs.Prelude.{ℕ, ◌+◌, ◌*◌, Bool, Result, Ok, Err, List, leb, ltb, length, replicate}
+use Rattle.std.specs.Prelude.{ℕ, ◌+◌, ◌*◌, Bool, Result, Ok, Err, List, leb, ltb, length}
 use Rattle.combinators.specs.Choice.{pick, and, is}
 use Rattle.combinators.specs.LeastLengths.{stores_suffice}
 use Rattle.combinators.specs.Refusal.{no_refusal, refused, refused_in, too_long, short_store, not_utf8, no_element, panic}
 use Rattle.combinators.specs.declared.refusals.Refusal.{Refusal}
-use Rattle.sheets.specs.SheetAnswer.{padded}
+use Rattle.sheets.specs.SheetAnswer.{padded, zeros}
 use Rattle.origins.specs.Checks.{any_too_long, all_valid}
 use Rattle.origins.specs.Reading.{Sheets, rules, panicked, sheets_of}
 use Rattle.cascade.specs.declared.slots.Cascade.{Cascade}
@@ -21,6 +21,7 @@ use Rattle.page.specs.Lent.{Page}
 use Rattle.styles.specs.Lent.{SheetTexts}
 use Rattle.combinators.specs.declared.lent.SheetTexts as code
 use Rattle.styles.specs.Said.{Rules}
+use Rattle.styles.specs.Answer.{TextsAnswer, refused_texts}
 use Rattle.styles.specs.StyleCall.{call_row, call_store}
 
 -- "a style call takes that [name bytes plus twice the attributes] plus the bytes of its three sheets", as lent
@@ -31,12 +32,8 @@ call_bytes s g = length s.agent + length s.user + length s.author + 2 * attribut
 unfoldable pub is_element : List ℕ → ℕ → Bool
 is_element nodes row = and (ltb row (node_count nodes)) (is (node_at nodes row).kind element_kind)
 
--- ---- an answer in numbers: the refusal; of an element that was styled the bytes of its texts. What does not apply is 0.
-pub record StyleAnswer : Type 0 where
-  pub refusal : Refusal
-  pub texts : ℕ
-
--- why a call is refused, in numbers
+-- ---- the answer in numbers
+-- why a call is refused
 unfoldable pub style_refusal : StyleError → Refusal
 style_refusal TooLong = refused too_long
 style_refusal ShortStore = refused short_store
@@ -45,13 +42,13 @@ style_refusal (BadPage e) = error_refusal e
 style_refusal NoElement = refused no_element
 style_refusal (Panic p) = refused_in panic p.text p.place
 
-unfoldable pub numbers_of : Result ℕ StyleError → StyleAnswer
+unfoldable pub numbers_of : Result ℕ StyleError → TextsAnswer
 numbers_of (Ok texts) = record { refusal = no_refusal; texts = texts }
-numbers_of (Err e) = record { refusal = style_refusal e; texts = 0 }
+numbers_of (Err e) = refused_texts (style_refusal e)
 
 -- ---- what is left of the call: its answer and the five buffers
 pub record StyleLeft : Type 0 where
-  pub answer : StyleAnswer
+  pub answer : TextsAnswer
   pub row : List ℕ
   pub texts : List ℕ
   pub rules : List ℕ
@@ -59,37 +56,26 @@ pub record StyleLeft : Type 0 where
   pub brackets : List ℕ
 
 -- of a call that is lent a row and the stores
-abbrev pub left_in : StyleAnswer → List ℕ → Stores → StyleLeft
+abbrev pub left_in : TextsAnswer → List ℕ → Stores → StyleLeft
 left_in a row s = record { answer = a; row = row; texts = s.texts.now; rules = s.rules.now; tokens = s.tokens.now; brackets = s.brackets.now }
 
 module _ (row texts rules₀ tokens brackets : List ℕ) where
   -- "After 4 .. each writable buffer is zero throughout"
   unfoldable pub zeroed : Refusal → StyleLeft
   zeroed r =
-      record {
-        answer = record { refusal = r; texts = 0 };
-        row = replicate (length row) 0;
-        texts = replicate (length texts) 0;
-        rules = replicate (length rules₀) 0;
-        tokens = replicate (length tokens) 0;
-        brackets = replicate (length brackets) 0;
-      }
+      record { answer = refused_texts r; row = zeros row; texts = zeros texts; rules = zeros rules₀; tokens = zeros tokens; brackets = zeros brackets }
 
   -- "after others it is unchanged"
   unfoldable pub unchanged : Refusal → StyleLeft
-  unchanged r = record { answer = record { refusal = r; texts = 0 }; row = row; texts = texts; rules = rules₀; tokens = tokens; brackets = brackets }
+  unchanged r = record { answer = refused_texts r; row = row; texts = texts; rules = rules₀; tokens = tokens; brackets = brackets }
 
   -- the numbers of a style row and the contents; "After an answer all beyond it, and all work stores, are zero"
   unfoldable pub answered : List ℕ → List ℕ → StyleLeft
   answered numbers contents =
-      record {
-        answer = record { refusal = no_refusal; texts = length contents };
-        row = padded numbers (length row);
-        texts = padded contents (length texts);
-        rules = replicate (length rules₀) 0;
-        tokens = replicate (length tokens) 0;
-        brackets = replicate (length brackets) 0;
-      }
+      let a : TextsAnswer = record { refusal = no_refusal; texts = length contents } in
+      let style = padded numbers (length row) in
+      let names = padded contents (length texts) in
+      record { answer = a; row = style; texts = names; rules = zeros rules₀; tokens = zeros tokens; brackets = zeros brackets }
 
   -- of sheets that were read, for the path of an element
   unfoldable pub styled_left : Cascade → Settings → Path → Sheets → StyleLeft

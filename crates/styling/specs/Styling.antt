@@ -1,11 +1,11 @@
 -- What the parts of a style call ask for.
-use Rattle.std.specs.Prelude.{ℕ, ◌+◌, ◌*◌, ◌≤◌, List, length}
+use Rattle.std.specs.Prelude.{ℕ, ◌+◌, ◌*◌, ◌≤◌, ◌≡◌, false, List, length}
 use Rattle.combinators.specs.LeastLengths.{Least}
 use Rattle.combinators.specs.declared.lent.Stores.{Stores}
 use Rattle.combinators.specs.declared.lent.SheetTexts as code
 use Rattle.sheets.specs.SheetAnswer.{sheet_limit}
 use Rattle.cascade.specs.Row.{style_row_width}
-use Rattle.origins.specs.Checks.{Lent}
+use Rattle.origins.specs.Checks.{any_too_long, Lent}
 use Rattle.origins.specs.Reading.{SheetsRules}
 use Rattle.page.specs.Accepted.{text_limit}
 use Rattle.page.specs.Path.{Path}
@@ -37,9 +37,7 @@ pub record CallLent (sheets : ℕ) (p : Path) (out rules tokens brackets texts :
 
 -- no sheet too long, a row for the style, and stores of the least lengths for all that is lent
 pub record AskedLent (s : SheetTexts) (g : Page) (out rules tokens brackets texts : List ℕ) : Type 0 where
-  pub agent-within : length s.agent ≤ sheet_limit
-  pub user-within : length s.user ≤ sheet_limit
-  pub author-within : length s.author ≤ sheet_limit
+  pub within : any_too_long (length s.agent) (length s.user) (length s.author) ≡ false
   pub row : style_row_width ≤ length out
   pub least : Least (call_bytes s g) (length rules) (length tokens) (length brackets) (length texts)
 

@@ -65,38 +65,27 @@ component_kind (attribute_equal n v) = attribute_equal_kind
 
 -- the length of its first text, or a
 unfoldable pub component_first : Component → ℕ
-component_first star = 0
 component_first (class t) = length t
 component_first (element t) = length t
 component_first (hash t) = length t
-component_first child = 0
-component_first descendant = 0
 component_first (nth a b) = signed_number a
 component_first (attribute n) = length n
 component_first (attribute_equal n v) = length n
+component_first _ = 0
 
 -- the length of its second text, which lies behind the first, or b
 unfoldable pub component_second : Component → ℕ
-component_second star = 0
-component_second (class t) = 0
-component_second (element t) = 0
-component_second (hash t) = 0
-component_second child = 0
-component_second descendant = 0
 component_second (nth a b) = signed_number b
-component_second (attribute n) = 0
 component_second (attribute_equal n v) = length v
+component_second _ = 0
 
 unfoldable pub component_text : Component → List ℕ
-component_text star = []
 component_text (class t) = t
 component_text (element t) = t
 component_text (hash t) = t
-component_text child = []
-component_text descendant = []
-component_text (nth a b) = []
 component_text (attribute n) = n
 component_text (attribute_equal n v) = n ++ v
+component_text _ = []
 
 -- the row, where its texts start at f
 unfoldable pub component_row : ℕ → Component → List ℕ

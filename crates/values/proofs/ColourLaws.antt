@@ -19,7 +19,7 @@ use Rattle.lexer.proofs.Escapes.{digit-le}
 use Rattle.syntax.specs.Declaration.{Colour}
 use Rattle.syntax.specs.Layout.{colour_number}
 use Rattle.values.specs.Words.{Found, found, missing, on_found}
-use Rattle.values.specs.Colour.{rgb, all_of, numeral, without_plus, digits_in, parse_u8, parse_hex, three_digits, six_digits, hash_colour, three_numbers}
+use Rattle.values.specs.Colour.{rgb, all_of, numeral, without_plus, digits_in, parse_u8, parse_hex, three_digits, six_digits, hash_colour, rgb_of, three_numbers}
 use Rattle.values.specs.ColourAnswer.{is_digit_in, number_answer, colour_answer}
 use Rattle.std.specs.Prelude.{Option, Some, None, MatchOption}
 use lib.Pointwise.{pointwise}
@@ -319,22 +319,22 @@ byte_le p base t x v e h = read-le p base hex_digit 255 t v (number-found x _ e 
 module _ (r g b : List ℕ) (x : Option ℕ) (ex : x ≡ number_answer (parse_u8 r)) where
   -- the first is no number
   pub red-none : x ≡ None → None ≡ colour_answer (three_numbers r g b)
-  unfolding colour_answer on_found three_numbers
+  unfolding colour_answer on_found three_numbers rgb_of
   red-none h = rw (number-missing x _ ex h)
 
   module _ (i : ℕ) (hx : x ≡ Some i) (y : Option ℕ) (ey : y ≡ number_answer (parse_u8 g)) where
     -- where the second is no byte there is no colour
     pub green-none : y ≡ None → None ≡ colour_answer (three_numbers r g b)
-    unfolding colour_answer on_found three_numbers
+    unfolding colour_answer on_found three_numbers rgb_of
     green-none h = rw (number-found x _ ex i hx, number-missing y _ ey h)
 
     module _ (j : ℕ) (hy : y ≡ Some j) (z : Option ℕ) (ez : z ≡ number_answer (parse_u8 b)) where
       -- where the third is no byte there is no colour
       pub blue-none : z ≡ None → None ≡ colour_answer (three_numbers r g b)
-      unfolding colour_answer on_found three_numbers
+      unfolding colour_answer on_found three_numbers rgb_of
       blue-none h = rw (number-found x _ ex i hx, number-found y _ ey j hy, number-missing z _ ez h)
 
       -- three bytes are a colour
       pub three-numbers : (k : ℕ) → z ≡ Some k → (w : ℕ) → w ≡ colour_number (rgb i j k) → Some w ≡ colour_answer (three_numbers r g b)
-      unfolding colour_answer on_found three_numbers
+      unfolding colour_answer on_found three_numbers rgb_of
       three-numbers k hz w ew = rw (number-found x _ ex i hx, number-found y _ ey j hy, number-found z _ ez k hz, ew)

@@ -14,7 +14,7 @@ use Rattle.syntax.specs.Declaration.{Colour}
 use Rattle.syntax.proofs.Back.{OfBytes}
 use Rattle.values.specs.Words.{Entry, Found, found, missing, lookup, on_found}
 use Rattle.lexer.specs.Number.{is_digit}
-use Rattle.values.specs.Colour.{without_plus, rgb, colours, parse_u8, parse_hex, three_digits, six_digits, hash_colour, three_numbers, rgb_colour, one_token, colour_of, behind_comma, background_of}
+use Rattle.values.specs.Colour.{without_plus, rgb, colours, parse_u8, parse_hex, three_digits, six_digits, hash_colour, rgb_of, three_numbers, rgb_colour, one_token, colour_of, behind_comma, background_of}
 use Rattle.values.specs.ColourAnswer.{number_answer}
 use Rattle.values.proofs.ColourLaws.{byte_le}
 use Rattle.values.proofs.WordLaws.{found-holds, or-holds}
@@ -107,7 +107,7 @@ byte-lt s v e = omega (arith, byte_le is_digit 10 (without_plus s) (number_answe
 
 -- a colour of three numbers is made of bytes
 numbers-bytes : (r g b : List ℕ) → Bytes (three_numbers r g b)
-unfolding three_numbers
+unfolding three_numbers rgb_of
 numbers-bytes r g b =
     by_number (parse_u8 r) _
     (λ x ex. by_number (parse_u8 g) _

@@ -15,11 +15,10 @@ use Rattle.characters.specs.Literal.{text}
 use Rattle.characters.specs.Utf8.{utf8, continuation}
 use Rattle.lexer.specs.Name.{is_hex_digit, hex_digit}
 use Rattle.lexer.specs.Number.{is_digit}
-use Rattle.lexer.specs.Token.{function, number, comma, close_round, coded, text_of}
-use Rattle.lexer.specs.TokenRow.{columns_of}
+use Rattle.lexer.specs.Token.{function, number, comma, close_round, text_of}
 use Rattle.lexer.proofs.Escapes.{digit-le}
-use Rattle.values.specs.Words.{kind_of, is_kind, Entry, found, found_or, lookup, on_found}
-use Rattle.values.specs.Colour.{rgb, colours, all_of, numeral, without_plus, digits_in, parse_u8, parse_hex, three_digits, six_digits, hash_colour, three_numbers, rgb_colour, colour_of}
+use Rattle.values.specs.Words.{kind_of, is_kind, Entry, found, lookup, on_found}
+use Rattle.values.specs.Colour.{rgb, colours, all_of, numeral, without_plus, digits_in, parse_u8, parse_hex, three_digits, six_digits, hash_colour, rgb_of, three_numbers, rgb_colour, colour_of}
 use Rattle.values.proofs.ColourLaws.{number_read}
 
 -- ---- the hexadecimal notation
@@ -111,7 +110,7 @@ document =
 
 -- each name is the colour that the document gives, and there are no others
 pub named : All (λ (e : Entry (List ℕ)). lookup e.word colours ≡ hash_colour e.means) document × (length colours ≡ length document)
-unfolding lookup found_or same_text rgb hash_colour six_digits on_found parse_hex digits_in without_plus numeral all_of is_hex_digit hex_digit text utf8 continuation choice.pick choice.and choice.or choice.is choice.within
+unfolding lookup same_text rgb hash_colour six_digits on_found parse_hex digits_in without_plus numeral all_of is_hex_digit hex_digit text utf8 continuation choice.pick choice.and choice.or choice.is choice.within
 named = ((refl, (refl, (refl, (refl, (refl, (refl, (refl, (refl, (refl, (refl, (refl, (refl, (refl, (refl, (refl, (refl, (refl, tt))))))))))))))))), refl)
 
 -- ---- rgb() of three integers
@@ -133,5 +132,5 @@ integer-read (x ∷ t) v h =
 -- three integers in brackets, parted by commas, are red, green and blue
 pub functional : (r g b : List ℕ) (x y z : ℕ) → Integer r x → Integer g y → Integer b z
     → colour_of (function (text "rgb") ∷ number r ∷ comma ∷ number g ∷ comma ∷ number b ∷ close_round ∷ []) ≡ found (rgb x y z)
-unfolding colour_of rgb_colour three_numbers on_found is_kind kind_of columns_of coded text_of same_text text utf8 continuation pick choice.and choice.is
+unfolding colour_of rgb_colour three_numbers rgb_of on_found is_kind kind_of text_of same_text text utf8 continuation pick choice.and choice.is
 functional r g b x y z hr hg hb = rw (integer-read r x hr, integer-read g y hg, integer-read b z hb)

@@ -21,9 +21,15 @@ use Rattle.values.specs.declared.statements.Step.TheVariants.{Next, Before, Behi
 
 -- ---- tokens
 
+-- the code's token does to the brackets what the token does
+pub bracket-coded : (k : Token) → bracket_by (coded k) ≡ bracket_of k
+unfolding bracket_by bracket_of coded
+bracket-coded (ident b) = refl
+bracket-coded _ = refl
+
 -- a token at which the statement does not go on has no text
 pub no_text : (include : Bool) (cs : List ℕ) (k : Token) → ((ds : List ℕ) → ¬ (step_of include (bracket_of k) cs ≡ next ds)) → text_of k ≡ []
-unfolding step_of bracket_of bracket_by coded text_of
+unfolding step_of bracket_of text_of
 no_text include cs (ident b) never = absurd (never _ refl)
 no_text include cs (function b) never = absurd (never _ refl)
 no_text include cs (hash b) never = absurd (never _ refl)

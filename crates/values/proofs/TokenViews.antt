@@ -7,44 +7,34 @@ use native.Mathlib.Omega.{arith}
 use lib.Dec.{eqb}
 use lib.ListN.{length, get_or, take, drop, length-drop}
 use lib.Pointwise.{pointwise}
-use lib.Seq.{get_or-drop, get_or-take, length-take-le, drop-drop, take-append_seam, drop-append_seam}
+use lib.Seq.{get_or-drop, get_or-take, length-take-le, drop-drop}
 use Rattle.combinators.specs.Choice.{pick, is}
 use Rattle.combinators.specs.Word.{same_text}
 use Rattle.combinators.specs.Part.{part}
-use Rattle.combinators.proofs.Rules.{pick-holds, is-yes, is_true, same_test, and-gives, and-gives-false, told}
-use Rattle.lexer.specs.Token.{coded, text_of}
+use Rattle.combinators.proofs.Rules.{never, pick-holds, is-yes, is_true, same_test, and-gives, and-gives-false, told}
+use Rattle.lexer.specs.Token.{Token, delim, text_of}
 use Rattle.lexer.specs.TokenRow.{token_width, kind_column, start_column, first_column, second_column, ident_kind, function_kind, hash_kind, string_kind, bad_string_kind, delim_kind, number_kind, dimension_kind, percentage_kind, cdo_kind, cdc_kind, colon_kind, semicolon_kind, comma_kind, open_square_kind, close_square_kind, open_round_kind, close_round_kind, open_brace_kind, close_brace_kind, columns_of, mark_from, token_from, token_in}
 use Rattle.lexer.specs.declared.tokens.Token as lexer
 use Rattle.lexer.specs.declared.tokens.Token.TheVariants as code
 use Rattle.syntax.specs.Stream.{read_many}
-use Rattle.values.specs.Words.{kind_of, token_first, number_of, unit_of, is_kind, is_word, is_delim}
+use Rattle.values.specs.Words.{other_kind, kind_of, number_of, unit_of, is_kind, is_word, is_delim}
 use Rattle.values.proofs.WordLaws.{same_bytes}
 use Rattle.values.specs.View.{token_with, read_token, token_here, first_text, second_text, tokens_at, token_count}
 
 -- ---- kinds
--- a token has its kind also with its texts
-kind-with : (store : List ℕ) (s : ℕ) (k : lexer.Token) → kind_of (token_with store s k) ≡ (columns_of k).kind
-unfolding kind_of token_with coded columns_of
-kind-with store s (code.Ident n) = refl
-kind-with store s (code.Function n) = refl
-kind-with store s (code.Hash n) = refl
-kind-with store s (code.String n) = refl
-kind-with store s (code.BadString n) = refl
-kind-with store s (code.Delim c) = refl
-kind-with store s (code.Number n) = refl
-kind-with store s (code.Dimension n m) = refl
-kind-with store s (code.Percentage n) = refl
-kind-with store s code.CDO = refl
-kind-with store s code.CDC = refl
-kind-with store s code.Colon = refl
-kind-with store s code.Semicolon = refl
-kind-with store s code.Comma = refl
-kind-with store s code.OpenSquare = refl
-kind-with store s code.CloseSquare = refl
-kind-with store s code.OpenRound = refl
-kind-with store s code.CloseRound = refl
-kind-with store s code.OpenBrace = refl
-kind-with store s code.CloseBrace = refl
+-- a token has its kind also with its texts, where it is one that values tell apart
+kind-with : (store : List ℕ) (s n : ℕ) → ¬ (n ≡ other_kind) → (k : lexer.Token) → kind_of (token_with store s k) ≡ n → (columns_of k).kind ≡ n
+unfolding kind_of token_with columns_of
+kind-with store s n d (code.Ident m) e = e
+kind-with store s n d (code.Function m) e = e
+kind-with store s n d (code.Hash m) e = e
+kind-with store s n d (code.String m) e = e
+kind-with store s n d (code.Delim c) e = e
+kind-with store s n d (code.Number m) e = e
+kind-with store s n d (code.Dimension m l) e = e
+kind-with store s n d code.Comma e = e
+kind-with store s n d code.CloseRound e = e
+kind-with store s n d _ e = absurd (d (sym e))
 
 -- the kind that is read is the kind that stands in the row, but for a closing brace, which every other number reads as
 module _ (k a b n : ℕ) (d : ¬ (n ≡ close_brace_kind)) where
@@ -67,8 +57,9 @@ module _ (k a b n : ℕ) (d : ¬ (n ≡ close_brace_kind)) where
 
 -- a kind that is read as what it is
 pub record Kind (n : ℕ) : Type 0 where
+  pub told : ¬ (n ≡ other_kind)
   pub other : ¬ (n ≡ close_brace_kind)
-  pub same : (a b : ℕ) → (columns_of (token_from n a b)).kind ≡ n
+  pub same : (store : List ℕ) (s a b : ℕ) → kind_of (token_with store s (token_from n a b)) ≡ n
 
 -- and of a token that has one text
 pub record OneText (n : ℕ) : Type 0 where
@@ -77,48 +68,54 @@ pub record OneText (n : ℕ) : Type 0 where
 
 -- a name has its kind and one text, its characters
 abbrev pub ident-text : OneText ident_kind
-unfolding token_from columns_of token_with text_of pick is
-ident-text = record { kind = record { other = λ e. omega arith; same = λ a b. refl }; text = λ store s a b. refl }
+unfolding token_from kind_of token_with text_of pick is
+ident-text = record { kind = record { told = λ e. omega arith; other = λ e. omega arith; same = λ store s a b. refl }; text = λ store s a b. refl }
 
 -- a function has its kind and one text, its name
 abbrev pub function-text : OneText function_kind
-unfolding token_from columns_of token_with text_of pick is
-function-text = record { kind = record { other = λ e. omega arith; same = λ a b. refl }; text = λ store s a b. refl }
+unfolding token_from kind_of token_with text_of pick is
+function-text = record { kind = record { told = λ e. omega arith; other = λ e. omega arith; same = λ store s a b. refl }; text = λ store s a b. refl }
 
 -- a hash has its kind and one text, what stands behind the '#'
 abbrev pub hash-text : OneText hash_kind
-unfolding token_from columns_of token_with text_of pick is
-hash-text = record { kind = record { other = λ e. omega arith; same = λ a b. refl }; text = λ store s a b. refl }
+unfolding token_from kind_of token_with text_of pick is
+hash-text = record { kind = record { told = λ e. omega arith; other = λ e. omega arith; same = λ store s a b. refl }; text = λ store s a b. refl }
 
 -- a string has its kind and one text, its characters
 abbrev pub string-text : OneText string_kind
-unfolding token_from columns_of token_with text_of pick is
-string-text = record { kind = record { other = λ e. omega arith; same = λ a b. refl }; text = λ store s a b. refl }
+unfolding token_from kind_of token_with text_of pick is
+string-text = record { kind = record { told = λ e. omega arith; other = λ e. omega arith; same = λ store s a b. refl }; text = λ store s a b. refl }
 
 -- a number has its kind and one text, as it is written
 abbrev pub number-text : OneText number_kind
-unfolding token_from columns_of token_with text_of pick is
-number-text = record { kind = record { other = λ e. omega arith; same = λ a b. refl }; text = λ store s a b. refl }
+unfolding token_from kind_of token_with text_of pick is
+number-text = record { kind = record { told = λ e. omega arith; other = λ e. omega arith; same = λ store s a b. refl }; text = λ store s a b. refl }
 
 -- the kind of dimensions is read as what it is
 pub dimension-kind : Kind dimension_kind
-unfolding token_from columns_of pick is
-dimension-kind = record { other = λ e. omega arith; same = λ a b. refl }
+unfolding token_from kind_of token_with pick is
+dimension-kind = record { told = λ e. omega arith; other = λ e. omega arith; same = λ store s a b. refl }
 
 -- the kind of delimiters is read as what it is
 pub delim-kind : Kind delim_kind
-unfolding token_from columns_of pick is
-delim-kind = record { other = λ e. omega arith; same = λ a b. refl }
+unfolding token_from kind_of token_with pick is
+delim-kind = record { told = λ e. omega arith; other = λ e. omega arith; same = λ store s a b. refl }
 
 -- the kind of commas is read as what it is
 pub comma-kind : Kind comma_kind
-unfolding token_from mark_from columns_of pick is
-comma-kind = record { other = λ e. omega arith; same = λ a b. refl }
+unfolding token_from mark_from kind_of token_with pick is
+comma-kind = record { told = λ e. omega arith; other = λ e. omega arith; same = λ store s a b. refl }
 
 -- the kind of closing round brackets is read as what it is
 pub close-round-kind : Kind close_round_kind
-unfolding token_from mark_from columns_of pick is
-close-round-kind = record { other = λ e. omega arith; same = λ a b. refl }
+unfolding token_from mark_from kind_of token_with pick is
+close-round-kind = record { told = λ e. omega arith; other = λ e. omega arith; same = λ store s a b. refl }
+
+-- a token of another kind is no delimiter
+other-kind : (c : ℕ) (k : Token) → is_kind delim_kind k ≡ false → is_delim c k ≡ false
+unfolding is_kind kind_of is is_delim
+other-kind c (delim d) e = never (sym e)
+other-kind c _ e = refl
 
 -- ---- the token whose row starts at p
 module _ (rows store : List ℕ) (p : ℕ) where
@@ -144,16 +141,12 @@ module _ (rows store : List ℕ) (p : ℕ) where
   here-as : (n : ℕ) → is kind n ≡ true → token_here rows store p ≡ token_with store start (token_from n first second)
   here-as n e = here ∙ ap (λ m. token_with store start (token_from m first second)) (is_true kind n e)
 
-  -- its kind is what the three numbers in its row read as
-  here-kind-of : kind_of (token_here rows store p) ≡ (columns_of (token_from kind first second)).kind
-  here-kind-of = ap kind_of here ∙ kind-with store start _
-
   -- the test of its kind is that of the number in its row
   pub here-kind : (n : ℕ) → Kind n → is_kind n (token_here rows store p) ≡ is kind n
   unfolding is_kind
   here-kind n q =
-      same_test _ _ (λ e. is-yes kind n (from-kind kind first second n q.other (sym here-kind-of ∙ is_true _ n e)))
-      (λ e. is-yes _ n (here-kind-of ∙ ap (λ m. (columns_of (token_from m first second)).kind) (is_true kind n e) ∙ q.same first second))
+      same_test _ _ (λ e. is-yes kind n (from-kind kind first second n q.other (kind-with store start n q.told _ (ap kind_of (sym here) ∙ is_true _ n e))))
+      (λ e. is-yes _ n (ap kind_of (here-as n e) ∙ q.same store start first second))
 
   -- so is what the code was told of it
   pub kind-told : (n : ℕ) → Kind n → (r v : Bool) → r ≡ is kind n → r ≡ v → is_kind n (token_here rows store p) ≡ v
@@ -166,30 +159,28 @@ module _ (rows store : List ℕ) (p : ℕ) where
 
   -- a dimension's number and unit
   pub here-number : is kind dimension_kind ≡ true → number_of (token_here rows store p) ≡ first_text rows store p
-  unfolding first_text number_of token_first columns_of coded text_of token_with token_from pick is
-  here-number e = ap number_of (here-as dimension_kind e) ∙ take-append_seam (part store start first) (part store (start + first) second)
+  unfolding first_text number_of token_with token_from pick is
+  here-number e = ap number_of (here-as dimension_kind e)
 
   -- a dimension's unit lies behind its number
   pub here-unit : is kind dimension_kind ≡ true → unit_of (token_here rows store p) ≡ second_text rows store p
-  unfolding second_text unit_of token_first columns_of coded text_of token_with token_from pick is
-  here-unit e = ap unit_of (here-as dimension_kind e) ∙ drop-append_seam (part store start first) (part store (start + first) second)
+  unfolding second_text unit_of token_with token_from pick is
+  here-unit e = ap unit_of (here-as dimension_kind e)
 
-  -- the scalar value of a delimiter is the number in its row
-  pub here-delim : is kind delim_kind ≡ true → token_first (token_here rows store p) ≡ first
-  unfolding token_first columns_of coded token_with token_from pick is
-  here-delim e = ap token_first (here-as delim_kind e)
+  -- a delimiter is the number in its row
+  here-delim : (c : ℕ) → is kind delim_kind ≡ true → is_delim c (token_here rows store p) ≡ is first c
+  unfolding is_delim token_with token_from pick is
+  here-delim c e = ap (is_delim c) (here-as delim_kind e)
 
   -- the tests of a delimiter c, as the code makes them
   module _ (c : ℕ) (d : Bool) (ed : d ≡ is kind delim_kind) where
     -- no delimiter is not c
     pub no-delim : d ≡ false → d ≡ is_delim c (token_here rows store p)
-    unfolding is_delim
-    no-delim e = e ∙ and-gives-false _ _ (kind-told delim_kind delim-kind d false ed e)
+    no-delim e = e ∙ sym (other-kind c _ (kind-told delim_kind delim-kind d false ed e))
 
     -- the number in a delimiter's row decides
     pub delim-by-number : d ≡ true → (x : ℕ) → x ≡ first → is x c ≡ is_delim c (token_here rows store p)
-    unfolding is_delim
-    delim-by-number e x ex = and-gives _ _ _ (kind-told delim_kind delim-kind d true ed e) (ap (λ n. is n c) (ex ∙ sym (here-delim (told _ _ _ ed e))))
+    delim-by-number e x ex = ap (λ n. is n c) ex ∙ sym (here-delim c (told _ _ _ ed e))
 
   -- the tests of a name w, as the code makes them
   module _ (w : List ℕ) (i : Bool) (ei : i ≡ is kind ident_kind) where

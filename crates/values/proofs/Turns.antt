@@ -33,7 +33,7 @@ use Rattle.std.specs.Prelude.{Option, Some, None, Result, Ok, Err}
 use Rattle.combinators.proofs.Lists.{rest}
 use Rattle.values.specs.declared.statements.Statement as declared
 use Rattle.values.specs.declared.statements.Unbalanced.{Unbalanced}
-use Rattle.values.proofs.Nesting.{no_text, unpushed, depth_le}
+use Rattle.values.proofs.Nesting.{bracket-coded, no_text, unpushed, depth_le}
 
 -- ---- what is left of a statement leaves, where n tokens with t bytes of text were read and d brackets are awaited
 unfoldable pub leaves : Statement → Store ℕ → ℕ → List ℕ → ℕ → List ℕ → ℕ → ℕ → Left
@@ -274,8 +274,7 @@ module _ {s : List ℕ} {include : Bool} {rows₀ brackets₀ store₀ : List �
 
     -- what it does to the brackets is told by the code's token
     bracket-is : bracket_by k ≡ bracket_of t
-    unfolding bracket_of
-    bracket-is = ap bracket_by read.same
+    bracket-is = ap bracket_by read.same ∙ bracket-coded t
 
     -- it takes a byte or more, no more than there are, and starts before the end
     pub some : 1 ≤ m

@@ -5,7 +5,7 @@ use lib.Pointwise.{pointwise}
 use Rattle.combinators.specs.Choice.{pick, is, and}
 use Rattle.combinators.specs.Word.{same_text}
 use Rattle.combinators.specs.All.{All}
-use Rattle.values.specs.Words.{Entry, Found, found, missing, found_or, lookup, on_found, entries}
+use Rattle.values.specs.Words.{Entry, Found, found, missing, lookup, on_found, entries}
 use Rattle.values.specs.Property.{any_of}
 
 -- slices that `==` compares are compared byte by byte
@@ -43,8 +43,8 @@ found-holds P (found a) f b h m = h a refl
 found-holds P missing f b h m = m
 
 -- what holds of a row, and of what is found behind it
-pub or-holds : {A : Type 0} (P : Found A → Type 0) (t : Bool) (a : A) (x : Found A) → P (found a) → P x → P (found_or t a x)
-unfolding found_or
+pub or-holds : {A : Type 0} (P : Found A → Type 0) (t : Bool) (a : A) (x : Found A) → P (found a) → P x → P (pick t (found a) x)
+unfolding pick
 or-holds P true a x h m = h
 or-holds P false a x h m = m
 
@@ -63,12 +63,12 @@ is_row s r = pointwise eqb s r.0.now
 -- the first row that has the word is the one that is looked up
 pub row-found : {A : Type 0} (s : List ℕ) (rows : List (Bor (List ℕ) × A))
     → option_map (λ (r : Bor (List ℕ) × A). r.1) (find (is_row s) rows) ≡ on_found (lookup s (entries rows)) Some None
-unfolding lookup on_found found_or
+unfolding lookup on_found pick
 row-found s [] = refl
 row-found {A} s (r ∷ rs) = go _ _ _ _ (same_bytes s r.0.now) (row-found s rs)
   where
     go : (b t : Bool) (x : Option (Bor (List ℕ) × A)) (y : Found A) → b ≡ t → option_map (λ (r : Bor (List ℕ) × A). r.1) x ≡ on_found y Some None
-        → option_map (λ (r : Bor (List ℕ) × A). r.1) (cond b (Some r) x) ≡ on_found (found_or t r.1 y) Some None
+        → option_map (λ (r : Bor (List ℕ) × A). r.1) (cond b (Some r) x) ≡ on_found (pick t (found r.1) y) Some None
     go true true x y e h = refl
     go false false x y e h = h
     go true false x y e h = absurd (cc)
@@ -95,6 +95,6 @@ unfolding lookup mapped
 lookup-mapped f w [] = unfold found_as on_found in refl
 lookup-mapped f w (e ∷ es) = rw (lookup-mapped f w es) (go (same_text w e.word) (lookup w es))
   where
-    go : (t : Bool) (x : Found _) → found_or t (f e.means) (found_as f x) ≡ found_as f (found_or t e.means x)
-    go true x = unfold found_or found_as on_found in refl
-    go false x = unfold found_or in refl
+    go : (t : Bool) (x : Found _) → pick t (found (f e.means)) (found_as f x) ≡ found_as f (pick t (found e.means) x)
+    go true x = unfold pick found_as on_found in refl
+    go false x = unfold pick in refl

@@ -77,22 +77,19 @@ hash_colour s =
     pick (is (length s) 3) (on_found (parse_hex 0xffffffff s) (λ v. found (three_digits v)) missing)
     (pick (is (length s) 6) (on_found (parse_hex 0xffffffff s) (λ v. found (six_digits v)) missing) missing)
 
+-- a colour by its three numbers, where all are found
+unfoldable pub rgb_of : Found ℕ → Found ℕ → Found ℕ → Found Colour
+rgb_of r g b = on_found r (λ x. on_found g (λ y. on_found b (λ z. found (rgb x y z)) missing) missing) missing
+
 unfoldable pub three_numbers : List ℕ → List ℕ → List ℕ → Found Colour
-three_numbers r g b =
-    on_found (parse_u8 r) (λ x. on_found (parse_u8 g) (λ y. on_found (parse_u8 b) (λ z. found (rgb x y z)) missing) missing) missing
+three_numbers r g b = rgb_of (parse_u8 r) (parse_u8 g) (parse_u8 b)
 
 -- "`rgb` takes three whole numbers up to 255", parted by commas, and `)`
 unfoldable pub rgb_colour : List Token → Found Colour
 rgb_colour (r ∷ c ∷ g ∷ d ∷ b ∷ e ∷ []) =
     pick (and (is_kind number_kind r) (and (is_kind comma_kind c) (and (is_kind number_kind g) (and (is_kind comma_kind d) (and (is_kind number_kind b) (is_kind close_round_kind e))))))
     (three_numbers (text_of r) (text_of g) (text_of b)) missing
-rgb_colour [] = missing
-rgb_colour (a ∷ []) = missing
-rgb_colour (a ∷ b ∷ []) = missing
-rgb_colour (a ∷ b ∷ c ∷ []) = missing
-rgb_colour (a ∷ b ∷ c ∷ d ∷ []) = missing
-rgb_colour (a ∷ b ∷ c ∷ d ∷ e ∷ []) = missing
-rgb_colour (a ∷ b ∷ c ∷ d ∷ e ∷ f ∷ g ∷ r) = missing
+rgb_colour _ = missing
 
 unfoldable pub one_token : Token → Found Colour
 one_token k =

@@ -5,7 +5,7 @@ use Rattle.combinators.specs.Choice.{pick, and, is}
 use Rattle.combinators.specs.Parsed.{Parsed, ok, err, on_parsed}
 use Rattle.characters.specs.Literal.{text}
 use Rattle.lexer.specs.Whitespace.{skip_whitespace}
-use Rattle.lexer.specs.Token.{Token, token_of, coded}
+use Rattle.lexer.specs.Token.{Token, function, cdo, cdc, semicolon, open_square, close_square, open_round, close_round, open_brace, close_brace, token_of}
 use Rattle.lexer.specs.declared.tokens.Token as lexer
 use Rattle.lexer.specs.declared.tokens.Token.TheVariants as code
 use Rattle.values.specs.Words.{is_word, is_delim}
@@ -17,38 +17,25 @@ pub record Placed : Type 0 where
 
 -- ---- brackets, by the byte that is awaited; that of `-->` is its '>'. "The bracket `Vec` becomes bytes"
 
--- what a token does to the brackets
 pub data Bracket : Type 0 where
   opens : ℕ → Bracket
   closes : ℕ → Bracket
   ends : Bracket
   none : Bracket
 
--- by the token's kind alone, so of a token as the code has it
-unfoldable pub bracket_by : lexer.Token → Bracket
-bracket_by (code.Ident n) = none
-bracket_by (code.Function n) = opens right_parenthesis
-bracket_by (code.Hash n) = none
-bracket_by (code.String n) = none
-bracket_by (code.BadString n) = none
-bracket_by (code.Delim c) = none
-bracket_by (code.Number n) = none
-bracket_by (code.Dimension n m) = none
-bracket_by (code.Percentage n) = none
-bracket_by code.CDO = opens greater_than_sign
-bracket_by code.CDC = closes greater_than_sign
-bracket_by code.Colon = none
-bracket_by code.Semicolon = ends
-bracket_by code.Comma = none
-bracket_by code.OpenSquare = opens right_square_bracket
-bracket_by code.CloseSquare = closes right_square_bracket
-bracket_by code.OpenRound = opens right_parenthesis
-bracket_by code.CloseRound = closes right_parenthesis
-bracket_by code.OpenBrace = opens right_curly_bracket
-bracket_by code.CloseBrace = closes right_curly_bracket
-
+-- what a token does to the brackets
 unfoldable pub bracket_of : Token → Bracket
-bracket_of k = bracket_by (coded k)
+bracket_of (function b) = opens right_parenthesis
+bracket_of cdo = opens greater_than_sign
+bracket_of cdc = closes greater_than_sign
+bracket_of semicolon = ends
+bracket_of open_square = opens right_square_bracket
+bracket_of close_square = closes right_square_bracket
+bracket_of open_round = opens right_parenthesis
+bracket_of close_round = closes right_parenthesis
+bracket_of open_brace = opens right_curly_bracket
+bracket_of close_brace = closes right_curly_bracket
+bracket_of _ = none
 
 -- how a statement goes on at a token: with these brackets awaited, innermost first; it ends before the token, or behind it; or the
 -- brackets are wrong
@@ -116,16 +103,14 @@ unfoldable pub is_mark : Token → Token → Bool
 is_mark a b = and (is_delim exclamation_mark a) (is_word (text "important") b)
 
 unfoldable pub is_important : List Token → Bool
-is_important [] = false
-is_important (a ∷ []) = false
 is_important (a ∷ b ∷ []) = is_mark a b
 is_important (a ∷ b ∷ c ∷ ts) = is_important (b ∷ c ∷ ts)
+is_important _ = false
 
 unfoldable pub without_mark : List Token → List Token
-without_mark [] = []
-without_mark (a ∷ []) = a ∷ []
 without_mark (a ∷ b ∷ []) = pick (is_mark a b) [] (a ∷ b ∷ [])
 without_mark (a ∷ b ∷ c ∷ ts) = a ∷ without_mark (b ∷ c ∷ ts)
+without_mark ts = ts
 
 pub record Value : Type 0 where
   pub tokens : List Token
@@ -139,3 +124,17 @@ value_from r =
 
 unfoldable pub value_of : List ℕ → Parsed Value
 value_of s = value_from (statement_of false s)
+
+-- ---- as the code has a token, with the lengths of its texts: what it does to the brackets
+unfoldable pub bracket_by : lexer.Token → Bracket
+bracket_by (code.Function n) = opens right_parenthesis
+bracket_by code.CDO = opens greater_than_sign
+bracket_by code.CDC = closes greater_than_sign
+bracket_by code.Semicolon = ends
+bracket_by code.OpenSquare = opens right_square_bracket
+bracket_by code.CloseSquare = closes right_square_bracket
+bracket_by code.OpenRound = opens right_parenthesis
+bracket_by code.CloseRound = closes right_parenthesis
+bracket_by code.OpenBrace = opens right_curly_bracket
+bracket_by code.CloseBrace = closes right_curly_bracket
+bracket_by _ = none

@@ -1,26 +1,38 @@
 -- Words, compared as fixed byte strings, and what tokens are.
-use Rattle.std.specs.Prelude.{ℕ, zero, suc, Bool, true, false, List, [], ◌∷◌, take, drop, map}
+use Rattle.std.specs.Prelude.{ℕ, zero, suc, Bool, false, List, [], ◌∷◌, map}
 use Rattle.std.specs.Borrow.{Bor}
-use Rattle.combinators.specs.Choice.{and, is}
+use Rattle.combinators.specs.Choice.{pick, and, is}
 use Rattle.combinators.specs.Word.{same_text}
-use Rattle.lexer.specs.Token.{Token, coded, text_of}
-use Rattle.lexer.specs.TokenRow.{columns_of, ident_kind, delim_kind}
+use Rattle.lexer.specs.Token.{Token, ident, function, hash, string, delim, number, dimension, comma, close_round, text_of}
+use Rattle.lexer.specs.TokenRow.{ident_kind, function_kind, hash_kind, string_kind, delim_kind, number_kind, dimension_kind, comma_kind, close_round_kind}
 
 -- ---- what a token is, by its kind
 
-unfoldable pub kind_of : Token → ℕ
-kind_of k = (columns_of (coded k)).kind
+-- no token's row has this kind
+abbrev pub other_kind : ℕ
+other_kind = 0
 
--- the length of a dimension's number, the scalar value of a delimiter
-unfoldable pub token_first : Token → ℕ
-token_first k = (columns_of (coded k)).first
+-- the kinds that values tell apart
+unfoldable pub kind_of : Token → ℕ
+kind_of (ident b) = ident_kind
+kind_of (function b) = function_kind
+kind_of (hash b) = hash_kind
+kind_of (string b) = string_kind
+kind_of (delim c) = delim_kind
+kind_of (number b) = number_kind
+kind_of (dimension b u) = dimension_kind
+kind_of comma = comma_kind
+kind_of close_round = close_round_kind
+kind_of _ = other_kind
 
 -- a dimension's number and its unit
 unfoldable pub number_of : Token → List ℕ
-number_of k = take (token_first k) (text_of k)
+number_of (dimension b u) = b
+number_of _ = []
 
 unfoldable pub unit_of : Token → List ℕ
-unit_of k = drop (token_first k) (text_of k)
+unit_of (dimension b u) = u
+unit_of _ = []
 
 unfoldable pub is_kind : ℕ → Token → Bool
 is_kind n k = is (kind_of k) n
@@ -31,7 +43,8 @@ is_word w k = and (is_kind ident_kind k) (same_text (text_of k) w)
 
 -- the delimiter c
 unfoldable pub is_delim : ℕ → Token → Bool
-is_delim c k = and (is_kind delim_kind k) (is (token_first k) c)
+is_delim c (delim d) = is d c
+is_delim c _ = false
 
 -- ---- tables of words
 
@@ -45,13 +58,9 @@ pub data Found (A : Type 0) : Type 0 where
   found : A → Found A
   missing : Found A
 
-unfoldable pub found_or : {A : Type 0} → Bool → A → Found A → Found A
-found_or true a r = found a
-found_or false a r = r
-
 unfoldable pub lookup : {A : Type 0} → List ℕ → List (Entry A) → Found A
 lookup w [] = missing
-lookup w (e ∷ es) = found_or (same_text w e.word) e.means (lookup w es)
+lookup w (e ∷ es) = let more = lookup w es in pick (same_text w e.word) (found e.means) more
 
 unfoldable pub on_found : {A B : Type 0} → Found A → (A → B) → B → B
 on_found (found a) f b = f a
