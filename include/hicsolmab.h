@@ -3,7 +3,7 @@
  * Link libengine.a, which `bash tools/staticlib.sh engine` writes to target/staticlib; x86-64, System V calling convention.
  *
  *     1. hicsolmab_compile   makes one compiled sheet of three stylesheets;
- *     2. hicsolmab_run       styles all elements of a page by it: colour, background, display, white space, content.
+ *     2. hicsolmab_run       styles all elements of a page by it: colour, background, display, white space, content, visibility.
  *
  * hicsolmab_style and hicsolmab_style_book style one element straight from the sheets, hicsolmab_check_page says whether a page is accepted,
  * hicsolmab_read_sheet reads one sheet and says where reading stopped, and hicsolmab_height_length gives a height's value as an exact length.
@@ -11,7 +11,7 @@
  *
  * A compiled sheet carries the byte where each style's declaration starts, and so does a style row: which line of which sheet coloured an element can be told.
  * Bytes that were compiled before these starts are void. They carry no mark, so hicsolmab_run would read them as others, and mostly refuse them with
- * HICSOLMAB_BAD_BYTES: compile the sheets again.
+ * HICSOLMAB_BAD_BYTES: compile the sheets again. Bytes with starts that were compiled before visibility was known are read as they were, and say nothing of it.
  *
  * What holds for every call:
  *
@@ -23,8 +23,7 @@
  *     lent for the answer is zero beyond it. So a call takes time for each byte lent: lend the least lengths, even of larger arrays.
  *   - Of the stack a call takes little. Below, "Stack" is the most that was measured for it, with its arguments, over the longest sheets and attributes, the
  *     deepest pages and selectors and 32,768 open brackets, on a stack that ends in a page without access (tools/stack). hicsolmab_style and
- *     hicsolmab_style_book go down to their element by calling themselves, some 930 bytes for each level of the page. As rattle-kit-13f builds the
- *     library each call takes less than is said below (docs/SPEED.md). */
+ *     hicsolmab_style_book go down to their element by calling themselves, some 590 bytes for each level of the page. */
 #ifndef HICSOLMAB_H
 #define HICSOLMAB_H
 
@@ -125,14 +124,21 @@ enum hicsolmab_slot {
     HICSOLMAB_BACKGROUND_SLOT = 1,  /* likewise */
     HICSOLMAB_DISPLAY_SLOT = 2,     /* 0: where the slot is filled, the element is not displayed */
     HICSOLMAB_WHITE_SPACE_SLOT = 3, /* one of hicsolmab_white_space */
-    HICSOLMAB_CONTENT_SLOT = 4      /* where the text starts; the second number is its length in bytes */
+    HICSOLMAB_CONTENT_SLOT = 4,     /* where the text starts; the second number is its length in bytes */
+    HICSOLMAB_VISIBILITY_SLOT = 5   /* one of hicsolmab_visibility; html2text has no such slot, and this one is decided as the others are */
 };
-#define HICSOLMAB_SLOT_COUNT 5
+#define HICSOLMAB_SLOT_COUNT 6
 
 enum hicsolmab_white_space {
     HICSOLMAB_WHITE_SPACE_NORMAL = 0,
     HICSOLMAB_WHITE_SPACE_PRE = 1,
     HICSOLMAB_WHITE_SPACE_PRE_WRAP = 2
+};
+
+/* What is hidden by it is not seen and keeps its place, unlike what is not displayed. Where the slot is empty it is visible. */
+enum hicsolmab_visibility {
+    HICSOLMAB_VISIBILITY_VISIBLE = 0,
+    HICSOLMAB_VISIBILITY_HIDDEN = 1
 };
 
 /* The numbers of a slot: the value that won, and the declaration that it is from.
@@ -184,6 +190,13 @@ static inline const uint32_t *hicsolmab_slot_of(const uint32_t *row, enum hicsol
 static inline int hicsolmab_is_hidden(const uint32_t *row, enum hicsolmab_record record)
 {
     return hicsolmab_slot_of(row, record, HICSOLMAB_DISPLAY_SLOT) != NULL;
+}
+
+/* Whether a record says that it is not seen and keeps its place. */
+static inline int hicsolmab_is_invisible(const uint32_t *row, enum hicsolmab_record record)
+{
+    const uint32_t *visibility = hicsolmab_slot_of(row, record, HICSOLMAB_VISIBILITY_SLOT);
+    return visibility != NULL && visibility[HICSOLMAB_SLOT_NUMBER] == HICSOLMAB_VISIBILITY_HIDDEN;
 }
 
 /* The bytes of a record's content, with their count in `length`, or null where it has none. For a row of hicsolmab_run `compiled` and `texts` are the slices of
@@ -242,7 +255,7 @@ typedef struct {
 /* Reads a sheet: how many rules it has, and where reading stopped. Like html2text, a reader stops for good at the first rule that it cannot read; that is an
  * answer and no refusal. `rules` and `texts` get the rules (crates/syntax/specs/RuleLayout.antt says how they lie there).
  *
- * Least lengths for HICSOLMAB_READ_SHEET_BYTES. Refuses TOO_LONG, SHORT_STORE, NOT_UTF8, PANIC. Stack: 2,624 bytes. */
+ * Least lengths for HICSOLMAB_READ_SHEET_BYTES. Refuses TOO_LONG, SHORT_STORE, NOT_UTF8, PANIC. Stack: 2,224 bytes. */
 hicsolmab_sheet_result hicsolmab_read_sheet(const uint8_t *sheet, size_t sheet_length,
                                             uint32_t *rules, size_t rules_length,
                                             uint32_t *tokens, size_t tokens_length,
@@ -268,7 +281,7 @@ typedef struct {
 /* A height's value, such as `1.5px`, as an exact length: a number with one of the units px, in, cm, mm, pt, pc, em and ex, or zero without one, with nothing but
  * white space and comments around it. Every other value is no length, which is an answer and no refusal. All four stores are work stores.
  *
- * Least lengths for HICSOLMAB_HEIGHT_LENGTH_BYTES. Refuses TOO_LONG, SHORT_STORE, NOT_UTF8, BAD_LENGTH. Stack: 816 bytes. */
+ * Least lengths for HICSOLMAB_HEIGHT_LENGTH_BYTES. Refuses TOO_LONG, SHORT_STORE, NOT_UTF8, BAD_LENGTH. Stack: 640 bytes. */
 hicsolmab_length_result hicsolmab_height_length(const uint8_t *value, size_t value_length,
                                                 uint32_t *rules, size_t rules_length,
                                                 uint32_t *tokens, size_t tokens_length,
@@ -288,7 +301,7 @@ typedef struct {
  * crates/compiled/specs/Sheet.antt. What `texts` gets, the texts that rules name, a caller need not look at.)
  *
  * Least lengths for HICSOLMAB_COMPILE_BYTES; `compiled` may have any length, and is too short where NO_ROOM says so. Refuses TOO_LONG, SHORT_STORE, NOT_UTF8,
- * PANIC, NO_ROOM. Stack: 3,152 bytes. */
+ * PANIC, NO_ROOM. Stack: 3,120 bytes. */
 hicsolmab_compile_result hicsolmab_compile(const uint8_t *agent, size_t agent_length,
                                            const uint8_t *user, size_t user_length,
                                            const uint8_t *author, size_t author_length,
@@ -305,7 +318,7 @@ typedef struct {
 } hicsolmab_page_result;
 
 /* Whether a page is accepted. Nothing is written. The calls below check their page themselves, by the same rules. Refuses TOO_LARGE, BAD_ROW, BAD_TEXT.
- * Stack: 336 bytes. */
+ * Stack: 352 bytes. */
 hicsolmab_page_result hicsolmab_check_page(const uint32_t *nodes, size_t nodes_length,
                                            const uint32_t *attributes, size_t attributes_length,
                                            const uint8_t *text, size_t text_length);
@@ -325,7 +338,7 @@ typedef struct {
  * its parent has, display and contents too.
  *
  * Least lengths for HICSOLMAB_STYLE_BYTES, and HICSOLMAB_STYLE_ROW_WIDTH for `out`. Refuses TOO_LONG, SHORT_STORE, NOT_UTF8, TOO_LARGE, BAD_ROW, BAD_TEXT,
- * NO_ELEMENT, PANIC. Stack: 68,432 bytes. */
+ * NO_ELEMENT, PANIC. Stack: 41,888 bytes. */
 hicsolmab_style_result hicsolmab_style(const uint8_t *agent, size_t agent_length,
                                        const uint8_t *user, size_t user_length,
                                        const uint8_t *author, size_t author_length,
@@ -341,9 +354,10 @@ hicsolmab_style_result hicsolmab_style(const uint8_t *agent, size_t agent_length
                                        uint8_t *brackets, size_t brackets_length);
 
 /* The same in the order of CSS Cascading Level 3: importance and origin decide first, then whether it is a `style` attribute, then
- * specificity, then what stands later. Where nothing is declared on the element for a slot, colour and white space are the parent's, with all their numbers;
- * background, display and content are empty. So an element in one that is not displayed does not say so itself. A record of `::before` or `::after` is there where
- * a rule on the element has a style for it, and takes colour and white space, where nothing is declared for them, from the element. Stack: 68,432 bytes. */
+ * specificity, then what stands later. Where nothing is declared on the element for a slot, colour, white space and visibility are the parent's, with all their
+ * numbers; background, display and content are empty. So an element in one that is not displayed does not say so itself. A record of `::before` or `::after` is
+ * there where a rule on the element has a style for it, and takes colour, white space and visibility, where nothing is declared for them, from the element.
+ * Stack: 41,888 bytes. */
 hicsolmab_style_result hicsolmab_style_book(const uint8_t *agent, size_t agent_length,
                                             const uint8_t *user, size_t user_length,
                                             const uint8_t *author, size_t author_length,
@@ -373,7 +387,7 @@ typedef struct {
  * `compiled`, a text that starts below c lies at compiled + start, any other at texts + (start - c). hicsolmab_content finds it.
  *
  * Least lengths for HICSOLMAB_RUN_BYTES, and HICSOLMAB_ROWS_LEAST and HICSOLMAB_STATE_LEAST. Refuses TOO_LONG, SHORT_STORE, TOO_LARGE, BAD_ROW, BAD_TEXT,
- * BAD_BYTES. Stack: 2,896 bytes. */
+ * BAD_BYTES. Stack: 2,624 bytes. */
 hicsolmab_run_result hicsolmab_run(const uint8_t *compiled, size_t compiled_length,
                                    const uint32_t *nodes, size_t nodes_length,
                                    const uint32_t *attributes, size_t attributes_length,

@@ -1,5 +1,5 @@
 /* Compiles three sheets, runs them down a small page, and prints each element's colour, the line and column of the declaration that it is from, and whether the
- * element is hidden. */
+ * element is hidden, or invisible in its place. */
 #include <hicsolmab.h>
 #include <stdio.h>
 #include <string.h>
@@ -9,7 +9,7 @@
 /* The maker's sheet gives the channels their colours, the school's hides what is not for the test, the third is the page's own. */
 static const char agent[] = ".ch1 { color: yellow }\n.ch2 { color: aqua }";
 static const char user[] = ".solution { display: none }";
-static const char author[] = "h1 { color: #ff8800 }\np.ch2 > b { color: white }\n.ch1::before { content: 'CH1 ' }";
+static const char author[] = "h1 { color: #ff8800 }\np.ch2 > b { color: white }\n.ch1::before { content: 'CH1 ' }\n.answer { visibility: hidden }";
 
 /* A string without the zero at its end, as a slice: a pointer and a length. */
 #define SHEET(text) (const uint8_t *)(text), sizeof(text) - 1
@@ -28,7 +28,8 @@ static const struct {
     {0, "div", "class", "solution"},        /* <div class=solution> */
     {5, "p", "class", "ch1"},               /*   <p class=ch1> */
     {0, "p", "style", "color: #00ff00"},    /* <p style="color: #00ff00"> */
-    {0, "p", NULL, NULL}                    /* <p> */
+    {0, "p", NULL, NULL},                   /* <p> */
+    {0, "p", "class", "answer"}             /* <p class=answer> */
 };
 
 #define ELEMENTS LENGTH(elements)
@@ -125,7 +126,7 @@ static void print_styles(void)
         } else {
             printf("no colour, ");
         }
-        puts(hicsolmab_is_hidden(row, HICSOLMAB_MAIN) ? "hidden" : "shown");
+        puts(hicsolmab_is_hidden(row, HICSOLMAB_MAIN) ? "hidden" : hicsolmab_is_invisible(row, HICSOLMAB_MAIN) ? "invisible" : "shown");
     }
 }
 

@@ -44,7 +44,8 @@ CONSTANTS = {
     "crates/cascade/src/rows.rt": (r"(?!\w+_PLACE$)", """MAIN BEFORE AFTER RECORD_COUNT SLOT_COUNT SLOT_FILLED SLOT_ORIGIN SLOT_INLINE SLOT_ID SLOT_CLASS SLOT_TYPE SLOT_IMPORTANT
         SLOT_NUMBER SLOT_SECOND SLOT_START SLOT_WIDTH PRESENCE_WIDTH RECORD_WIDTH STYLE_ROW_WIDTH"""),
     "crates/syntax/src/rows.rt": (r"(?!LAST_|STYLE_)\w+_(SLOT|ORIGIN)$|WHITE_SPACE_\w+$", """COLOUR_SLOT BACKGROUND_SLOT DISPLAY_SLOT WHITE_SPACE_SLOT CONTENT_SLOT
-        AGENT_ORIGIN USER_ORIGIN AUTHOR_ORIGIN WHITE_SPACE_NORMAL WHITE_SPACE_PRE WHITE_SPACE_PRE_WRAP"""),
+        VISIBILITY_SLOT AGENT_ORIGIN USER_ORIGIN AUTHOR_ORIGIN WHITE_SPACE_NORMAL WHITE_SPACE_PRE WHITE_SPACE_PRE_WRAP
+        VISIBILITY_VISIBLE:FLAG_FALSE VISIBILITY_HIDDEN:FLAG_TRUE"""),
 }
 
 # The least lengths, and where things begin in a row: the header's macro, the bindings' function, and the formula over the constants of the sources.
@@ -67,7 +68,7 @@ FORMULAS = [
 SAMPLES = [[0, 0, 0, 0, 0], [1, 2, 3, 4, 5], [7, 11, 13, 17, 19], [100, 1000, 50, 4096, 65536]]
 
 # Helpers of the header: they name no function of the library, and the compiler sees them whole.
-INLINE = {"hicsolmab_has_record", "hicsolmab_slot_of", "hicsolmab_is_hidden", "hicsolmab_content"}
+INLINE = {"hicsolmab_has_record", "hicsolmab_slot_of", "hicsolmab_is_hidden", "hicsolmab_is_invisible", "hicsolmab_content"}
 
 # What a compiler calls for loops over bytes.
 MOVERS = {"memset", "memcpy", "memmove", "memcmp", "bcmp"}

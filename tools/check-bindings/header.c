@@ -17,8 +17,8 @@ static void expect(int holds, const char *what, size_t which)
 }
 
 /* Sheets, and a page: <p class=k><b style="content: 'own'">. */
-static const uint8_t agent[] = "p { color: red }";
-static const uint8_t user[] = ".k::before { content: 'rule' }";
+static const uint8_t agent[] = "p { color: red; visibility: hidden }";
+static const uint8_t user[] = ".k::before { content: 'rule'; visibility: visible }";
 static const uint8_t author[] = "b { display: none }";
 static const uint32_t nodes[] = {0, 0, 0, 0, 0, 0, HICSOLMAB_ELEMENT, 0, 0, 1, 0, 1, HICSOLMAB_ELEMENT, 1, 7, 1, 1, 1};
 static const uint32_t attributes[] = {1, 5, 6, 1, 8, 5, 13, 14};
@@ -127,7 +127,7 @@ static void content(const char *name, const uint32_t *row, enum hicsolmab_record
     }
 }
 
-/* What is said of <b>: red, from its parent, hidden, with a content of its own, and with the ::before that is wanted: its parent's, or in book order none. */
+/* What is said of <b>: red and invisible, from its parent, hidden, with a content of its own, and with the ::before that is wanted: its parent's, or in book order none. */
 static void helpers(const char *name, const uint32_t *row, const uint8_t *sheet, size_t sheet_length, const char *before)
 {
     const uint32_t *colour = hicsolmab_slot_of(row, HICSOLMAB_MAIN, HICSOLMAB_COLOUR_SLOT);
@@ -135,6 +135,8 @@ static void helpers(const char *name, const uint32_t *row, const uint8_t *sheet,
     expect(colour != NULL && memcmp(agent + colour[HICSOLMAB_SLOT_START], "color: red", 10) == 0, name, HICSOLMAB_SLOT_START);
     expect(hicsolmab_slot_of(row, HICSOLMAB_MAIN, HICSOLMAB_BACKGROUND_SLOT) == NULL, name, HICSOLMAB_BACKGROUND_SLOT);
     expect(hicsolmab_is_hidden(row, HICSOLMAB_MAIN) && !hicsolmab_is_hidden(row, HICSOLMAB_BEFORE), name, HICSOLMAB_DISPLAY_SLOT);
+    expect(hicsolmab_is_invisible(row, HICSOLMAB_MAIN) && !hicsolmab_is_invisible(row, HICSOLMAB_BEFORE), name, HICSOLMAB_VISIBILITY_SLOT);
+    expect((hicsolmab_slot_of(row, HICSOLMAB_BEFORE, HICSOLMAB_VISIBILITY_SLOT) != NULL) == (before != NULL), name, HICSOLMAB_VISIBILITY_SLOT);
     expect(hicsolmab_has_record(row, HICSOLMAB_MAIN), name, HICSOLMAB_MAIN);
     expect(hicsolmab_has_record(row, HICSOLMAB_BEFORE) == (before != NULL), name, HICSOLMAB_BEFORE);
     expect(!hicsolmab_has_record(row, HICSOLMAB_AFTER), name, HICSOLMAB_AFTER);

@@ -23,6 +23,7 @@ pub struct Selector {
     pub pseudo: u32,
 }
 
+/// A declaration. Html2text does not know `visibility`.
 #[derive(Debug, Clone, PartialEq, Eq)]
 pub enum Decl {
     Color(u32),
@@ -35,6 +36,7 @@ pub enum Decl {
     WhiteSpace(u32),
     Content(Text),
     Unknown(Text),
+    Visibility { hidden: bool },
 }
 
 /// The number of `overflow: hidden`.
@@ -68,6 +70,8 @@ pub enum Style {
     DisplayNone,
     WhiteSpace(u32),
     Content(Text),
+    /// Which html2text does not have: 1 where it is hidden.
+    Visibility(u32),
 }
 
 #[derive(Debug, Clone, PartialEq, Eq)]
@@ -144,14 +148,15 @@ impl Page {
     }
 }
 
-// ---- where the declarations of styles start
+// ---- where the declarations of styles start, and those that html2text does not know
 
 impl Decl {
+    // Whether it is one to html2text.
     fn is_style(&self) -> bool {
         match self {
             Decl::Color(_) | Decl::BackgroundColor(_) | Decl::WhiteSpace(_) | Decl::Content(_) => true,
             Decl::Display { none } => *none,
-            Decl::Height { .. } | Decl::MaxHeight { .. } | Decl::Overflow(_) | Decl::OverflowY(_) | Decl::Unknown(_) => false,
+            Decl::Height { .. } | Decl::MaxHeight { .. } | Decl::Overflow(_) | Decl::OverflowY(_) | Decl::Unknown(_) | Decl::Visibility { .. } => false,
         }
     }
 
@@ -164,7 +169,7 @@ impl Decl {
     }
 }
 
-/// The start of each style that declarations ask for, in the order of `styles_from_properties`: the display that a zero height with hidden overflow makes comes last, and
+/// The start of each style that html2text makes of declarations, in the order of `styles_from_properties`: the display that a zero height with hidden overflow makes comes last, and
 /// names the first height that is zero. html2text has none of these.
 pub fn style_starts(declarations: &[Declaration]) -> Vec<usize> {
     let mut starts: Vec<usize> = declarations.iter().filter(|d| d.decl.is_style()).map(|d| d.start).collect();
@@ -172,6 +177,22 @@ pub fn style_starts(declarations: &[Declaration]) -> Vec<usize> {
         starts.extend(declarations.iter().find(|d| d.decl.is_zero_height()).map(|d| d.start));
     }
     starts
+}
+
+/// The styles that html2text makes of declarations, with those of visibility where they are declared.
+pub fn with_visibility(declarations: &[Declaration], styles: Vec<StyleDecl>) -> Vec<StyleDecl> {
+    let mut known = styles.into_iter();
+    let mut all = vec![];
+    for Declaration { decl, important, start } in declarations {
+        match decl {
+            Decl::Visibility { hidden } => all.push(StyleDecl { style: Style::Visibility(u32::from(*hidden)), important: *important, start: *start }),
+            _ if decl.is_style() => all.extend(known.next()),
+            _ => {}
+        }
+    }
+    // The display that a height makes.
+    all.extend(known);
+    all
 }
 
 // ---- rows of numbers, with the texts that they name
@@ -250,6 +271,7 @@ impl Rows {
             Decl::WhiteSpace(word) => (8, *word),
             Decl::Content(_) => (9, start),
             Decl::Unknown(_) => (10, start),
+            Decl::Visibility { hidden } => (11, u32::from(*hidden)),
         };
         let second = text.map_or(0, |t| t.len() as u32);
         self.numbers.extend([kind, u32::from(declaration.important), declaration.start as u32, value, second]);
@@ -266,7 +288,7 @@ impl Rows {
         let (value, second) = match &decl.style {
             Style::Colour(colour) | Style::Background(colour) => (*colour, 0),
             Style::DisplayNone => (0, 0),
-            Style::WhiteSpace(word) => (*word, 0),
+            Style::WhiteSpace(word) | Style::Visibility(word) => (*word, 0),
             Style::Content(text) => (self.texts.len() as u32, text.len() as u32),
         };
         self.numbers.extend([decl.style.slot(), u32::from(decl.important), value, second, decl.start as u32]);
@@ -303,6 +325,15 @@ impl Style {
             Style::DisplayNone => 2,
             Style::WhiteSpace(_) => 3,
             Style::Content(_) => 4,
+            Style::Visibility(_) => VISIBILITY_SLOT as u32,
+        }
+    }
+
+    /// Its number in a slot; a content has none.
+    pub fn number(&self) -> u32 {
+        match self {
+            Style::Colour(n) | Style::Background(n) | Style::WhiteSpace(n) | Style::Visibility(n) => *n,
+            Style::DisplayNone | Style::Content(_) => 0,
         }
     }
 }
@@ -336,7 +367,7 @@ fn put_style(out: &mut Vec<u8>, decl: &StyleDecl) {
     put_number(out, decl.start as u32);
     put_number(out, decl.style.slot());
     match &decl.style {
-        Style::Colour(n) | Style::Background(n) | Style::WhiteSpace(n) => put_number(out, *n),
+        Style::Colour(n) | Style::Background(n) | Style::WhiteSpace(n) | Style::Visibility(n) => put_number(out, *n),
         Style::DisplayNone => {}
         Style::Content(text) => put_text(out, text),
     }
@@ -359,13 +390,15 @@ pub fn compiled(sheet: &[Styled]) -> Vec<u8> {
 
 // ---- the style row
 
-pub const SLOTS: usize = 5;
+pub const SLOTS: usize = 6;
+/// The slot that html2text does not have.
+pub const VISIBILITY_SLOT: usize = 5;
 pub const SLOT_START: usize = 9;
 pub const SLOT_WIDTH: usize = 10;
 pub const RECORD_WIDTH: usize = 1 + SLOTS * SLOT_WIDTH;
 pub const STYLE_ROW_WIDTH: usize = 3 * RECORD_WIDTH;
 
-/// The 153 numbers of a style row, in which a content's start and length are zero, and the contents of main, before and after.
+/// The 183 numbers of a style row, in which a content's start and length are zero, and the contents of main, before and after.
 #[derive(Debug, Clone, PartialEq, Eq, Default)]
 pub struct StyleRow {
     pub numbers: Vec<u32>,

@@ -7,9 +7,16 @@ pub(crate) mod names {
         &name.0
     }
 
-    // The rules of a sheet with the byte where each starts and the bytes where its declarations start. The crate does not say these: its own
+    // What the crate does not say of a declaration: the byte where it starts, and of visibility, which it does not know, whether it hides.
+    #[derive(Clone, Copy)]
+    pub(crate) struct Told {
+        pub(crate) start: usize,
+        pub(crate) hides: Option<bool>,
+    }
+
+    // The rules of a sheet with the byte where each starts, and its declarations. The crate does not say these: its own
     // readers are called one after the other, as parse_stylesheet, parse_ruleset and parse_rules call them, and asked where they stand.
-    pub(crate) fn starts(sheet: &str) -> Vec<(usize, Vec<usize>)> {
+    pub(crate) fn told(sheet: &str) -> Vec<(usize, Vec<Told>)> {
         let place = |rest: &str| sheet.len() - rest.len();
         let mut found = Vec::new();
         let mut rest = sheet;
@@ -19,7 +26,7 @@ pub(crate) mod names {
             }
             if statement.is_some() {
                 let (rule, _) = skip_optional_whitespace(rest).unwrap();
-                found.push((place(rule), declarations(rule).into_iter().map(place).collect()));
+                found.push((place(rule), declarations(rule).into_iter().map(|rest| told_of(rest, place(rest))).collect()));
             }
             rest = next;
         }
@@ -33,9 +40,23 @@ pub(crate) mod names {
         declared(rest)
     }
 
-    // The bytes where the declarations of a style attribute start, as parse_style_attribute has them from parse_rules.
-    pub(crate) fn attribute_starts(value: &str) -> Vec<usize> {
-        declared(value).into_iter().map(|rest| value.len() - rest.len()).collect()
+    // The declarations of a style attribute, as parse_style_attribute has them from parse_rules.
+    pub(crate) fn attribute_told(value: &str) -> Vec<Told> {
+        declared(value).into_iter().map(|rest| told_of(rest, value.len() - rest.len())).collect()
+    }
+
+    fn told_of(declaration: &str, start: usize) -> Told {
+        Told { start, hides: hides(declaration) }
+    }
+
+    // Visibility is known with one word, `visible` or `hidden`. It is read as parse_declaration reads.
+    fn hides(declaration: &str) -> Option<bool> {
+        let read: IResult<&str, _> = (parse_property_name, skip_optional_whitespace, tag(":"), skip_optional_whitespace, parse_value).parse(declaration);
+        let (_, (name, _, _, _, value)) = read.ok()?;
+        match &value.tokens[..] {
+            [Token::Ident(word)] if text(&name) == "visibility" => ["visible", "hidden"].iter().position(|w| *w == word.deref()).map(|number| number == 1),
+            _ => None,
+        }
     }
 
     // The rest of a text at each of its declarations; white space may stand before the first.

@@ -4,8 +4,9 @@ use std::panic::{self, AssertUnwindSafe};
 
 use html5ever::{Attribute, LocalName, QualName};
 
+use super::parser::names::Told;
 use super::{AttrOperator, PseudoElement, Ruleset, Selector, SelectorComponent, Style, StyleData, StyleDecl, parser};
-use crate::answers::{self, Component, Page, SLOT_START, SLOTS, StyleRow, Styled};
+use crate::answers::{self, Component, Page, RECORD_WIDTH, SLOT_START, SLOT_WIDTH, SLOTS, StyleRow, Styled, VISIBILITY_SLOT};
 use crate::markup5ever_rcdom::{Handle, Node, NodeData, add_child};
 use crate::{Colour, ComputedStyle, Specificity, StyleOrigin, WhiteSpace, WithSpec, css};
 
@@ -121,28 +122,40 @@ fn styles(values: &[StyleDecl], starts: &[usize]) -> Vec<answers::StyleDecl> {
     values.iter().zip(starts).map(style).collect()
 }
 
-fn declarations(values: &[parser::Declaration], starts: &[usize]) -> Vec<answers::Declaration> {
-    assert_eq!(values.len(), starts.len(), "each declaration has a start");
-    let declaration = |(d, &start): (&parser::Declaration, &usize)| answers::Declaration {
-        decl: decl(&d.data),
-        important: d.important == super::Importance::Important,
-        start,
-    };
-    values.iter().zip(starts).map(declaration).collect()
+// A declaration; what html2text calls an unknown one may be a visibility.
+fn told_decl(value: &parser::Decl, told: Told) -> answers::Decl {
+    let own = decl(value);
+    let Some(hidden) = told.hides else { return own };
+    assert_eq!(own, answers::Decl::Unknown(b"visibility".to_vec()), "html2text knows no visibility");
+    answers::Decl::Visibility { hidden }
 }
 
-fn rule(value: &parser::RuleSet, starts: &(usize, Vec<usize>)) -> answers::Rule {
-    answers::Rule { selectors: value.selectors.iter().map(selector).collect(), declarations: declarations(&value.declarations, &starts.1), start: starts.0 }
+fn declarations(values: &[parser::Declaration], told: &[Told]) -> Vec<answers::Declaration> {
+    assert_eq!(values.len(), told.len(), "each declaration has a start");
+    let declaration = |(d, &told): (&parser::Declaration, &Told)| answers::Declaration {
+        decl: told_decl(&d.data, told),
+        important: d.important == super::Importance::Important,
+        start: told.start,
+    };
+    values.iter().zip(told).map(declaration).collect()
+}
+
+fn rule(value: &parser::RuleSet, told: &(usize, Vec<Told>)) -> answers::Rule {
+    answers::Rule { selectors: value.selectors.iter().map(selector).collect(), declarations: declarations(&value.declarations, &told.1), start: told.0 }
 }
 
 // ---- reading
 
+fn with_told(sheet: &str, rules: &[parser::RuleSet]) -> Vec<answers::Rule> {
+    let told = parser::names::told(sheet);
+    assert_eq!(rules.len(), told.len(), "each rule has a start");
+    rules.iter().zip(&told).map(|(r, t)| rule(r, t)).collect()
+}
+
 /// `parse_stylesheet`: the rules of a sheet and the first byte not read.
 pub fn read_sheet(sheet: &str) -> Option<answers::Sheet> {
     let (rest, rules) = unless_panic(|| parser::parse_stylesheet(sheet).expect("many0 reads"))?;
-    let starts = parser::names::starts(sheet);
-    assert_eq!(rules.len(), starts.len(), "each rule has a start");
-    Some(answers::Sheet { rules: rules.iter().zip(&starts).map(|(r, s)| rule(r, s)).collect(), stop: sheet.len() - rest.len() })
+    Some(answers::Sheet { rules: with_told(sheet, &rules), stop: sheet.len() - rest.len() })
 }
 
 /// `parse_stylesheet`, and nothing but it, to be measured: the count of rules.
@@ -154,8 +167,8 @@ pub fn count_rules(sheet: &str) -> usize {
 pub fn style_attribute(value: &str) -> Option<Vec<answers::StyleDecl>> {
     let found = unless_panic(|| parser::parse_style_attribute(value).unwrap_or_default())?;
     let (_, declared) = parser::parse_rules(value).expect("separated_list0 reads");
-    let declared = declarations(&declared, &parser::names::attribute_starts(value));
-    Some(styles(&found, &answers::style_starts(&declared)))
+    let declared = declarations(&declared, &parser::names::attribute_told(value));
+    Some(answers::with_visibility(&declared, styles(&found, &answers::style_starts(&declared))))
 }
 
 /// `parse_color_attribute`: the colour of a colour attribute, or none.
@@ -173,35 +186,42 @@ fn style_data(agent: &str, user: &str, author: &str) -> StyleData {
     data
 }
 
-// For each of the rules that `do_add_css` keeps of a sheet the starts of its styles: it keeps each selector of each rule that has styles.
-fn starts_of_rules(sheet: &str) -> Vec<Vec<usize>> {
-    let read = read_sheet(sheet).expect("a sheet that reads");
-    let kept = read.rules.iter().map(|rule| (rule.selectors.len(), answers::style_starts(&rule.declarations))).filter(|(_, starts)| !starts.is_empty());
-    kept.flat_map(|(selectors, starts)| vec![starts; selectors]).collect()
+// A selector, and the styles of its rule.
+struct StyledSelector {
+    from: StyleOrigin,
+    selector: Selector,
+    styles: Vec<answers::StyleDecl>,
 }
 
-// The rules of the three sheets in the order in which `computed_style` goes through them, with their origins and the starts of their styles.
-fn started_rules<'a>(data: &'a StyleData, sheets: [&str; 3]) -> Vec<(StyleOrigin, &'a Ruleset, Vec<usize>)> {
-    let origins = [(StyleOrigin::Agent, &data.agent_rules), (StyleOrigin::User, &data.user_rules), (StyleOrigin::Author, &data.author_rules)];
-    let mut all = vec![];
-    for ((from, rules), sheet) in origins.into_iter().zip(sheets) {
-        let starts = starts_of_rules(sheet);
-        assert_eq!(rules.len(), starts.len(), "each rule that is kept has its starts");
-        all.extend(rules.iter().zip(starts).map(|(rule, starts)| (from, rule, starts)));
+// Those of a sheet, in reading order: the ones that `do_add_css` kept of it, and those of rules that have visibility alone.
+fn selectors_of_sheet(from: StyleOrigin, sheet: &str, kept: &[Ruleset]) -> Vec<StyledSelector> {
+    let (_, rules) = parser::parse_stylesheet(sheet).expect("many0 reads");
+    let read = with_told(sheet, &rules);
+    let (mut kept, mut all) = (kept.iter().peekable(), vec![]);
+    for (rule, read) in rules.into_iter().zip(&read) {
+        let starts = answers::style_starts(&read.declarations);
+        for selector in rule.selectors {
+            let own = kept.next_if(|_| !starts.is_empty());
+            assert!(own.is_none_or(|kept| kept.selector == selector), "a selector is that of another rule");
+            let styles = answers::with_visibility(&read.declarations, own.map_or(vec![], |kept| styles(&kept.styles, &starts)));
+            all.extend((!styles.is_empty()).then_some(StyledSelector { from, selector, styles }));
+        }
     }
+    assert!(kept.next().is_none(), "each rule that is kept was read");
     all
 }
 
-/// The compiled bytes of what `do_add_css` keeps of the three sheets.
+// Those of three sheets in the order in which `computed_style` goes through them.
+fn selectors_of_sheets(data: &StyleData, sheets: [&str; 3]) -> Vec<StyledSelector> {
+    let origins = [(StyleOrigin::Agent, &data.agent_rules), (StyleOrigin::User, &data.user_rules), (StyleOrigin::Author, &data.author_rules)];
+    origins.into_iter().zip(sheets).flat_map(|((from, kept), sheet)| selectors_of_sheet(from, sheet, kept)).collect()
+}
+
+/// The compiled bytes of what `do_add_css` keeps of the three sheets, and of visibility.
 pub fn compile(agent: &str, user: &str, author: &str) -> Option<Vec<u8>> {
     let data = unless_panic(|| style_data(agent, user, author))?;
-    let rules = started_rules(&data, [agent, user, author]);
-    let styled = |(from, rule, starts): &(StyleOrigin, &Ruleset, Vec<usize>)| Styled {
-        origin: origin(*from),
-        selector: selector(&rule.selector),
-        styles: styles(&rule.styles, starts),
-    };
-    Some(answers::compiled(&rules.iter().map(styled).collect::<Vec<_>>()))
+    let styled = |rule: StyledSelector| Styled { origin: origin(rule.from), selector: selector(&rule.selector), styles: rule.styles };
+    Some(answers::compiled(&selectors_of_sheets(&data, [agent, user, author]).into_iter().map(styled).collect::<Vec<_>>()))
 }
 
 fn local_attribute((name, value): (&str, &str)) -> Attribute {
@@ -322,6 +342,8 @@ fn put_record(row: &mut StyleRow, record: Option<&ComputedStyle>) {
     put_slot(row, &style.display, |_| 0);
     put_slot(row, &style.white_space, |w| white_space(*w));
     put_slot(row, &style.content, |_| 0);
+    // The slot of visibility, which html2text does not have.
+    row.numbers.extend([0; SLOT_WIDTH]);
     row.contents.push(style.content.val.as_ref().map_or(vec![], |c| text(&c.text)));
 }
 
@@ -342,8 +364,8 @@ pub struct Applied {
     pub styles: Vec<answers::StyleDecl>,
 }
 
-fn applied((from, rule, starts): &(StyleOrigin, &Ruleset, Vec<usize>)) -> Applied {
-    Applied { origin: origin(*from), pseudo: selector(&rule.selector).pseudo, specificity: specificity(&rule.selector), styles: styles(&rule.styles, starts) }
+fn applied(rule: &StyledSelector) -> Applied {
+    Applied { origin: origin(rule.from), pseudo: selector(&rule.selector).pseudo, specificity: specificity(&rule.selector), styles: rule.styles.clone() }
 }
 
 /// For each element of a page, in row order, what the selectors that match it say, in the order in which `computed_style` goes through them.
@@ -352,11 +374,8 @@ pub fn applied_rules(sheets: [&str; 3], page: &Page) -> Option<Vec<Vec<Applied>>
     let handles = tree(page);
     unless_panic(|| {
         let data = style_data(agent, user, author);
-        let rules = started_rules(&data, sheets);
-        let of_element = |row: usize| {
-            let matching = rules.iter().filter(|(_, rule, _)| rule.selector.matches(&handles[row]));
-            matching.map(applied).collect()
-        };
+        let rules = selectors_of_sheets(&data, sheets);
+        let of_element = |row: usize| rules.iter().filter(|rule| rule.selector.matches(&handles[row])).map(applied).collect();
         page.elements().into_iter().map(of_element).collect()
     })
 }
@@ -437,62 +456,75 @@ impl Whole {
     }
 }
 
-// ---- the starts of computed styles: html2text has none, so its own `maybe_update` is handed them in place of the values, in the order of `computed_style`
+// ---- the starts of computed styles, and visibility: html2text has neither, so its own `maybe_update` is handed starts beside the values, in the order of `computed_style`
 
-type Starts = [[WithSpec<u32>; SLOTS]; RECORDS];
+// What won in each slot: its number and its start.
+type Won = [[WithSpec<(u32, u32)>; SLOTS]; RECORDS];
 const RECORDS: usize = 3;
 const MAIN: usize = 0;
 
-fn starts_of_element(parent: &Starts, rules: &[(StyleOrigin, &Ruleset, Vec<usize>)], handle: &Handle, attributes: &[(&str, &str)]) -> Starts {
+fn won_by_element(parent: &Won, rules: &[StyledSelector], handle: &Handle, attributes: &[(&str, &str)]) -> Won {
     let mut all = parent.clone();
-    for (from, rule, starts) in rules.iter().filter(|(_, rule, _)| rule.selector.matches(handle)) {
+    let value = |style: &answers::Style, start: usize| (style.number(), start as u32);
+    for rule in rules.iter().filter(|rule| rule.selector.matches(handle)) {
         let record = selector(&rule.selector).pseudo as usize;
-        for said in styles(&rule.styles, starts) {
-            all[record][said.style.slot() as usize].maybe_update(said.important, *from, rule.selector.specificity(), said.start as u32);
+        for said in &rule.styles {
+            all[record][said.style.slot() as usize].maybe_update(said.important, rule.from, rule.selector.specificity(), value(&said.style, said.start));
         }
     }
-    for &(name, value) in attributes {
-        let colour = || color_attribute(value).expect("a colour attribute never panics").into_iter();
-        let said: Vec<(u32, usize)> = match name {
-            "style" => style_attribute(value).expect("a style attribute never panics").iter().map(|s| (s.style.slot(), s.start)).collect(),
-            "color" => colour().map(|c| (answers::Style::Colour(c).slot(), 0)).collect(),
-            "bgcolor" => colour().map(|c| (answers::Style::Background(c).slot(), 0)).collect(),
+    for &(name, text) in attributes {
+        let colour = || color_attribute(text).expect("a colour attribute never panics").into_iter();
+        let said: Vec<(answers::Style, usize)> = match name {
+            "style" => style_attribute(text).expect("a style attribute never panics").into_iter().map(|s| (s.style, s.start)).collect(),
+            "color" => colour().map(|c| (answers::Style::Colour(c), 0)).collect(),
+            "bgcolor" => colour().map(|c| (answers::Style::Background(c), 0)).collect(),
             _ => vec![],
         };
-        for (slot, start) in said {
-            all[MAIN][slot as usize].maybe_update(false, StyleOrigin::Author, Specificity::inline(), start as u32);
+        for (style, start) in said {
+            all[MAIN][style.slot() as usize].maybe_update(false, StyleOrigin::Author, Specificity::inline(), value(&style, start));
         }
     }
     all
 }
 
-// The row with its starts. What won in it has the same weight as what won among the starts.
-fn with_starts(mut row: StyleRow, starts: &Starts) -> StyleRow {
-    const VALUE: usize = SLOT_START - 2;
-    let mut won = StyleRow::default();
-    starts.iter().flatten().for_each(|slot| put_slot(&mut won, slot, |start| *start));
-    for (slot, won) in row.slots_mut().zip(won.numbers.chunks(answers::SLOT_WIDTH)) {
-        assert_eq!(slot[..VALUE], won[..VALUE], "a start is that of another declaration");
-        slot[SLOT_START] = won[VALUE];
+// The record with its starts and its visibility. What html2text has in a slot is what won among the starts.
+fn put_won(record: &mut [u32], won: &[WithSpec<(u32, u32)>; SLOTS]) {
+    let slots = record[1..].chunks_mut(SLOT_WIDTH);
+    for (number, (slot, won)) in slots.zip(won).enumerate() {
+        let mut own = StyleRow::default();
+        put_slot(&mut own, won, |value| value.0);
+        if number == VISIBILITY_SLOT {
+            slot.copy_from_slice(&own.numbers);
+        }
+        assert_eq!(slot, own.numbers, "a start is that of another declaration");
+        slot[SLOT_START] = won.val.map_or(0, |value| value.1);
+    }
+}
+
+// The row with its starts and its visibility, which alone may make a record present.
+fn with_won(mut row: StyleRow, won: &Won) -> StyleRow {
+    for (record, won) in row.numbers.chunks_mut(RECORD_WIDTH).zip(won) {
+        put_won(record, won);
+        record[0] |= record[1 + VISIBILITY_SLOT * SLOT_WIDTH];
     }
     row
 }
 
-/// `computed_style` of each element of a page, in row order, with the starts of what won.
+/// `computed_style` of each element of a page, in row order, with the starts of what won, and visibility.
 pub fn computed_styles(sheets: [&str; 3], page: &Page, document_styles: bool) -> Option<Vec<StyleRow>> {
     let [agent, user, author] = sheets;
     let handles = tree(page);
     unless_panic(|| {
         let data = style_data(agent, user, author);
-        let rules = started_rules(&data, sheets);
+        let rules = selectors_of_sheets(&data, sheets);
         let mut styles = vec![ComputedStyle::default(); page.rows()];
-        let mut starts = vec![Starts::default(); page.rows()];
+        let mut won = vec![Won::default(); page.rows()];
         for row in page.elements() {
             let attributes = if document_styles { page.attributes_of(row) } else { vec![] };
             styles[row] = data.computed_style(&styles[page.parent(row)], &handles[row], document_styles);
-            starts[row] = starts_of_element(&starts[page.parent(row)], &rules, &handles[row], &attributes);
+            won[row] = won_by_element(&won[page.parent(row)], &rules, &handles[row], &attributes);
         }
-        page.elements().into_iter().map(|row| with_starts(style_row(&styles[row]), &starts[row])).collect()
+        page.elements().into_iter().map(|row| with_won(style_row(&styles[row]), &won[row])).collect()
     })
 }
 
@@ -522,7 +554,25 @@ mod tests {
         let styles = |value: &str| -> Vec<usize> { style_attribute(value).unwrap().iter().map(|s| s.start).collect() };
         assert_eq!(styles(" color:red; zz:1;/**/\\63olor:red"), [1, 21]);
         assert_eq!(styles("overflow:hidden;height:5px;max-height:0;height:0;display:none"), [49, 27]);
-        assert_eq!(starts_of_rules("p{zz:1}p,q{height:0;overflow:hidden}{color:red}"), [[11], [11]]);
+        let compiled = compile("", "", "p{zz:1}p,q{height:0;overflow:hidden}{color:red}").unwrap();
+        assert_eq!(compiled, [2, 3, 0, 1, 2, 1, b'p', 1, 0, 11, 2, 3, 0, 1, 2, 1, b'q', 1, 0, 11, 2]);
+    }
+
+    #[test]
+    fn visibility() {
+        use answers::{Decl, Style};
+        let known = |value: &str| -> Vec<Decl> { read_sheet(&format!("p{{{value}}}")).unwrap().rules[0].declarations.iter().map(|d| d.decl.clone()).collect() };
+        let hidden = |hidden: bool| vec![Decl::Visibility { hidden }];
+        assert_eq!(known("visibility:hidden"), hidden(true));
+        assert_eq!(known("VISIBILITY : /**/hidd\\65n !important"), hidden(true));
+        assert_eq!(known("visibility:visible"), hidden(false));
+        for unknown in ["collapse", "hidden visible", "'hidden'", "hidden,", "", "hid\\64 en", "\\48idden", "hidden()", "!important"] {
+            assert_eq!(known(&format!("visibility:{unknown}")), [Decl::Unknown(b"visibility".to_vec())], "{unknown}");
+        }
+        let styles: Vec<Style> = style_attribute("height:0;visibility:visible;overflow:hidden;color:red").unwrap().into_iter().map(|s| s.style).collect();
+        assert_eq!(styles, [Style::Visibility(0), Style::Colour(0xff0000), Style::DisplayNone]);
+        assert_eq!(compile("", "", "q{zz:1}p{visibility:hidden}").unwrap(), [1, 3, 0, 1, 2, 1, b'p', 1, 0, 9, 5, 1]);
+        assert_eq!(compile("", "", "p{color:red;visibility:hidden}").unwrap(), [1, 3, 0, 1, 2, 1, b'p', 2, 0, 2, 0, 0x80, 0x80, 0xfc, 7, 0, 12, 5, 1]);
     }
 
     #[test]
@@ -547,6 +597,7 @@ mod tests {
         assert_eq!(elements, [true, true, false]);
         let sheets = ["", "", ".k{color:red}"];
         let rows = computed_styles(sheets, &page, true).unwrap();
+        assert_eq!(rows[0].numbers.len(), answers::STYLE_ROW_WIDTH);
         assert_eq!(rows[0].numbers[..11], [1, 1, 3, 0, 0, 1, 0, 0, 0xff0000, 0, 3]);
         let rows: Vec<StyleRow> = rows.into_iter().map(StyleRow::without_starts).collect();
         assert_eq!(path(&page, 1).style_row(sheets, true), rows[0]);
@@ -554,5 +605,10 @@ mod tests {
         let applied = applied_rules(["q{color:red}", "*{content:''}", ".k,div{color:red}"], &page).unwrap();
         let said: Vec<(u32, u32)> = applied[0].iter().map(|a| (a.origin, a.specificity.classes)).collect();
         assert_eq!(said, [(2, 0), (3, 1), (3, 0)]);
+        // A pseudo record that only visibility makes present, and that html2text does not have.
+        let hidden = &computed_styles(["", "", "div::after{visibility:hidden}"], &page, true).unwrap()[0];
+        assert_eq!(hidden.numbers[RECORD_WIDTH], 0);
+        assert_eq!(hidden.numbers[2 * RECORD_WIDTH], 1);
+        assert_eq!(hidden.numbers[3 * RECORD_WIDTH - SLOT_WIDTH..], [1, 3, 0, 0, 0, 1, 0, 1, 0, 11]);
     }
 }

@@ -3,7 +3,7 @@
 
     python3 tools/vectors/check_model.py
 
-Of sheets it has the count of rules, the first byte not read and the texts; compiled bytes, pages, attributes, style calls and runs it has whole. What a vector leaves open is not held."""
+Of a refused compiler call it has nothing; rules, compiled bytes, pages, attributes, style calls and runs it has whole. What a vector leaves open is not held."""
 import sys
 
 import model
@@ -26,8 +26,9 @@ def sheet(read, rows, q):
         rules, stop = model.sheet(t)
     except model.Panic as panic:
         return agrees(results[:2], [model.PANIC, model.byte_place(t, panic.args[0])])
-    texts = "".join(model.texts_of(rules)).encode()
-    return agrees(results, [0, 0, len(rules), model.byte_place(t, stop), results[4], len(texts)]) and texts == joined(q["texts"][0], b"")
+    texts, numbers, seen = "".join(model.texts_of(rules)).encode(), model.rule_numbers(rules), joined(q["rules"][0], [])
+    told = agrees(results, [0, 0, len(rules), model.byte_place(t, stop), len(numbers), len(texts)]) and texts == joined(q["texts"][0], b"")
+    return told and (not seen or seen == numbers)
 
 
 def page(read, rows, q):

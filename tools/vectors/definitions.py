@@ -23,7 +23,6 @@ SHEETS = 3
 NODE_WIDTH = 6
 ELEMENT_KIND = 1
 RECORDS = 3
-SLOTS = 5
 NUMBERS_BEFORE_VALUE = 6
 CONTENT_SLOT = 4
 CASES_A_FILE = 50
@@ -136,7 +135,7 @@ class Reader:
         return [self.number() for _ in range(self.number())]
 
     def record(self):
-        present, slots = self.number(), [None] * SLOTS
+        present, slots = self.number(), [None] * model.SLOTS
         for _ in range(self.number()):
             slot = self.number()
             source = [self.number() for _ in range(NUMBERS_BEFORE_VALUE)]
@@ -188,6 +187,7 @@ VALUES = [
     lambda v: "style.display_none",
     lambda v: "style.white_space " + ["declaration.normal", "declaration.pre", "declaration.pre_wrap"][v],
     lambda v: f"style.content {numbers(v)}",
+    lambda v: f"style.visibility {flag(v)}",
 ]
 
 

@@ -1,5 +1,5 @@
 #!/usr/bin/env python3
-"""A second writing of what the style call, the compiler and the run answer, in plain Python, from the papers and from html2text's text; nothing of this project's code is in it.
+"""A second writing of what the reader, the style call, the compiler and the run answer, in plain Python, from the papers and from html2text's text; nothing of this project's code is in it.
 
 `style_call` gives all that a call leaves: the refusal with its text and place, or the numbers of the row and the bytes of the text store; `run_call` the refusal with its
 place, or a row for each node and the store. vectors.py takes from it what html2text's answers do not say, the places of contents; and check_model.py holds it against
@@ -11,8 +11,8 @@ TOO_LONG, TOO_SHORT, NO_TEXT, PANIC, TOO_MANY, BAD_ROW, BAD_NAME, NO_ELEMENT, NO
 DOCUMENT, ELEMENT, OTHER = 0, 1, 2
 NODE_WIDTH, ATTRIBUTE_WIDTH = 6, 4
 AGENT, USER, AUTHOR = 1, 2, 3
-COLOUR, BACKGROUND, DISPLAY, WHITE_SPACE, CONTENT = range(5)
-SLOTS, SLOT_WIDTH, RECORDS = 5, 10, 3
+COLOUR, BACKGROUND, DISPLAY, WHITE_SPACE, CONTENT, VISIBILITY = range(6)
+SLOTS, SLOT_WIDTH, RECORDS = 6, 10, 3
 RECORD_WIDTH = 1 + SLOTS * SLOT_WIDTH
 ROW_WIDTH = RECORDS * RECORD_WIDTH
 GREATEST_NUMBER = 2 ** 31 - 1
@@ -285,6 +285,17 @@ def behind_last_comma(tokens):
     return tokens[places[-1] + 1:] if places else tokens
 
 
+# words, each at its number
+OVERFLOWS = ("visible", "hidden", "scroll", "auto")
+WHITE_SPACES = ("normal", "pre", "pre-wrap")
+VISIBILITIES = ("visible", "hidden")
+
+
+def visibility(tokens):
+    """The word of the one token. S-9: "any other word, or more than that one word, being unknown\"."""
+    return next((word for word in VISIBILITIES if tokens == [("ident", word)]), None)
+
+
 def meaning(name, tokens):
     """A kind of declaration with its value, or 'unknown' with its name."""
     if name in ("color", "background-color", "background"):
@@ -292,16 +303,19 @@ def meaning(name, tokens):
         found = c is not None and ("color" if name == "color" else "background", c)
     elif name in ("height", "max-height"):
         zero = height(tokens)
-        found = zero is not None and ("height", zero)
+        found = zero is not None and (name, zero)
     elif name in ("overflow", "overflow-y"):
-        word = first_word(tokens, ("visible", "hidden", "scroll", "auto"))
-        found = word and ("overflow", word)
+        word = first_word(tokens, OVERFLOWS)
+        found = word and (name, word)
     elif name == "display":
-        found = ("display", first_word(tokens, ("none",)))
+        found = ("display", first_word(tokens, ("none",)) is not None)
     elif name == "white-space":
-        found = ("white-space", first_word(tokens, ("normal", "pre", "pre-wrap")) or "normal")
+        found = ("white-space", first_word(tokens, WHITE_SPACES) or "normal")
     elif name == "content":
         found = all(one[0] == "string" for one in tokens) and ("content", "".join(one[1] for one in tokens))
+    elif name == "visibility":
+        word = visibility(tokens)
+        found = word and ("visibility", word)
     else:
         found = None
     return found or ("unknown", name)
@@ -330,9 +344,6 @@ def declarations(t, i):
     return separated(t, i, ";", declaration)
 
 
-SPACE_NUMBERS = {"normal": 0, "pre": 1, "pre-wrap": 2}
-
-
 def styles_of(found):
     """Slot, value, important and start of each style of a rule; a content's value is its text. The display that a height makes starts where the first zero height does."""
     styles, zeros, hidden = [], [], False
@@ -344,12 +355,14 @@ def styles_of(found):
         elif kind == "display" and what:
             styles.append((DISPLAY, 0, important, start))
         elif kind == "white-space":
-            styles.append((WHITE_SPACE, SPACE_NUMBERS[what], important, start))
+            styles.append((WHITE_SPACE, WHITE_SPACES.index(what), important, start))
         elif kind == "content":
             styles.append((CONTENT, what, important, start))
-        if (kind, what) == ("height", True):
+        elif kind == "visibility":
+            styles.append((VISIBILITY, VISIBILITIES.index(what), important, start))
+        if kind in ("height", "max-height") and what:
             zeros.append(start)
-        hidden = hidden or (kind, what) == ("overflow", "hidden")
+        hidden = hidden or kind in ("overflow", "overflow-y") and what == "hidden"
     return styles + [(DISPLAY, 0, False, zeros[0])] if zeros and hidden else styles
 
 
@@ -464,12 +477,14 @@ def selector(t, i):
 
 
 def rule(t, i):
-    selectors, i = separated(t, blanks(t, i), ",", selector)
+    """Its first byte, selectors and declarations."""
+    start = blanks(t, i)
+    selectors, i = separated(t, start, ",", selector)
     i = blanks(t, tag(t, blanks(t, i), "{"))
     found, i = declarations(t, i)
     i = blanks(t, i)
     i = blanks(t, i + t.startswith(";", i))
-    return (selectors, found), blanks(t, tag(t, i, "}"))
+    return (byte_place(t, start), selectors, found), blanks(t, tag(t, i, "}"))
 
 
 def at_rule(t, i):
@@ -506,10 +521,62 @@ def byte_place(t, i):
 def texts_of(rules):
     """The texts that rules name, in reading order."""
     texts = []
-    for selectors, found in rules:
+    for _, selectors, found in rules:
         texts += [w for components, _ in selectors for c in components if c[0] != "nth" for w in c[1:]]
         texts += [what for (kind, what), _, _ in found if kind in ("content", "unknown")]
     return texts
+
+
+# ---- rule rows
+
+KINDS = ("star", "class", "element", "hash", "child", "descendant", "nth", "attribute", "equal")
+# each at its number; none has 0
+DECLARATION_KINDS = (None, "color", "background", "height", "max-height", "overflow", "overflow-y", "display", "white-space", "content", "unknown", "visibility")
+WORDS = {"overflow": OVERFLOWS, "overflow-y": OVERFLOWS, "white-space": WHITE_SPACES, "visibility": VISIBILITIES}
+
+
+def signed_number(v):
+    return 2 * v if v >= 0 else -2 * v - 1
+
+
+class RuleRows:
+    """The numbers that rules take, and how many bytes their texts have so far."""
+
+    def __init__(self):
+        self.numbers, self.bytes = [], 0
+
+    def text(self, *texts):
+        """Where texts start, and the length of each."""
+        start, lengths = self.bytes, [len(t.encode()) for t in texts]
+        self.bytes += sum(lengths)
+        return [start, *lengths]
+
+    def component(self, kind, *rest):
+        numbers = [self.bytes, *map(signed_number, rest)] if kind == "nth" else self.text(*rest)
+        self.numbers += [KINDS.index(kind), *(numbers + [0, 0])[:3]]
+
+    def declaration(self, kind, what, important, start):
+        if kind in ("content", "unknown"):
+            value = self.text(what)
+        else:
+            value = [WORDS[kind].index(what) if kind in WORDS else int(what), 0]
+        self.numbers += [DECLARATION_KINDS.index(kind), int(important), start, *value]
+
+    def rule(self, start, selectors, found):
+        self.numbers += [start, len(selectors), len(found)]
+        for components, pseudo in selectors:
+            self.numbers += [len(components), pseudo]
+            for c in components:
+                self.component(*c)
+        for meant, important, at in found:
+            self.declaration(*meant, important, at)
+
+
+def rule_numbers(rules):
+    rows = RuleRows()
+    for one in rules:
+        rows.rule(*one)
+    return rows.numbers
 
 
 # ---- pages
@@ -660,8 +727,8 @@ def book_update(slot, new):
     return new if slot is None or book_key(new) >= book_key(slot) else slot
 
 
-# S-2: "Colour and white space inherit, with the parent's nine numbers; background, display and content do not."
-INHERITED_IN_BOOK_ORDER = (COLOUR, WHITE_SPACE)
+# S-2: "Colour and white space inherit, with the parent's nine numbers; background, display and content do not." S-9, of visibility: "It inherits in book order."
+INHERITED_IN_BOOK_ORDER = (COLOUR, WHITE_SPACE, VISIBILITY)
 
 
 def default_from(slots, above):
@@ -770,7 +837,7 @@ def style_call(sheets, nodes, attributes, text, row, on, book, lent=None):
             read = sheet(t)[0]
         except Panic as panic:
             return PANIC, k, byte_place(t, panic.args[0])
-        rules += [(k + 1, selectors, store.kept(styles_of(found))) for selectors, found in read]
+        rules += [(k + 1, selectors, store.kept(styles_of(found))) for _, selectors, found in read]
     page, inline, line = Page(nodes, attributes, text), {}, line_of(nodes, row)[-2::-1]
     for r in line if on else []:
         for k, (name, t) in enumerate(page.attributes[r]):
@@ -784,8 +851,9 @@ def style_call(sheets, nodes, attributes, text, row, on, book, lent=None):
 
 # ---- the compiled sheet
 
-KINDS = ("star", "class", "element", "hash", "child", "descendant", "nth", "attribute", "equal")
-MOST_GROUPS, NUMBER_END, COLOUR_END, LAST_WHITE_SPACE, LAST_PSEUDO = 5, 2 ** 32, 2 ** 24, 2, 2
+MOST_GROUPS, NUMBER_END, LAST_PSEUDO = 5, 2 ** 32, 2
+# behind the last number of a slot that has one
+VALUE_ENDS = {COLOUR: 2 ** 24, BACKGROUND: 2 ** 24, WHITE_SPACE: len(WHITE_SPACES), VISIBILITY: len(VISIBILITIES)}
 
 
 class Fault(Exception):
@@ -807,7 +875,7 @@ def text_bytes(t):
 def component_bytes(c):
     rest = c[1:]
     if c[0] == "nth":
-        return number_bytes(KINDS.index("nth")) + b"".join(number_bytes(2 * v if v >= 0 else -2 * v - 1) for v in rest)
+        return number_bytes(KINDS.index("nth")) + b"".join(number_bytes(signed_number(v)) for v in rest)
     return number_bytes(KINDS.index(c[0])) + b"".join(map(text_bytes, rest))
 
 
@@ -826,7 +894,7 @@ def compile_sheets(sheets):
     """The bytes of three sheets that read."""
     found = []
     for k, s in enumerate(sheets):
-        for selectors, declared in sheet(s.decode())[0]:
+        for _, selectors, declared in sheet(s.decode())[0]:
             styles = styles_of(declared)
             if styles:
                 found += [selector_bytes(k + 1, components, pseudo, styles) for components, pseudo in selectors]
@@ -886,7 +954,7 @@ class Compiled:
         if slot == CONTENT:
             what = self.text()
         else:
-            what = 0 if slot == DISPLAY else self.number(0, LAST_WHITE_SPACE + 1 if slot == WHITE_SPACE else COLOUR_END), 0
+            what = self.number(0, VALUE_ENDS[slot]) if slot in VALUE_ENDS else 0, 0
         return slot, (*what, start), important
 
     def sheet(self):

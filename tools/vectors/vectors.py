@@ -31,7 +31,7 @@ OWN_ARGUMENTS = 1 + len(BUFFERS)  # those of every call stand before them
 RESULTS = 6
 ANY = None
 NODE_WIDTH, ATTRIBUTE_WIDTH, COMPONENTS_OF_FIRST_RULE = 6, 4, 5
-SLOT_NAMES = ["color", "background", "display", "space", "content"]
+SLOT_NAMES = ["color", "background", "display", "space", "content", "visibility"]
 PANIC, NO_ELEMENT, NO_SHEET, NO_ROOM, BAD_LENGTH = 4, 8, 9, 10, 12
 LENGTH_KINDS = {"none": 0, "units": 1, "em": 2, "ex": 3}
 MILLION = 10 ** 6  # an amount is told as millions and what is left
@@ -533,6 +533,13 @@ def refusal(f):
     return int(f["refused"].value), int(f["in"].value) if "in" in f else 0, ANY if at == "any" else int(at)
 
 
+def said_numbers(field, width=1):
+    """How many rows of a width there are, or all their numbers: the count of numbers, and their parts."""
+    said = [int(n) for n in field.value.split()]
+    taken = said[0] * width if len(said) == 1 else len(said)
+    return taken, [(taken, said if len(said) > 1 else [])] if taken else []
+
+
 def lent_to(f, n):
     return f.get("lent", Field("plenty")).lengths(n)
 
@@ -547,8 +554,8 @@ def sheet_case(words, f):
     number_, _, place = refusal(f)
     if number_:
         return Vector(words, "read_sheet", sheet, [], Question(lent_to(f, n), filling(f), [n], [number_, place], left_by(number_)))
-    taken, names = int(f["numbers"].value), f["texts"].texts() if "texts" in f else []
-    after = {"all": "zero", "rules": ([(taken, [])] if taken else [], 0), "texts": (names, 0), "bytes": "unchanged"}
+    (taken, rules), names = said_numbers(f["numbers"]), f["texts"].texts() if "texts" in f else []
+    after = {"all": "zero", "rules": (rules, 0), "texts": (names, 0), "bytes": "unchanged"}
     results = [0, 0, int(f["rules"].value), int(f["stop"].value), taken, total(names)]
     return Vector(words, "read_sheet", sheet, [], Question(lent_to(f, n), filling(f), [n], results, after))
 
@@ -580,12 +587,12 @@ def compile_case(words, f):
 
 
 def style_attribute_case(words, f):
-    """Of the rows no more is said than how many they are. The call leaves what it does not use, so the buffers are filled with zeros."""
+    """The call leaves what it does not use, so the buffers are filled with zeros."""
     value = f["value"].texts()
     number_, names = refusal(f)[0], f["texts"].texts() if "texts" in f else []
-    count = int(f["styles"].value) if "styles" in f else 0
-    after = {"tokens": ([(STYLE_WIDTH * count, [])] if count else [], 0), "texts": (names, 0)}
-    return Vector(words, "style_attribute", value, [], Question(lent_to(f, total(value)), 0, [total(value)], [number_, count, total(names)], after))
+    taken, styles = said_numbers(f["styles"], STYLE_WIDTH) if "styles" in f else (0, [])
+    after = {"tokens": (styles, 0), "texts": (names, 0)}
+    return Vector(words, "style_attribute", value, [], Question(lent_to(f, total(value)), 0, [total(value)], [number_, taken // STYLE_WIDTH, total(names)], after))
 
 
 def colour_case(words, f):

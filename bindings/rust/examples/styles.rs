@@ -1,11 +1,11 @@
 //! Compiles three sheets, runs them down a small page, and prints each element's colour, the line and column of the declaration that it is from, and whether the
-//! element is hidden.
+//! element is hidden, or invisible in its place.
 use hicsolmab::{Color, Declaration, Origin, Page, Refusal, Settings, Sheets};
 
 // The maker's sheet gives the channels their colours, the school's hides what is not for the test, the third is the page's own.
 const AGENT: &[u8] = b".ch1 { color: yellow }\n.ch2 { color: aqua }";
 const USER: &[u8] = b".solution { display: none }";
-const AUTHOR: &[u8] = b"h1 { color: #ff8800 }\np.ch2 > b { color: white }\n.ch1::before { content: 'CH1 ' }";
+const AUTHOR: &[u8] = b"h1 { color: #ff8800 }\np.ch2 > b { color: white }\n.ch1::before { content: 'CH1 ' }\n.answer { visibility: hidden }";
 
 fn page() -> Result<Page, Refusal> {
     let mut page = Page::new();
@@ -24,6 +24,8 @@ fn page() -> Result<Page, Refusal> {
     page.open("p", [("style", "color: #00ff00")])?;
     page.close();
     page.open("p", [])?;
+    page.close();
+    page.open("p", [("class", "answer")])?;
     page.close();
     Ok(page)
 }
@@ -53,7 +55,11 @@ fn main() -> Result<(), Refusal> {
     for (row, style) in styles.elements() {
         let name = page.name(row).unwrap_or_default();
         let color = style.main().color_declaration().map_or("no colour".to_string(), show);
-        let shown = if style.is_hidden() { "hidden" } else { "shown" };
+        let shown = match (style.is_hidden(), style.is_invisible()) {
+            (true, _) => "hidden",
+            (false, true) => "invisible",
+            (false, false) => "shown",
+        };
         println!("{row} {name}: {color}, {shown}");
     }
     Ok(())

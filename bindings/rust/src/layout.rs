@@ -121,8 +121,10 @@ pub const DISPLAY_SLOT: usize = 2;
 pub const WHITE_SPACE_SLOT: usize = 3;
 /// The slot of `content`.
 pub const CONTENT_SLOT: usize = 4;
+/// The slot of `visibility`, which html2text does not have.
+pub const VISIBILITY_SLOT: usize = 5;
 /// The slots of a record.
-pub const SLOT_COUNT: usize = 5;
+pub const SLOT_COUNT: usize = 6;
 
 /// `white-space: normal`.
 pub const WHITE_SPACE_NORMAL: u32 = 0;
@@ -130,6 +132,11 @@ pub const WHITE_SPACE_NORMAL: u32 = 0;
 pub const WHITE_SPACE_PRE: u32 = 1;
 /// `white-space: pre-wrap`.
 pub const WHITE_SPACE_PRE_WRAP: u32 = 2;
+
+/// `visibility: visible`.
+pub const VISIBILITY_VISIBLE: u32 = 0;
+/// `visibility: hidden`.
+pub const VISIBILITY_HIDDEN: u32 = 1;
 
 /// Whether a slot is filled.
 pub const SLOT_FILLED: usize = 0;

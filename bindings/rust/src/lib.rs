@@ -35,8 +35,13 @@
 //!
 //! [`Compiled::run`] and [`Sheets::style`] give what html2text computes. In its cascade a child starts from all that its parent has, so that what is below a
 //! hidden element is hidden, and a parent's colour from a stronger selector stays. [`Sheets::style_book`] gives the style of one element in the order of CSS
-//! Cascading Level 3: what is declared on the element comes before all that it inherits, and only colour and white space inherit. There an element below a hidden
-//! one is not hidden by itself, and [`Style::before`] and [`Style::after`] are there where a rule on the element has a style for them; they inherit from it.
+//! Cascading Level 3: what is declared on the element comes before all that it inherits, and only colour, white space and visibility inherit. There an element below
+//! a hidden one is not hidden by itself, and [`Style::before`] and [`Style::after`] are there where a rule on the element has a style for them; they inherit from it.
+//!
+//! # Lines that keep their place
+//!
+//! What `display: none` hides is gone ([`Style::is_hidden`]); what `visibility: hidden` hides keeps its place and is not seen ([`Style::is_invisible`]). The engine knows
+//! `visibility` with the one word `visible` or `hidden`. Html2text does not know it; in its cascade it is decided as the other properties are.
 //!
 //! # Heights
 //!
@@ -69,5 +74,5 @@ pub use page::{Page, PageRows};
 pub use refusal::{Reason, Refusal};
 pub use settings::Settings;
 pub use sheets::{Compiled, SheetRead, Sheets, read_sheet, read_sheet_in};
-pub use style::{Color, Declaration, Display, Elements, Origin, Record, Specificity, Style, StyledElement, Styles, WhiteSpace};
+pub use style::{Color, Declaration, Display, Elements, Origin, Record, Specificity, Style, StyledElement, Styles, Visibility, WhiteSpace};
 pub use workspace::Workspace;

@@ -5,8 +5,8 @@ use std::slice::ChunksExact;
 
 use crate::layout::{
     AFTER, AGENT_ORIGIN, BACKGROUND_SLOT, BEFORE, COLOUR_SLOT, CONTENT_SLOT, DISPLAY_SLOT, MAIN, RECORD_WIDTH, SLOT_CLASS, SLOT_FILLED, SLOT_ID,
-    SLOT_IMPORTANT, SLOT_INLINE, SLOT_NUMBER, SLOT_ORIGIN, SLOT_SECOND, SLOT_START, SLOT_TYPE, SLOT_WIDTH, STYLE_ROW_WIDTH, USER_ORIGIN, WHITE_SPACE_PRE,
-    WHITE_SPACE_PRE_WRAP, WHITE_SPACE_SLOT, record_place, slot_place,
+    SLOT_IMPORTANT, SLOT_INLINE, SLOT_NUMBER, SLOT_ORIGIN, SLOT_SECOND, SLOT_START, SLOT_TYPE, SLOT_WIDTH, STYLE_ROW_WIDTH, USER_ORIGIN, VISIBILITY_HIDDEN,
+    VISIBILITY_SLOT, WHITE_SPACE_PRE, WHITE_SPACE_PRE_WRAP, WHITE_SPACE_SLOT, record_place, slot_place,
 };
 
 /// A colour.
@@ -53,6 +53,16 @@ pub enum WhiteSpace {
     Pre,
     /// `pre-wrap`.
     PreWrap,
+}
+
+/// What `visibility` says. What is hidden by it is not seen and keeps its place, unlike what is not displayed.
+#[derive(Debug, Clone, Copy, PartialEq, Eq, Hash)]
+#[non_exhaustive]
+pub enum Visibility {
+    /// `visible`.
+    Visible,
+    /// `hidden`.
+    Hidden,
 }
 
 /// Whose a declaration is.
@@ -170,6 +180,18 @@ impl<'a> Record<'a> {
         self.content_declaration().map(|declaration| declaration.value)
     }
 
+    /// Its `visibility`.
+    #[must_use]
+    pub fn visibility(self) -> Option<Visibility> {
+        self.visibility_declaration().map(|declaration| declaration.value)
+    }
+
+    /// Whether its `visibility` is `hidden`: it is not seen, and keeps its place. What is not displayed, [`is_hidden`](Self::is_hidden) says.
+    #[must_use]
+    pub fn is_invisible(self) -> bool {
+        self.visibility() == Some(Visibility::Hidden)
+    }
+
     /// The declaration of its `color`.
     #[must_use]
     pub fn color_declaration(self) -> Option<Declaration<Color>> {
@@ -205,6 +227,15 @@ impl<'a> Record<'a> {
         Some(self.slot(CONTENT_SLOT)?.map(|(start, length)| contents.get(start as usize, length as usize)))
     }
 
+    /// The declaration of its `visibility`.
+    #[must_use]
+    pub fn visibility_declaration(self) -> Option<Declaration<Visibility>> {
+        Some(self.slot(VISIBILITY_SLOT)?.map(|(number, _)| match number {
+            VISIBILITY_HIDDEN => Visibility::Hidden,
+            _ => Visibility::Visible,
+        }))
+    }
+
     /// A slot that is filled.
     fn slot(self, slot: usize) -> Option<Declaration<Value>> {
         let numbers = &self.numbers[slot_place(slot)..][..SLOT_WIDTH];
@@ -230,6 +261,7 @@ impl PartialEq for Record<'_> {
             && self.display_declaration() == other.display_declaration()
             && self.white_space_declaration() == other.white_space_declaration()
             && self.content_declaration() == other.content_declaration()
+            && self.visibility_declaration() == other.visibility_declaration()
     }
 }
 
@@ -245,6 +277,7 @@ impl fmt::Debug for Record<'_> {
             .field("display", &self.display_declaration())
             .field("white_space", &self.white_space_declaration())
             .field("content", &content)
+            .field("visibility", &self.visibility_declaration())
             .finish()
     }
 }
@@ -287,6 +320,18 @@ impl<'a> Style<'a> {
     #[must_use]
     pub fn content(self) -> Option<&'a [u8]> {
         self.main().content()
+    }
+
+    /// The element's `visibility`.
+    #[must_use]
+    pub fn visibility(self) -> Option<Visibility> {
+        self.main().visibility()
+    }
+
+    /// Whether the element's `visibility` is `hidden`: it is not seen, and keeps its place. An element in it may be visible.
+    #[must_use]
+    pub fn is_invisible(self) -> bool {
+        self.main().is_invisible()
     }
 
     /// What is declared for the element itself.

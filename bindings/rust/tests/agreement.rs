@@ -7,9 +7,10 @@ const SELECTORS: [&str; 16] = [
     "p", "*", ".k", "#i", "b", "p.k", "div p", "div > p", "p b", ":nth-child(2n+1)", "p:nth-child(2)", "[title]", "[title='x']", "p::before", ".k::after",
     "div * b",
 ];
-const DECLARATIONS: [&str; 10] = [
+const DECLARATIONS: [&str; 13] = [
     "color: red", "color: #123456 !important", "background-color: blue", "display: none", "white-space: pre", "white-space: pre-wrap !important",
-    "content: 'one'", "content: 'two' !important", "height: 0; overflow: hidden", "zz: 1",
+    "content: 'one'", "content: 'two' !important", "height: 0; overflow: hidden", "zz: 1", "visibility: hidden", "visibility: visible !important",
+    "visibility: hidden visible",
 ];
 const ATTRIBUTES: [(&str, &str); 8] = [
     ("class", "k"),
@@ -19,7 +20,7 @@ const ATTRIBUTES: [(&str, &str); 8] = [
     ("title", ""),
     ("color", "#00ff00"),
     ("bgcolor", "red"),
-    ("style", "content: 'own'; color: blue"),
+    ("style", "content: 'own'; color: blue; visibility: visible"),
 ];
 const NAMES: [&str; 3] = ["p", "b", "div"];
 
@@ -66,7 +67,7 @@ impl Random {
 fn run_and_style_call_agree() {
     let mut random = Random(0x9e37_79b9_7f4a_7c15);
     let (mut page, mut for_run, mut for_style) = (Page::new(), Workspace::new(), Workspace::new());
-    let mut coloured = 0;
+    let (mut coloured, mut invisible) = (0, 0);
     for case in 0..CASES {
         let [agent, user, author] = [random.sheet(), random.sheet(), random.sheet()];
         let sheets = Sheets { agent: agent.as_bytes(), user: user.as_bytes(), author: author.as_bytes() };
@@ -80,7 +81,9 @@ fn run_and_style_call_agree() {
             let called = sheets.style_in(&page, row, settings, &mut for_style).unwrap();
             assert_eq!(style, called, "case {case}, row {row} of {page:?}, {agent} | {user} | {author}");
             coloured += usize::from(style.color().is_some());
+            invisible += usize::from(style.is_invisible());
         }
     }
     assert!(coloured > 1000, "only {coloured} elements have a colour");
+    assert!(invisible > 500, "only {invisible} elements are invisible");
 }

@@ -1,5 +1,5 @@
-//! What an element inherits in the order of CSS Cascading: colour and white space, with their whole declarations, and only where nothing is declared.
-use hicsolmab::{Color, Declaration, Origin, Page, Settings, Sheets, Specificity, StyledElement, WhiteSpace};
+//! What an element inherits in the order of CSS Cascading: colour, white space and visibility, with their whole declarations, and only where nothing is declared.
+use hicsolmab::{Color, Declaration, Origin, Page, Settings, Sheets, Specificity, StyledElement, Visibility, WhiteSpace};
 
 const RED: Color = Color { red: 255, green: 0, blue: 0 };
 const BLUE: Color = Color { red: 0, green: 0, blue: 255 };
@@ -44,14 +44,16 @@ fn own_link_colours_beat_the_bodys() {
 }
 
 #[test]
-fn colour_and_white_space_inherit_and_nothing_else() {
-    let sheets = author("body{color:red;background:blue;display:none;white-space:pre;content:'x'}");
+fn colour_white_space_and_visibility_inherit_and_nothing_else() {
+    let sheets = author("body{color:red;background:blue;display:none;white-space:pre;content:'x';visibility:hidden}");
     let page = page(&[]);
     let (parent, child) = (book(sheets, &page, BODY), book(sheets, &page, IN_LINK));
     let (parent, child) = (parent.style().main(), child.style().main());
     assert_eq!(child.color_declaration(), parent.color_declaration());
     assert_eq!(child.white_space_declaration(), parent.white_space_declaration());
     assert_eq!(child.white_space_declaration().map(|d| (d.value, d.start)), Some((WhiteSpace::Pre, 44)));
+    assert_eq!(child.visibility_declaration(), parent.visibility_declaration());
+    assert_eq!(child.visibility_declaration().map(|d| (d.value, d.start)), Some((Visibility::Hidden, 72)));
     assert_eq!((child.background_color_declaration(), child.display_declaration(), child.content_declaration()), (None, None, None));
     assert!(parent.display_declaration().is_some() && !book(sheets, &page, IN_LINK).style().is_hidden());
 }

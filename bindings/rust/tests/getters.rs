@@ -1,12 +1,18 @@
 //! Every getter of a style, on the element, its `::before` and its `::after`, in runs and in both style calls.
-use hicsolmab::{Color, Declaration, Display, Origin, Page, Record, Settings, Sheets, Specificity, Style, WhiteSpace, Workspace};
+use hicsolmab::{Color, Declaration, Display, Origin, Page, Record, Settings, Sheets, Specificity, Style, Visibility, WhiteSpace, Workspace};
 
 const RED: Color = Color { red: 255, green: 0, blue: 0 };
 const BLUE: Color = Color { red: 0, green: 0, blue: 255 };
 
 /// What a record says, each getter's answer beside the others.
-type Said<'a> =
-    (Option<Declaration<Color>>, Option<Declaration<Color>>, Option<Declaration<Display>>, Option<Declaration<WhiteSpace>>, Option<Declaration<&'a [u8]>>);
+type Said<'a> = (
+    Option<Declaration<Color>>,
+    Option<Declaration<Color>>,
+    Option<Declaration<Display>>,
+    Option<Declaration<WhiteSpace>>,
+    Option<Declaration<&'a [u8]>>,
+    Option<Declaration<Visibility>>,
+);
 
 /// All that a record says. The getters of values are held against those of declarations on the way.
 #[track_caller]
@@ -17,12 +23,15 @@ fn said(record: Record<'_>) -> Said<'_> {
     assert_eq!(record.is_hidden(), record.display_declaration().is_some());
     assert_eq!(record.white_space(), record.white_space_declaration().map(|declaration| declaration.value));
     assert_eq!(record.content(), record.content_declaration().map(|declaration| declaration.value));
+    assert_eq!(record.visibility(), record.visibility_declaration().map(|declaration| declaration.value));
+    assert_eq!(record.is_invisible(), record.visibility() == Some(Visibility::Hidden));
     (
         record.color_declaration(),
         record.background_color_declaration(),
         record.display_declaration(),
         record.white_space_declaration(),
         record.content_declaration(),
+        record.visibility_declaration(),
     )
 }
 
@@ -35,12 +44,15 @@ fn all_said(style: Style<'_>) -> (Said<'_>, Option<Said<'_>>, Option<Said<'_>>) 
     assert_eq!(style.is_hidden(), main.is_hidden());
     assert_eq!(style.white_space(), main.white_space());
     assert_eq!(style.content(), main.content());
+    assert_eq!(style.visibility(), main.visibility());
+    assert_eq!(style.is_invisible(), main.is_invisible());
     (said(main), style.before().map(said), style.after().map(said))
 }
 
 /// Sheets in which each origin has something to say, and each property is declared for each record.
 const AGENT: &[u8] = b"p { color: red } b { white-space: pre } p::before { background-color: #010203 }";
-const USER: &[u8] = b".note { background-color: blue; content: 'main' } p::before { content: 'before'; color: #123456 }";
+const USER: &[u8] =
+    b".note { background-color: blue; content: 'main'; visibility: visible } p::before { content: 'before'; color: #123456; visibility: hidden }";
 const AUTHOR: &[u8] =
     b"div > p#first[title]:nth-child(1) { white-space: pre-wrap !important } p::after { content: ''; display: none; white-space: normal } .gone { display: none }";
 
@@ -100,13 +112,14 @@ fn each_getter_of_the_element() {
     let page = page();
     let styles = compiled.run(&page, Settings::default()).unwrap();
     let (main, _, _) = all_said(styles.get(FIRST).unwrap());
-    let (color, background, display, white_space, content) = main;
+    let (color, background, display, white_space, content, visibility) = main;
     assert_eq!(color, Some(rule(RED, Origin::Agent, "color: red", 0, 0, 1)));
     assert_eq!(background, Some(rule(BLUE, Origin::User, "background-color: blue", 0, 1, 0)));
     assert_eq!(display, None);
     let important = Declaration { important: true, ..rule(WhiteSpace::PreWrap, Origin::Author, "white-space: pre-wrap", 1, 2, 2) };
     assert_eq!(white_space, Some(important));
     assert_eq!(content, Some(rule(&b"main"[..], Origin::User, "content: 'main'", 0, 1, 0)));
+    assert_eq!(visibility, Some(rule(Visibility::Visible, Origin::User, "visibility: visible", 0, 1, 0)));
 }
 
 #[test]
@@ -115,16 +128,18 @@ fn each_getter_of_before_and_after() {
     let page = page();
     let styles = compiled.run(&page, Settings::default()).unwrap();
     let (_, before, after) = all_said(styles.get(FIRST).unwrap());
-    let (color, background, display, white_space, content) = before.unwrap();
+    let (color, background, display, white_space, content, visibility) = before.unwrap();
     assert_eq!(color, Some(rule(Color { red: 0x12, green: 0x34, blue: 0x56 }, Origin::User, "color: #123456", 0, 0, 1)));
     assert_eq!(background, Some(rule(Color { red: 1, green: 2, blue: 3 }, Origin::Agent, "background-color: #010203", 0, 0, 1)));
     assert_eq!((display, white_space), (None, None));
     assert_eq!(content, Some(rule(&b"before"[..], Origin::User, "content: 'before'", 0, 0, 1)));
-    let (color, background, display, white_space, content) = after.unwrap();
+    assert_eq!(visibility, Some(rule(Visibility::Hidden, Origin::User, "visibility: hidden", 0, 0, 1)));
+    let (color, background, display, white_space, content, visibility) = after.unwrap();
     assert_eq!((color, background), (None, None));
     assert_eq!(display, Some(rule(Display::None, Origin::Author, "display: none; white", 0, 0, 1)));
     assert_eq!(white_space, Some(rule(WhiteSpace::Normal, Origin::Author, "white-space: normal", 0, 0, 1)));
     assert_eq!(content, Some(rule(&b""[..], Origin::Author, "content: ''", 0, 0, 1)));
+    assert_eq!(visibility, None);
 }
 
 #[test]
@@ -132,7 +147,7 @@ fn an_element_that_nothing_is_declared_for() {
     let compiled = sheets().compile().unwrap();
     let page = page();
     let styles = compiled.run(&page, Settings::default()).unwrap();
-    assert_eq!(all_said(styles.get(DIV).unwrap()), ((None, None, None, None, None), None, None));
+    assert_eq!(all_said(styles.get(DIV).unwrap()), ((None, None, None, None, None, None), None, None));
 }
 
 #[test]
@@ -162,7 +177,7 @@ fn attributes_count_where_document_styles_do() {
     let styles = compiled.run(&page, Settings::default().with_document_styles(false)).unwrap();
     let (main, _, _) = all_said(styles.get(STYLED).unwrap());
     assert_eq!((main.0, main.2, main.4), (Some(rule(RED, Origin::Agent, "color: red", 0, 0, 1)), None, None));
-    assert_eq!(all_said(styles.get(FONT).unwrap()).0, (None, None, None, None, None));
+    assert_eq!(all_said(styles.get(FONT).unwrap()).0, (None, None, None, None, None, None));
 }
 
 #[test]
@@ -227,7 +242,9 @@ fn styles_are_shown_by_what_they_say() {
     let page = page();
     let called = sheets().style(&page, FIRST, Settings::default()).unwrap();
     let shown = format!("{called:?}");
-    for part in ["Style { main: Record { color: Some(Declaration { value: Color { red: 255, green: 0, blue: 0 }", "display: None", "PreWrap", "\"main\""] {
+    for part in
+        ["Style { main: Record { color: Some(Declaration { value: Color { red: 255, green: 0, blue: 0 }", "display: None", "PreWrap", "\"main\"", "Visible"]
+    {
         assert!(shown.contains(part), "{shown}");
     }
     let compiled = sheets().compile().unwrap();

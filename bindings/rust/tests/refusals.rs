@@ -170,7 +170,9 @@ fn bytes_that_are_no_compiled_sheet() {
     let refusals = [(&b""[..], 0), (b"\x01\x83", 1), (b"\x01\x04\x00\x00\x00", 1), (b"\x00\x00", 1), (b"\x01\x03\x00\x01\x02\x05p", 5)];
     // What `p{color:red}` was compiled to before styles had a start: its colour stands where the slot is looked for.
     let void = (&b"\x01\x03\x00\x01\x02\x01p\x01\x00\x00\x80\x80\xfc\x07"[..], 10);
-    for (bytes, place) in refusals.into_iter().chain([void]) {
+    // A slot behind the last, a visibility behind the last, and one that is not there.
+    let slots = [(&b"\x01\x03\x00\x00\x01\x00\x02\x06\x01"[..], 7), (b"\x01\x03\x00\x00\x01\x00\x02\x05\x02", 8), (b"\x01\x03\x00\x00\x01\x00\x02\x05", 8)];
+    for (bytes, place) in refusals.into_iter().chain([void]).chain(slots) {
         let refusal = Compiled::from_bytes(bytes.to_vec()).unwrap_err();
         let sentence = format!("the bytes are no compiled sheet: they cannot be read on from byte {place}");
         assert_refusal(refusal, BAD_BYTES, Reason::BadBytes, 0, place, &sentence);

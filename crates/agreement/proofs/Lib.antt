@@ -13,3 +13,6 @@ pub mod Agreeing
 pub mod Returning
 pub mod Sufficing
 pub mod StepAlone
+pub mod StylesWithout
+pub mod DeclaredWithout
+pub mod VisibilityAside

@@ -54,6 +54,7 @@ styles-agree t u k style.display_none v w o p q e = record { starts = e; numbers
 styles-agree t u k (style.white_space x) v w o p q e = record { starts = e; numbers = λ _. numbered-same _ v w p q e; texts = λ z. absurd (omega (arith, o, z)) }
 styles-agree t u k (style.content x) v w o p q e =
     record { starts = e; numbers = λ n. absurd (n (sym o)); texts = λ _. record { within-t = p.within; within-u = q.within; same = p.named ∙ sym q.named } }
+styles-agree t u k (style.visibility x) v w o p q e = record { starts = e; numbers = λ _. numbered-same _ v w p q e; texts = λ z. absurd (omega (arith, o, z)) }
 
 values_agree : (t u : List ℕ) (k : ℕ) (x : StyleValue) (v w : Value) → style_slot_of x.style ≡ k → Says t v x → Says u w x → Agree t u k v w
 values_agree t u k x v w o p q = styles-agree t u k x.style v w o p.style q.style (p.start ∙ sym q.start)

@@ -5,3 +5,4 @@ pub mod ComputedRows
 pub mod Demand
 pub mod Agreed
 pub mod LeastSuffice
+pub mod VisibilityAside

@@ -141,6 +141,7 @@ module _ (base : ℕ) where
   number-shifted f b style.display_none i = refl
   number-shifted f b (style.white_space w) i = refl
   number-shifted f b (style.content x) i = refl
+  number-shifted f b (style.visibility z) i = refl
 
   value_shifted : (f : ℕ) (v : StyleValue) (i : Bool)
       → shifted base (record { slot = style_slot_of v.style; important = i; value = value_from f v }) ≡ value_from (base + f) v
@@ -155,6 +156,7 @@ module _ (base : ℕ) where
   start_fits f style.display_none h e = absurd (omega arith)
   start_fits f (style.white_space w) h e = absurd (omega arith)
   start_fits f (style.content x) h e = h
+  start_fits f (style.visibility z) h e = absurd (omega arith)
 
   -- in all rows of a `style` attribute's styles a content's start can be moved by the base
   rows-shiftable : (ds : List StyleDecl) (f : ℕ) (t : List ℕ) → base + f + length (style_texts ds) < 2 ^ 32 → All (Shiftable base) (numbers_in (length ds) (style_rows f ds ++ t))

@@ -9,9 +9,9 @@ use lib.ListN.{length, get_or-replicate}
 use lib.Seq.{ext_get_or}
 use Rattle.combinators.specs.All.{All}
 use Rattle.combinators.specs.Choice.{pick, or, and, is}
-use Rattle.combinators.proofs.Rules.{never, pick_true, pick-false, pick-holds, or-false, or_assoc, or-none, or-gives, and_left, and-gives, is-yes, is-no, is_true, is_false}
+use Rattle.combinators.proofs.Rules.{never, pick_true, pick-false, pick-holds, or-false, or_assoc, or-gives, and_left, and-gives, is-yes, is-no, is_true, is_false}
 use Rattle.combinators.proofs.AllLaws.{all_append, all_weaker}
-use Rattle.syntax.specs.Layout.{colour_slot, white_space_slot}
+use Rattle.syntax.specs.Layout.{colour_slot, white_space_slot, visibility_slot}
 use Rattle.cascade.specs.declared.slots.Cascade.TheVariants.{Book}
 use Rattle.cascade.specs.Slot.{Candidate, Slot, empty, held, book_update, update_by, fill_update, Winner, Specified, by-cascade, by-inheritance, by_default}
 use Rattle.cascade.specs.Record.{slot_count, record_count, main_record, before_record, after_record, Record, ComputedStyle, Formed, record_in, slot_of, slot_in, empty_record, empty_style, Declared, is_named, merge_by, inherit, inherit_by, inherits, Handed, handed_by, handed_slot, handed_on, fill_record, fill_pseudo, finish_by, Sources, book_declared, declared_by, cascade_by, candidates_for, declares, BookDecides}
@@ -91,10 +91,12 @@ module _ {A : Type 0} where
   handed-slot-for q k empty = tt
   handed-slot-for q k (held c) = (refl, tt)
 
-  -- both slots of it
+  -- all slots of it
   handed-for : (q : ℕ) (h : Handed A) → All (λ d. d.pseudo ≡ q) (handed_on q h)
   unfolding handed_on
-  handed-for q h = all_append _ (handed_slot q colour_slot h.colour) _ (handed-slot-for q colour_slot h.colour) (handed-slot-for q white_space_slot h.white_space)
+  handed-for q h =
+      all_append _ (handed_slot q colour_slot h.colour) _ (handed-slot-for q colour_slot h.colour)
+      (all_append _ (handed_slot q white_space_slot h.white_space) _ (handed-slot-for q white_space_slot h.white_space) (handed-slot-for q visibility_slot h.visibility))
 
   module _ (q r : ℕ) (h : r < record_count) (n : ¬ (q ≡ r)) where
     -- so filling a record leaves every other
@@ -108,6 +110,12 @@ module _ {A : Type 0} where
     pseudo-elsewhere s = pick-holds (λ (t : ComputedStyle A). record_in t r ≡ record_in s r) _ _ _ (λ _. fill-elsewhere (handed_by s) s) (λ _. refl)
 
   -- ---- the candidates for a slot
+  -- of two choices of a list by tests that do not both hold, one behind the other, there is the list once
+  one-picked : (a b : Bool) (l : List (Candidate A)) → (a ≡ true → b ≡ false) → pick a l [] ++ pick b l [] ≡ pick (or a b) l []
+  unfolding pick or
+  one-picked true b l n = ap (λ (t : Bool). l ++ pick t l []) (n refl) ∙ append-nil l
+  one-picked false b l n = refl
+
   module _ (r k : ℕ) where
     -- of declarations behind declarations, those for a slot are those of the first, then those of the second
     pub candidates-append : (ds es : List (Declared A)) → candidates_for r k (ds ++ es) ≡ candidates_for r k ds ++ candidates_for r k es
@@ -127,29 +135,31 @@ module _ {A : Type 0} where
         go true e = ap (λ (l : List (Candidate A)). l ++ []) (sym (pick_true (c ∷ []) _ _ _ (sym (and-gives _ _ _ (is-yes r r refl) (sym e))) refl)) ∙ pick_true (c ∷ []) _ _ _ e refl
         go false e = ap (λ (l : List (Candidate A)). l ++ []) (sym (pick-false [] _ _ _ (sym (and-gives _ _ _ (is-yes r r refl) (sym e))) refl)) ∙ pick-false [] _ _ _ e refl
 
+    -- so what slot j of a main record hands on is for slot k only where that is slot j, and is then what slot k of it holds
+    own-candidates : (s : ComputedStyle A) (j : ℕ) → candidates_for r k (handed_slot r j (slot_in s main_record j)) ≡ pick (is k j) (held_in (slot_in s main_record k)) []
+    own-candidates s j = slot-candidates j (slot_in s main_record j) ∙ go (is k j) refl
+      where
+        go : (t : Bool) → is k j ≡ t → pick (is j k) (held_in (slot_in s main_record j)) [] ≡ pick (is k j) (held_in (slot_in s main_record k)) []
+        go true e = rw (is_true k j e)
+        go false e = sym (pick-false [] _ _ _ (is-no j k (λ z. is_false k j e (sym z))) refl) ∙ pick-false [] _ _ _ e refl
+
     -- what is handed on to a record is for its inheriting slots, from the slots of their numbers
     handed-candidates : (s : ComputedStyle A) → candidates_for r k (handed_on r (handed_by s)) ≡ pick (inherits k) (held_in (slot_in s main_record k)) []
-    handed-candidates s = split ∙ go (is k colour_slot) (is k white_space_slot) refl refl
+    unfolding handed_on handed_by inherits
+    handed-candidates s =
+        both (handed_from colour_slot) _ _ _ (own-candidates s colour_slot)
+        (both (handed_from white_space_slot) _ _ _ (own-candidates s white_space_slot) (own-candidates s visibility_slot) (λ e. rw (is_true k white_space_slot e) (unfold is in refl)))
+        (λ e. rw (is_true k colour_slot e) (unfold or is in refl))
       where
-        colour : List (Candidate A)
-        colour = held_in (slot_in s main_record colour_slot)
+        handed_from : ℕ → List (Declared A)
+        handed_from j = handed_slot r j (slot_in s main_record j)
 
-        space : List (Candidate A)
-        space = held_in (slot_in s main_record white_space_slot)
+        own : List (Candidate A)
+        own = held_in (slot_in s main_record k)
 
-        split : candidates_for r k (handed_on r (handed_by s)) ≡ pick (is colour_slot k) colour [] ++ pick (is white_space_slot k) space []
-        split =
-            unfold handed_on handed_by in
-            (candidates-append (handed_slot r colour_slot (slot_in s main_record colour_slot)) (handed_slot r white_space_slot (slot_in s main_record white_space_slot))
-            ∙ ap₂ (λ (l m : List (Candidate A)). l ++ m) (slot-candidates colour_slot (slot_in s main_record colour_slot)) (slot-candidates white_space_slot (slot_in s main_record white_space_slot)))
-
-        go : (t u : Bool) → is k colour_slot ≡ t → is k white_space_slot ≡ u
-            → pick (is colour_slot k) colour [] ++ pick (is white_space_slot k) space [] ≡ pick (inherits k) (held_in (slot_in s main_record k)) []
-        go true u e f = rw (is_true k colour_slot e) (unfold inherits or is pick in append-nil colour)
-        go false true e f = rw (is_true k white_space_slot f) (unfold inherits or is pick in refl)
-        go false false e f =
-            ap₂ (λ (l m : List (Candidate A)). l ++ m) (sym (pick-false [] _ _ _ (is-no colour_slot k (λ z. is_false k colour_slot e (sym z))) refl)) (sym (pick-false [] _ _ _ (is-no white_space_slot k (λ z. is_false k white_space_slot f (sym z))) refl))
-            ∙ pick-false [] _ _ _ (unfold inherits in or-none _ _ e f) refl
+        -- of two lists, where at most one has candidates for the slot
+        both : (ds es : List (Declared A)) (a b : Bool) → candidates_for r k ds ≡ pick a own [] → candidates_for r k es ≡ pick b own [] → (a ≡ true → b ≡ false) → candidates_for r k (ds ++ es) ≡ pick (or a b) own []
+        both ds es a b e f n = candidates-append ds es ∙ ap₂ (λ (l m : List (Candidate A)). l ++ m) e f ∙ one-picked a b own n
 
   -- ---- a record filled
   module _ (r k : ℕ) (h : r < record_count) (l : k < slot_count) (s : ComputedStyle A) (f : Formed s) where

@@ -2,7 +2,7 @@
 use mathlib.Core.Path.{◌≡◌, refl, sym, ap, ◌∙◌, subst}
 use Rattle.std.specs.Prelude.{Some, None}
 use mathlib.Core.Bool.{Bool, true, false}
-use mathlib.Core.List.{List, [], ◌∷◌, foldl, foldl-append}
+use mathlib.Core.List.{List, [], ◌∷◌, ◌++◌, foldl, foldl-append}
 use Prim.Native.Nat.{ℕ, ◌*◌, ◌≤◌, ◌<◌}
 use native.Mathlib.Omega.{arith}
 use lib.ListN.{length, get_or, set, replicate, length-set}
@@ -10,7 +10,7 @@ use lib.Seq.{sets, get_or-set_same}
 use Rattle.combinators.specs.Choice.{pick, is}
 use Rattle.combinators.specs.Store.{wiped}
 use Rattle.combinators.proofs.Rules.{pick_true, pick-false, pick-holds, is-no}
-use Rattle.syntax.specs.Layout.{flag, flag_of, colour_slot, white_space_slot}
+use Rattle.syntax.specs.Layout.{flag, flag_of, colour_slot, white_space_slot, visibility_slot}
 use Rattle.syntax.specs.declared.styles.Value.{Value}
 use Rattle.cascade.specs.declared.rows.Handed as rows
 use Rattle.cascade.specs.declared.slots.Candidate as code
@@ -18,7 +18,7 @@ use Rattle.cascade.specs.declared.slots.Cascade.{Cascade}
 use Rattle.cascade.specs.declared.slots.Cascade.TheVariants.{Crate, Book}
 use Rattle.cascade.specs.declared.slots.Slot as slots
 use Rattle.cascade.specs.Slot.{Candidate, Slot, fill_update, candidate_by, slot_by, held_by}
-use Rattle.cascade.specs.Record.{slot_count, record_count, main_record, before_record, after_record, ComputedStyle, Formed, record_in, slot_in, empty_record, empty_style, Declared, inherit_by, Handed, handed_by, handed_slot, handed_on, fill_record, fill_pseudo, finish_by}
+use Rattle.cascade.specs.Record.{slot_count, record_count, main_record, before_record, after_record, ComputedStyle, Formed, record_in, slot_of, slot_in, empty_record, empty_style, Declared, inherit_by, Handed, handed_by, handed_slot, handed_on, fill_record, fill_pseudo, finish_by}
 use Rattle.cascade.specs.Row.{record_width, style_row_width, record_place, slot_place, slot_numbers, slots_numbers, record_numbers, row_of, slot_at, record_at, style_at, AllFine, RowFine, present_flag, present_row, merge_row_by, inherited_row, handed_says, handed_at, filled_row, filled_pseudo, finished_row, Finished}
 use Rattle.cascade.proofs.Windows.{all-wiped}
 use Rattle.cascade.proofs.RowLaws.{flag_one, slot-there, same-windows, Which, is_main, is_before, is_after, which}
@@ -69,10 +69,14 @@ inherit-layout c s f =
 -- the slots that a row hands on are those that its style does
 pub handed-view : (xs : List ℕ) → style_row_width ≤ length xs → handed_at xs ≡ handed_by (style_at xs)
 unfolding handed_at handed_by slot_in record_in style_at pick is
-handed-view xs h = handed-same _ _ _ _ (sym (slot-there main_record colour_slot (λ x. x) xs (omega arith) (omega arith))) (sym (slot-there main_record white_space_slot (λ x. x) xs (omega arith) (omega arith)))
+handed-view xs h = handed-same _ _ _ _ _ _ (own colour_slot (omega arith)) (own white_space_slot (omega arith)) (own visibility_slot (omega arith))
   where
-    handed-same : {A : Type 0} (a b c d : Slot A) → a ≡ c → b ≡ d → ◌≡◌ {A = Handed A} (record { colour = a; white_space = b }) (record { colour = c; white_space = d })
-    handed-same a b c d e f = rw (e, f)
+    own : (k : ℕ) → k < slot_count → slot_at xs (slot_place main_record k) ≡ slot_of (record_at xs (record_place main_record)) k
+    own k l = sym (slot-there main_record k (λ x. x) xs (omega arith) l)
+
+    handed-same : {A : Type 0} (a b c d e f : Slot A) → a ≡ d → b ≡ e → c ≡ f
+        → ◌≡◌ {A = Handed A} (record { colour = a; white_space = b; visibility = c }) (record { colour = d; white_space = e; visibility = f })
+    handed-same a b c d e f p q r = rw (p, q, r)
 
 -- the mark of a record in a row says whether it is present in the row's style
 present-mark : (r : ℕ) (xs : List ℕ) → r < record_count → flag_of (get_or xs (record_place r) 0) ≡ (record_in (style_at xs) r).present
@@ -155,9 +159,9 @@ handed-layout s f = handed-view (row_of s) (omega (arith, row-long s f)) ∙ ap 
 -- ---- what the functions leave
 -- the slots that are handed on, read one by one
 pub handed-slots : (h : rows.Handed) (xs : List ℕ) → slot_by h.color ≡ slot_at xs (slot_place main_record colour_slot) → slot_by h.white_space ≡ slot_at xs (slot_place main_record white_space_slot)
-    → handed_says h ≡ handed_at xs
+    → slot_by h.visibility ≡ slot_at xs (slot_place main_record visibility_slot) → handed_says h ≡ handed_at xs
 unfolding handed_says handed_at
-handed-slots h xs e f = rw (e, f)
+handed-slots h xs e f g = rw (e, f, g)
 
 -- one slot, from one that holds a value: taken out, filled and put back
 pub slot-filled : (r k : ℕ) (x : code.Candidate) (from old new : slots.Slot) (xs ys : List ℕ) → r < record_count → k < slot_count → from.held ≡ Some x → slot_by old ≡ slot_at xs (slot_place r k)
@@ -171,13 +175,16 @@ slot-filled r k x from old new xs ys h l f e g y =
 pub slot-unfilled : (r k : ℕ) (from : slots.Slot) (xs : List ℕ) → from.held ≡ None → xs ≡ foldl (merge_row_by fill_update) xs (handed_slot r k (slot_by from))
 slot-unfilled r k from xs f = rw f (unfold held_by in (unfold handed_slot in refl))
 
--- both slots of a record
-pub record-filled : (r : ℕ) (h : rows.Handed) (xs ys zs : List ℕ) → ys ≡ foldl (merge_row_by fill_update) xs (handed_slot r colour_slot (slot_by h.color))
-    → zs ≡ foldl (merge_row_by fill_update) ys (handed_slot r white_space_slot (slot_by h.white_space)) → zs ≡ filled_row r (handed_says h) xs
+-- what is handed on to a record, one slot behind the other
+pub record-filled : (r : ℕ) (h : rows.Handed) (xs ys zs ws : List ℕ) → ys ≡ foldl (merge_row_by fill_update) xs (handed_slot r colour_slot (slot_by h.color))
+    → zs ≡ foldl (merge_row_by fill_update) ys (handed_slot r white_space_slot (slot_by h.white_space))
+    → ws ≡ foldl (merge_row_by fill_update) zs (handed_slot r visibility_slot (slot_by h.visibility)) → ws ≡ filled_row r (handed_says h) xs
 unfolding filled_row handed_says handed_on
-record-filled r h xs ys zs e f =
-    f ∙ ap (λ (l : List ℕ). foldl (merge_row_by fill_update) l (handed_slot r white_space_slot (slot_by h.white_space))) e
-    ∙ sym (foldl-append (merge_row_by fill_update) xs (handed_slot r colour_slot (slot_by h.color)) (handed_slot r white_space_slot (slot_by h.white_space)))
+record-filled r h xs ys zs ws e f g =
+    let c = handed_slot r colour_slot (slot_by h.color) in
+    let s = handed_slot r white_space_slot (slot_by h.white_space) in
+    let v = handed_slot r visibility_slot (slot_by h.visibility) in
+    rw (g, f, e, foldl-append (merge_row_by fill_update) xs c (s ++ v), foldl-append (merge_row_by fill_update) (foldl (merge_row_by fill_update) xs c) s v)
 
 -- a pseudo record that is present, from what the row hands on
 pub pseudo-filled : (r : ℕ) (own : rows.Handed) (xs ys : List ℕ) → get_or xs (record_place r) 0 ≡ present_flag → handed_says own ≡ handed_at xs → ys ≡ filled_row r (handed_says own) xs → ys ≡ filled_pseudo r xs

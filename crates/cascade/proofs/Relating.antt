@@ -6,7 +6,7 @@ use Prim.Native.Nat.{ℕ, zero, suc}
 use lib.ListN.{get_or, set, replicate}
 use Rattle.combinators.specs.Choice.{pick, is}
 use Rattle.combinators.proofs.Rules.{never}
-use Rattle.syntax.specs.Layout.{colour_slot, white_space_slot}
+use Rattle.syntax.specs.Layout.{colour_slot, white_space_slot, visibility_slot}
 use Rattle.syntax.specs.Style.{agent_origin, user_origin, author_origin}
 use Rattle.cascade.specs.declared.specificity.Specificity.{Specificity}
 use Rattle.cascade.specs.declared.slots.Weight.{Weight}
@@ -178,6 +178,7 @@ module _ {A B : Type 0} (R : A → B → Type 0) where
   pub record SameHanded (g : Handed A) (h : Handed B) : Type 0 where
     pub colours : SameSlot R g.colour h.colour
     pub white-spaces : SameSlot R g.white_space h.white_space
+    pub visibilities : SameSlot R g.visibility h.visibility
 
   -- records that are the same by their number
   record-in-same : (r : ℕ) (s : ComputedStyle A) (t : ComputedStyle B) → SameStyle R s t → SameRecord R (record_in s r) (record_in t r)
@@ -192,7 +193,11 @@ module _ {A B : Type 0} (R : A → B → Type 0) where
   -- styles that are the same hand on the same
   handed-same : (s : ComputedStyle A) (t : ComputedStyle B) → SameStyle R s t → SameHanded (handed_by s) (handed_by t)
   unfolding handed_by
-  handed-same s t h = record { colours = slot-in-same main_record colour_slot s t h; white-spaces = slot-in-same main_record white_space_slot s t h }
+  handed-same s t h = record {
+    colours = slot-in-same main_record colour_slot s t h;
+    white-spaces = slot-in-same main_record white_space_slot s t h;
+    visibilities = slot-in-same main_record visibility_slot s t h;
+  }
 
   -- slots that are the same are handed on as the same declarations
   slot-handed : (r k : ℕ) (s : Slot A) (t : Slot B) → SameSlot R s t → Each SameDeclared (handed_slot r k s) (handed_slot r k t)
@@ -206,7 +211,10 @@ module _ {A B : Type 0} (R : A → B → Type 0) where
   record-filled : (r : ℕ) (g : Handed A) (h : Handed B) (s : ComputedStyle A) (t : ComputedStyle B) → SameHanded g h → SameStyle R s t → SameStyle R (fill_record r g s) (fill_record r h t)
   unfolding fill_record handed_on
   record-filled r g h s t e d =
-      all-merged fill_update fill_update fill-same (each_append SameDeclared (slot-handed r colour_slot g.colour h.colour e.colours) (slot-handed r white_space_slot g.white_space h.white_space e.white-spaces)) s t d
+      all-merged fill_update fill_update fill-same
+      (each_append SameDeclared (slot-handed r colour_slot g.colour h.colour e.colours)
+      (each_append SameDeclared (slot-handed r white_space_slot g.white_space h.white_space e.white-spaces) (slot-handed r visibility_slot g.visibility h.visibility e.visibilities)))
+      s t d
 
   -- a pseudo record filled from its element's main record
   pseudo-filled : (r : ℕ) (s : ComputedStyle A) (t : ComputedStyle B) → SameStyle R s t → SameStyle R (fill_pseudo r s) (fill_pseudo r t)

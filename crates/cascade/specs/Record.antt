@@ -3,7 +3,7 @@
 use Rattle.std.specs.Prelude.{◌≡◌, Bool, true, false, ℕ, ◌<◌, ltb, length, get_or, set, replicate}
 use mathlib.Core.List.{List, [], ◌∷◌, ◌++◌, map, foldl}
 use Rattle.combinators.specs.Choice.{pick, or, and, is}
-use Rattle.syntax.specs.Layout.{colour_slot, white_space_slot}
+use Rattle.syntax.specs.Layout.{colour_slot, white_space_slot, visibility_slot}
 use Rattle.syntax.specs.Style.{agent_origin, user_origin, author_origin}
 use Rattle.cascade.specs.declared.specificity.Specificity.{Specificity}
 use Rattle.cascade.specs.declared.slots.Cascade.{Cascade}
@@ -11,9 +11,9 @@ use Rattle.cascade.specs.declared.slots.Cascade.TheVariants.{Crate, Book}
 use Rattle.cascade.specs.Specificity.{no_specificity, inline_specificity}
 use Rattle.cascade.specs.Slot.{Candidate, Slot, empty, held, update_by, fill_update, Specified}
 
--- ---- a record has a slot for each slot number of the compiled sheet (`syntax`: colour, background, display, white space, content)
+-- ---- a record has a slot for each slot number of the compiled sheet (`syntax`: colour, background, display, white space, content, visibility). S-9: "a sixth slot"
 abbrev pub slot_count : ℕ
-slot_count = 5
+slot_count = 6
 
 pub record Record (A : Type 0) : Type 0 where
   pub present : Bool
@@ -95,16 +95,22 @@ inherit_by Crate s = inherit s
 inherit_by Book s = inherit empty_style
 
 -- ---- what an element hands on in the book order, from its main record. S-2: "Colour and white space inherit, with the parent's nine numbers; background,
--- display and content do not."
+-- display and content do not." S-9, of visibility: "It inherits in book order."
 unfoldable pub inherits : ℕ → Bool
-inherits k = or (is k colour_slot) (is k white_space_slot)
+inherits k = or (is k colour_slot) (or (is k white_space_slot) (is k visibility_slot))
 
 pub record Handed (A : Type 0) : Type 0 where
   pub colour : Slot A
   pub white_space : Slot A
+  pub visibility : Slot A
 
 unfoldable pub handed_by : {A : Type 0} → ComputedStyle A → Handed A
-handed_by s = record { colour = slot_in s main_record colour_slot; white_space = slot_in s main_record white_space_slot }
+handed_by s =
+    record {
+      colour = slot_in s main_record colour_slot;
+      white_space = slot_in s main_record white_space_slot;
+      visibility = slot_in s main_record visibility_slot;
+    }
 
 -- what a slot hands on to slot k of record r: its value with all that weighs for it, where it holds one
 unfoldable pub handed_slot : {A : Type 0} → ℕ → ℕ → Slot A → List (Declared A)
@@ -112,7 +118,8 @@ handed_slot r k empty = []
 handed_slot r k (held c) = record { pseudo = r; slot = k; candidate = c } ∷ []
 
 unfoldable pub handed_on : {A : Type 0} → ℕ → Handed A → List (Declared A)
-handed_on r h = handed_slot r colour_slot h.colour ++ handed_slot r white_space_slot h.white_space
+handed_on r h =
+    handed_slot r colour_slot h.colour ++ (handed_slot r white_space_slot h.white_space ++ handed_slot r visibility_slot h.visibility)
 
 -- a record filled from what is handed on
 unfoldable pub fill_record : {A : Type 0} → ℕ → Handed A → ComputedStyle A → ComputedStyle A

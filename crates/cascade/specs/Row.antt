@@ -4,7 +4,7 @@ use mathlib.Core.List.{List, [], ◌∷◌, ◌++◌, map, foldl}
 use Rattle.std.proofs.lemmas.List.Edits.{sets}
 use Rattle.combinators.specs.Choice.{pick}
 use Rattle.combinators.specs.Store.{wiped}
-use Rattle.syntax.specs.Layout.{flag, flag_of, value_numbers, colour_slot, white_space_slot}
+use Rattle.syntax.specs.Layout.{flag, flag_of, value_numbers, colour_slot, white_space_slot, visibility_slot}
 use Rattle.syntax.specs.declared.styles.Value.{Value}
 use Rattle.cascade.specs.declared.rows.Handed as code
 use Rattle.cascade.specs.declared.slots.Cascade.{Cascade}
@@ -50,8 +50,8 @@ slot_start = 9
 abbrev pub slot_width : ℕ
 slot_width = 10
 
--- ---- A style row has for main, before, after "a presence flag (main always 1) and five slots" of ten numbers, so that "a style row has 153" (S-3; of nine and 138 before
--- it); "the boxed pseudo records become two flat ones"
+-- ---- A style row has for main, before, after "a presence flag (main always 1)" and its slots, six since S-9, of ten numbers since S-3, so that "a style row now has 183
+-- numbers" (S-9); "the boxed pseudo records become two flat ones"
 abbrev pub present_flag : ℕ
 present_flag = 1
 
@@ -173,11 +173,16 @@ inherited_row Book xs = present_row (wiped 0 style_row_width xs)
 -- ---- rows that it ends with, from what its parent hands on
 -- that, as the code's value of it says
 unfoldable pub handed_says : code.Handed → Handed Value
-handed_says h = record { colour = slot_by h.color; white_space = slot_by h.white_space }
+handed_says h = record { colour = slot_by h.color; white_space = slot_by h.white_space; visibility = slot_by h.visibility }
 
 -- the slots of a row's main record that are handed on
 unfoldable pub handed_at : List ℕ → Handed Value
-handed_at xs = record { colour = slot_at xs (slot_place main_record colour_slot); white_space = slot_at xs (slot_place main_record white_space_slot) }
+handed_at xs =
+    record {
+      colour = slot_at xs (slot_place main_record colour_slot);
+      white_space = slot_at xs (slot_place main_record white_space_slot);
+      visibility = slot_at xs (slot_place main_record visibility_slot);
+    }
 
 unfoldable pub filled_row : ℕ → Handed Value → List ℕ → List ℕ
 filled_row r h xs = foldl (merge_row_by fill_update) xs (handed_on r h)

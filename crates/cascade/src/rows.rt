@@ -9,7 +9,8 @@ ghost use Rattle.cascade.specs.Row.{slot_at, slot_numbers, record_place, slot_pl
 use crate::slots::{Candidate, Cascade, Slot, Weight};
 use crate::specificity::Specificity;
 use syntax::rows::{
-    COLOUR_SLOT, FLAG_TRUE, PSEUDO_AFTER, PSEUDO_BEFORE, PSEUDO_NONE, WHITE_SPACE_SLOT, flag_of,
+    COLOUR_SLOT, FLAG_TRUE, PSEUDO_AFTER, PSEUDO_BEFORE, PSEUDO_NONE, VISIBILITY_SLOT,
+    WHITE_SPACE_SLOT, flag_of,
 };
 use syntax::styles::{StyleNumbers, Value};
 
@@ -38,7 +39,7 @@ pub const SLOT_START: usize = 9;
 pub const SLOT_WIDTH: usize = 10;
 
 // A record: a presence flag, and a slot for each slot number of the compiled sheet.
-pub const SLOT_COUNT: usize = 5;
+pub const SLOT_COUNT: usize = 6;
 
 pub const PRESENCE_WIDTH: usize = 1;
 
@@ -64,6 +65,7 @@ pub type StyleRow = [u32; STYLE_ROW_WIDTH];
 pub struct Handed {
     pub color: Slot,
     pub white_space: Slot,
+    pub visibility: Slot,
 }
 
 // Which slot of which record: `merge_computed_style` tests once that there is such a one, and the type keeps it.
@@ -213,13 +215,18 @@ pub fn handed_on(row: &StyleRow) -> Handed
         pseudo: MAIN,
         slot: WHITE_SPACE_SLOT as usize,
     };
+    let visibility = SlotPlace {
+        pseudo: MAIN,
+        slot: VISIBILITY_SLOT as usize,
+    };
     Handed {
         color: color.read(row),
         white_space: white_space.read(row),
+        visibility: visibility.read(row),
     }
 }
 
-// Both slots of a record that inherit.
+// The slots of a record that inherit.
 fn fill_record(row: &mut StyleRow, pseudo: usize, from: Handed)
     requires { (pseudo < record_count) }
     ensures { row.new ≡ filled_row pseudo (handed_says from) row.old }
@@ -232,8 +239,13 @@ fn fill_record(row: &mut StyleRow, pseudo: usize, from: Handed)
         pseudo,
         slot: WHITE_SPACE_SLOT as usize,
     };
+    let visibility = SlotPlace {
+        pseudo,
+        slot: VISIBILITY_SLOT as usize,
+    };
     color.fill(row, from.color);
     white_space.fill(row, from.white_space);
+    visibility.fill(row, from.visibility);
 }
 
 // Those of a pseudo record, from the element's own main record, if a rule has made it present.

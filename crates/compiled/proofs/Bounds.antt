@@ -9,7 +9,7 @@ use lib.Dec.{leb, ltb}
 use lib.ListN.{length, get_or}
 use Rattle.combinators.specs.Choice.{pick, is, within}
 use Rattle.combinators.proofs.Rules.{pick-holds}
-use Rattle.syntax.specs.Layout.{colour_slot, display_slot, white_space_slot, content_slot, last_slot, style_in}
+use Rattle.syntax.specs.Layout.{colour_slot, display_slot, white_space_slot, content_slot, visibility_slot, last_slot, style_in}
 use Rattle.syntax.specs.RuleLayout.{star_kind, nth_kind, attribute_equal_kind, pseudo_number}
 use Rattle.syntax.specs.Selector.{none, after}
 use Rattle.syntax.specs.Style.{agent_origin, author_origin}
@@ -18,7 +18,7 @@ use Rattle.compiled.specs.Number.{group_values, most_groups, number_limit, limit
 use Rattle.compiled.specs.Text.{span_at}
 use Rattle.compiled.specs.declared.texts.Span.{Span}
 use Rattle.compiled.specs.Component.{is_mark, name_at, second_number_at, numbers_at, second_name_at, names_at, body_at, written_at, component_at, component_in}
-use Rattle.compiled.specs.Style.{greatest_colour, greatest_white_space, content_at, number_up_to, value_at, valued_at, slot_at, started_at, style_numbers_at, style_at}
+use Rattle.compiled.specs.Style.{greatest_colour, greatest_white_space, greatest_visibility, content_at, number_up_to, value_at, valued_at, slot_at, started_at, style_numbers_at, style_at}
 use Rattle.compiled.specs.Sheet.{CompiledSelector, count_at, pseudo_at, head_at, styles_at, parts_at, selector_of, selector_at, selectors_at, ending, whole_at, decode}
 
 -- what was read from i on takes at least `least` bytes and ends within the `len` bytes that there are; a fault lies within them or at their end
@@ -150,16 +150,23 @@ module _ (t : List ℕ) where
   component-reaches i = reaches-mapped (length t) (component_in t) (written_at t i) 1 i (written-reaches i)
 
   -- ---- styles
+  -- a number up to a greatest one ends within the bytes
+  up-to-reaches : (greatest from n : ℕ) → Reaches 0 (length t) n (number_up_to greatest t from n)
+  unfolding number_up_to
+  up-to-reaches greatest from n = weaker 1 n _ (reaches-mapped (length t) _ (ranged_at t n 0 greatest) 1 n (ranged-reaches n 0 greatest))
+
   -- a style's value ends within the bytes
   pub value-reaches : (from slot n : ℕ) → n ≤ length t → Reaches 0 (length t) n (value_at t from slot n)
-  unfolding value_at content_at number_up_to
+  unfolding value_at content_at
   value-reaches from slot n l =
       pick-holds (Reaches 0 (length t) n) (is slot display_slot) _ _ (λ _. reaches-read (length t) n 0 n _ (omega arith) l)
       (λ _. pick-holds (Reaches 0 (length t) n) (is slot content_slot) _ _
       (λ _. weaker 1 n _ (reaches-mapped (length t) _ (span_at t n) 1 n (span-reaches n)))
       (λ _. pick-holds (Reaches 0 (length t) n) (is slot white_space_slot) _ _
-      (λ _. weaker 1 n _ (reaches-mapped (length t) _ (ranged_at t n 0 greatest_white_space) 1 n (ranged-reaches n 0 greatest_white_space)))
-      (λ _. weaker 1 n _ (reaches-mapped (length t) _ (ranged_at t n 0 greatest_colour) 1 n (ranged-reaches n 0 greatest_colour)))))
+      (λ _. up-to-reaches greatest_white_space from n)
+      (λ _. pick-holds (Reaches 0 (length t) n) (is slot visibility_slot) _ _
+      (λ _. up-to-reaches greatest_visibility from n)
+      (λ _. up-to-reaches greatest_colour from n))))
 
   -- what the bytes of a style say
   pub style-numbers-reach : (i : ℕ) → Reaches 1 (length t) i (style_numbers_at t i)

@@ -17,7 +17,7 @@ use Rattle.syntax.proofs.Streams.{Held, held-left, held-right}
 use Rattle.compiled.specs.Decoded.{read}
 use Rattle.compiled.specs.Number.{number_bytes, number_at, ranged_at}
 use Rattle.compiled.specs.Text.{span_at}
-use Rattle.compiled.specs.Style.{greatest_colour, greatest_white_space, style_body, style_bytes, content_at, number_up_to, value_at, valued_at, slot_at, started_at, style_numbers_at, style_at}
+use Rattle.compiled.specs.Style.{greatest_colour, greatest_white_space, greatest_visibility, style_body, style_bytes, content_at, number_up_to, value_at, valued_at, slot_at, started_at, style_numbers_at, style_at}
 use Rattle.compiled.proofs.Fits.{TextFits, StyleFits}
 use Rattle.compiled.proofs.Following.{then-read, mapped-read, ends_at}
 use Rattle.compiled.proofs.NumberBack.{number-some, number-back, ranged-back}
@@ -32,6 +32,7 @@ slot-le (style.background c) = omega arith
 slot-le style.display_none = omega arith
 slot-le (style.white_space w) = omega arith
 slot-le (style.content x) = omega arith
+slot-le (style.visibility h) = omega arith
 
 -- a flag is at most 1
 flag-le : (b : Bool) → flag b ≤ 1
@@ -87,6 +88,8 @@ module _ (t : List ℕ) where
   body-value (style.white_space w) from n u f h =
       mapped-read _ (ranged_at t n 0 greatest_white_space) _ _ (ranged-back t n 0 greatest_white_space (white_space_number w) (omega (arith, white-space-le w)) (omega arith) (white-space-le w) h)
   body-value (style.content x) from n u f h = mapped-read _ (span_at t n) _ (span t n x h) (span-back t n x h f.short)
+  body-value (style.visibility z) from n u f h =
+      mapped-read _ (ranged_at t n 0 greatest_visibility) _ _ (ranged-back t n 0 greatest_visibility (flag z) (omega (arith, flag-le z)) (omega arith) (flag-le z) h)
 
   -- its text lies behind its length
   body-text : (s : Style) (n : ℕ) → Held t n (style_body s) → Held t (text_place n s) (style_text_of s)
@@ -96,6 +99,7 @@ module _ (t : List ℕ) where
   body-text style.display_none n h = held_none (text_place n style.display_none)
   body-text (style.white_space w) n h = held_none (text_place n (style.white_space w))
   body-text (style.content x) n h = text-held t n x h
+  body-text (style.visibility z) n h = held_none (text_place n (style.visibility z))
 
   module _ (d : StyleDecl) (i : ℕ) (h : Held t i (style_bytes d)) where
     -- its flag, its start, its slot and its body

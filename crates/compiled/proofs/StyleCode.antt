@@ -6,12 +6,12 @@ use Prim.Native.Nat.{ℕ, ◌+◌, ◌≤◌, ◌<◌}
 use native.Mathlib.Omega.{arith}
 use lib.ListN.{length}
 use Rattle.combinators.proofs.Rules.{pick_true, pick-false, is-yes, is-no}
-use Rattle.syntax.specs.Layout.{flag_of, colour_slot, display_slot, white_space_slot, content_slot, last_slot, style_in}
+use Rattle.syntax.specs.Layout.{flag_of, colour_slot, display_slot, white_space_slot, content_slot, visibility_slot, last_slot, style_in}
 use Rattle.syntax.specs.declared.styles.Value.{Value}
 use Rattle.syntax.specs.declared.styles.StyleNumbers.{StyleNumbers}
 use Rattle.compiled.specs.Decoded.{counted}
 use Rattle.compiled.specs.Number.{number_limit, number_at, ranged_at}
-use Rattle.compiled.specs.Style.{greatest_colour, greatest_white_space, content_at, number_up_to, value_at, valued_at, slot_at, started_at, style_numbers_at, style_at}
+use Rattle.compiled.specs.Style.{greatest_colour, greatest_white_space, greatest_visibility, content_at, number_up_to, value_at, valued_at, slot_at, started_at, style_numbers_at, style_at}
 use Rattle.compiled.specs.Sheet.{styles_at}
 use Rattle.std.proofs.Common.{Result, Ok, Err}
 use Rattle.compiled.specs.Answer.{read_answer, read_within, text_within, place_answer}
@@ -47,11 +47,18 @@ module _ (s : List ℕ) (at from slot : ℕ) where
       value-white-space l e =
           e ∙ ap read_answer (pick-false _ _ _ _ (is-no _ _ h) (pick-false _ _ _ _ (is-no _ _ k) (pick_true _ _ _ _ (is-yes _ _ l) refl)))
 
-      -- the two slots that are left have a colour
-      pub value-colour : ¬ (slot ≡ white_space_slot) → r ≡ read_answer (number_up_to greatest_colour s from at) → r ≡ read_answer (value_at s from slot at)
-      unfolding value_at
-      value-colour l e =
-          e ∙ ap read_answer (pick-false _ _ _ _ (is-no _ _ h) (pick-false _ _ _ _ (is-no _ _ k) (pick-false _ _ _ _ (is-no _ _ l) refl)))
+      module _ (l : ¬ (slot ≡ white_space_slot)) where
+        -- the visibility slot has a flag
+        pub value-visibility : slot ≡ visibility_slot → r ≡ read_answer (number_up_to greatest_visibility s from at) → r ≡ read_answer (value_at s from slot at)
+        unfolding value_at
+        value-visibility m e =
+            e ∙ ap read_answer (pick-false _ _ _ _ (is-no _ _ h) (pick-false _ _ _ _ (is-no _ _ k) (pick-false _ _ _ _ (is-no _ _ l) (pick_true _ _ _ _ (is-yes _ _ m) refl))))
+
+        -- the two slots that are left have a colour
+        pub value-colour : ¬ (slot ≡ visibility_slot) → r ≡ read_answer (number_up_to greatest_colour s from at) → r ≡ read_answer (value_at s from slot at)
+        unfolding value_at
+        value-colour m e =
+            e ∙ ap read_answer (pick-false _ _ _ _ (is-no _ _ h) (pick-false _ _ _ _ (is-no _ _ k) (pick-false _ _ _ _ (is-no _ _ l) (pick-false _ _ _ _ (is-no _ _ m) refl))))
 
 -- ---- a style: whether it is important, where its declaration starts, its slot and its value
 module _ (s : List ℕ) (at : ℕ) where

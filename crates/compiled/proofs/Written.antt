@@ -16,7 +16,7 @@ use Rattle.combinators.specs.Part.{part}
 use Rattle.combinators.proofs.Emitted.{then, onto, emits_none}
 use Rattle.combinators.proofs.Rules.{pick_true, pick-false, either, is-yes, is-no, is_true, neither}
 use Rattle.combinators.proofs.Parts.{part-le}
-use Rattle.syntax.specs.Layout.{flag, colour_number, colour_of, white_space_number, white_space_of, colour_slot, background_slot, display_slot, white_space_slot, content_slot, style_slot_of, style_of, value_in, style_in}
+use Rattle.syntax.specs.Layout.{flag, flag_of, colour_number, colour_of, white_space_number, white_space_of, colour_slot, background_slot, display_slot, white_space_slot, content_slot, visibility_slot, style_slot_of, style_of, value_in, style_in}
 use Rattle.syntax.specs.RuleLayout.{star_kind, class_kind, element_kind, hash_kind, child_kind, descendant_kind, nth_kind, attribute_kind, attribute_equal_kind, component_kind, component_from}
 use Rattle.syntax.specs.Selector.{attribute_equal}
 use Rattle.syntax.specs.Style as style
@@ -173,13 +173,23 @@ module _ (t : List ℕ) (slot : ℕ) (v : Value) where
             (sym (pick-false _ _ _ _ (is-no _ _ a) (pick-false _ _ _ _ (is-no _ _ b) (pick-false _ _ _ _ (is-no _ _ c) (pick_true _ _ _ _ (is-yes _ _ d) refl)))))
             (rw e)
 
-        -- a content is its slot and its text
-        pub content-bytes : ¬ (slot ≡ white_space_slot) → number_bytes content_slot ++ text_bytes (part t v.number v.second) ≡ slot_bytes (style_of t slot v)
-        unfolding style_of style_slot_of style_body
-        content-bytes d =
-            stated (style.content (part t v.number v.second)) _
-            (sym (pick-false _ _ _ _ (is-no _ _ a) (pick-false _ _ _ _ (is-no _ _ b) (pick-false _ _ _ _ (is-no _ _ c) (pick-false _ _ _ _ (is-no _ _ d) refl)))))
-            refl
+        module _ (d : ¬ (slot ≡ white_space_slot)) where
+          -- a content is its slot and its text
+          pub content-bytes : slot ≡ content_slot → number_bytes content_slot ++ text_bytes (part t v.number v.second) ≡ slot_bytes (style_of t slot v)
+          unfolding style_of style_slot_of style_body
+          content-bytes e =
+              stated (style.content (part t v.number v.second)) _
+              (sym (pick-false _ _ _ _ (is-no _ _ a) (pick-false _ _ _ _ (is-no _ _ b) (pick-false _ _ _ _ (is-no _ _ c) (pick-false _ _ _ _ (is-no _ _ d) (pick_true _ _ _ _ (is-yes _ _ e) refl))))))
+              refl
+
+          -- a visibility is its slot and its flag
+          pub visibility-bytes : ¬ (slot ≡ content_slot) → (n : ℕ) → n ≡ flag (flag_of v.number)
+              → texts_many number_bytes (visibility_slot ∷ n ∷ []) ≡ slot_bytes (style_of t slot v)
+          unfolding style_of style_slot_of style_body
+          visibility-bytes e n f =
+              two-numbers visibility_slot n ∙ stated (style.visibility (flag_of v.number)) _
+              (sym (pick-false _ _ _ _ (is-no _ _ a) (pick-false _ _ _ _ (is-no _ _ b) (pick-false _ _ _ _ (is-no _ _ c) (pick-false _ _ _ _ (is-no _ _ d) (pick-false _ _ _ _ (is-no _ _ e) refl))))))
+              (rw f)
 
 -- either colour is its slot and its number
 pub colours-bytes : (t : List ℕ) (slot : ℕ) (v : Value) → slot ≤ background_slot → texts_many number_bytes (slot ∷ v.number ∷ []) ≡ slot_bytes (style_of t slot v)

@@ -1,7 +1,7 @@
 -- Styles of a compiled sheet: whether it is important, the slot, and the slot's value.
 use Rattle.std.specs.Prelude.{ℕ, ◌≡◌, refl, Bool, true, false, List, [], ◌∷◌, ◌++◌}
 use Rattle.combinators.specs.Choice.{pick, and, is, within}
-use Rattle.syntax.specs.Layout.{flag, flag_of, colour_number, white_space_number, colour_slot, display_slot, white_space_slot, content_slot, last_slot, style_slot_of, style_of, value_in, style_in}
+use Rattle.syntax.specs.Layout.{flag, flag_of, colour_number, white_space_number, colour_slot, display_slot, white_space_slot, content_slot, visibility_slot, last_slot, style_slot_of, style_of, value_in, style_in}
 use Rattle.syntax.specs.Style as style
 use Rattle.syntax.specs.Style.{Style, StyleDecl}
 use Rattle.syntax.specs.declared.styles.Value.{Value}
@@ -18,6 +18,10 @@ greatest_colour = 16777215
 abbrev pub greatest_white_space : ℕ
 greatest_white_space = 2
 
+-- S-9: "value 0 or 1", 1 being hidden
+abbrev pub greatest_visibility : ℕ
+greatest_visibility = 1
+
 -- ---- written
 
 -- what stands behind the slot: of `display: none` nothing
@@ -27,9 +31,10 @@ style_body (style.background c) = number_bytes (colour_number c)
 style_body style.display_none = []
 style_body (style.white_space w) = number_bytes (white_space_number w)
 style_body (style.content x) = text_bytes x
+style_body (style.visibility h) = number_bytes (flag h)
 
 -- "Style: important 0 or 1", then the start (S-3: "the start becomes a number after the important mark"); "slot 0 colour, 1 background (each red × 65536 + green × 256 + blue), 2 display none (no number follows; its value in a row is
--- 0), 3 white space (0 normal, 1 pre, 2 pre-wrap), 4 content (text)."
+-- 0), 3 white space (0 normal, 1 pre, 2 pre-wrap), 4 content (text)." S-9: "a sixth slot, number 5 in compiled sheets, value 0 or 1"
 unfoldable pub style_bytes : StyleDecl → List ℕ
 style_bytes d = number_bytes (flag d.important) ++ (number_bytes d.value.start ++ (number_bytes (style_slot_of d.value.style) ++ style_body d.value.style))
 
@@ -47,7 +52,8 @@ value_at t start slot n =
     pick (is slot display_slot) (read n (record { number = 0; second = 0; start = start }))
     (pick (is slot content_slot) (content_at t start n)
     (pick (is slot white_space_slot) (number_up_to greatest_white_space t start n)
-    (number_up_to greatest_colour t start n)))
+    (pick (is slot visibility_slot) (number_up_to greatest_visibility t start n)
+    (number_up_to greatest_colour t start n))))
 
 unfoldable pub valued_at : List ℕ → Bool → ℕ → ℕ → ℕ → Decoded StyleNumbers
 valued_at t important start slot n = mapped (λ v. record { slot = slot; important = important; value = v }) (value_at t start slot n)
@@ -80,3 +86,18 @@ case-display = refl
 pub case-colour : style_at (0x00 ∷ 0x02 ∷ 0x01 ∷ 0x80 ∷ 0x80 ∷ 0x80 ∷ 0x08 ∷ []) 0 ≡ fault 3
 unfolding style_at style_in value_in style_numbers_at started_at slot_at valued_at value_at content_at number_up_to style_of flag_of ranged_at number_at groups_at limited and_then mapped pick and is within
 case-colour = refl
+
+-- `visibility: hidden`, from byte 2 on
+pub case-hidden : style_at (0x00 ∷ 0x02 ∷ 0x05 ∷ 0x01 ∷ []) 0 ≡ read 4 (record { value = record { style = style.visibility true; start = 2 }; important = false })
+unfolding style_at style_in value_in style_numbers_at started_at slot_at valued_at value_at content_at number_up_to style_of flag_of ranged_at number_at groups_at limited and_then mapped pick and is within
+case-hidden = refl
+
+-- a visibility of 2
+pub case-visibility : style_at (0x00 ∷ 0x02 ∷ 0x05 ∷ 0x02 ∷ []) 0 ≡ fault 3
+unfolding style_at style_in value_in style_numbers_at started_at slot_at valued_at value_at content_at number_up_to style_of flag_of ranged_at number_at groups_at limited and_then mapped pick and is within
+case-visibility = refl
+
+-- slot 6, which there is not
+pub case-slot : style_at (0x00 ∷ 0x02 ∷ 0x06 ∷ 0x01 ∷ []) 0 ≡ fault 2
+unfolding style_at style_in value_in style_numbers_at started_at slot_at valued_at value_at content_at number_up_to style_of flag_of ranged_at number_at groups_at limited and_then mapped pick and is within
+case-slot = refl

@@ -15,7 +15,7 @@ use crate::texts::{emit_number_text, read_text};
 use combinators::writer::Writer;
 use syntax::rows::{
     BACKGROUND_SLOT, COLOUR_SLOT, CONTENT_SLOT, DISPLAY_SLOT, FLAG_FALSE, FLAG_TRUE, LAST_SLOT,
-    WHITE_SPACE_PRE_WRAP, WHITE_SPACE_SLOT, flag_of,
+    VISIBILITY_SLOT, WHITE_SPACE_PRE_WRAP, WHITE_SPACE_SLOT, flag_of,
 };
 use syntax::styles::{StyleNumbers, Value};
 
@@ -61,6 +61,7 @@ impl SheetBytes<'_> {
             }),
             CONTENT_SLOT => self.read_content(at, start),
             WHITE_SPACE_SLOT => read_number_up_to(self.bytes, at, start, WHITE_SPACE_PRE_WRAP),
+            VISIBILITY_SLOT => read_number_up_to(self.bytes, at, start, FLAG_TRUE),
             _ => read_number_up_to(self.bytes, at, start, GREATEST_COLOUR),
         }
     }
@@ -121,7 +122,11 @@ fn emit_slot(slot: u32, value: Value, texts: &[u8], writer: &mut Writer<'_>)
             let word = white_space_number(value.number);
             emit_numbers(&[WHITE_SPACE_SLOT, word], writer);
         }
-        _ => emit_number_text(CONTENT_SLOT, value.number, value.second, texts, writer),
+        CONTENT_SLOT => emit_number_text(CONTENT_SLOT, value.number, value.second, texts, writer),
+        _ => {
+            let hidden = flag_of(value.number == FLAG_TRUE);
+            emit_numbers(&[VISIBILITY_SLOT, hidden], writer);
+        }
     }
 }
 

@@ -10,7 +10,7 @@ use Rattle.combinators.specs.Choice.{pick, and}
 use Rattle.combinators.specs.All.{All}
 use Rattle.combinators.proofs.Rules.{pick-holds}
 use Rattle.combinators.proofs.AllLaws.{all_append, all-reverse, all_weaker, all_both}
-use Rattle.syntax.specs.Declaration.{Decl, color, background_color, height, max_height, overflow, overflow_y, display, white_space, content, unknown, Declaration}
+use Rattle.syntax.specs.Declaration.{Decl, color, background_color, height, max_height, overflow, overflow_y, display, white_space, content, visibility, unknown, Declaration}
 use Rattle.syntax.specs.Layout.{declaration_width, decl_text, declaration_text, declaration_texts, style_text_of, style_text}
 use Rattle.syntax.specs.RuleLayout.{component_text, component_texts, selector_head, selector_text, selector_texts, rule_text, rule_rows, rule_texts}
 use Rattle.syntax.specs.RuleSize.{sizes, selector_size, rule_size}
@@ -112,6 +112,7 @@ own-few i s (display true) = omega arith
 own-few i s (display false) = omega arith
 own-few i s (white_space w) = omega arith
 own-few i s (content t) = omega arith
+own-few i s (visibility z) = omega arith
 own-few i s (unknown n) = omega arith
 
 -- declarations have no more styles of their own than they are
@@ -142,6 +143,7 @@ own-text m i s (display true) h = (omega arith, tt)
 own-text m i s (display false) h = tt
 own-text m i s (white_space w) h = (omega arith, tt)
 own-text m i s (content t) h = (h, tt)
+own-text m i s (visibility z) h = (omega arith, tt)
 own-text m i s (unknown n) h = tt
 
 -- nor have those of declarations
@@ -173,6 +175,7 @@ own-start m i s (display true) h = (h, tt)
 own-start m i s (display false) h = tt
 own-start m i s (white_space w) h = (h, tt)
 own-start m i s (content t) h = (h, tt)
+own-start m i s (visibility z) h = (h, tt)
 own-start m i s (unknown n) h = tt
 
 -- so do those of declarations

@@ -21,7 +21,7 @@ use Rattle.lexer.specs.TokenRow.{token_width}
 use Rattle.lexer.specs.Whitespace.{skip_whitespace}
 use Rattle.lexer.proofs.Comments.{skip-le}
 use Rattle.lexer.proofs.NameAnswers.{NameRead}
-use Rattle.syntax.specs.Declaration.{visible, hidden, scroll, auto, normal, pre, pre_wrap, Decl, color, background_color, height, max_height, overflow, overflow_y, display, white_space, content, unknown, Declaration}
+use Rattle.syntax.specs.Declaration.{visible, hidden, scroll, auto, normal, pre, pre_wrap, Decl, color, background_color, height, max_height, overflow, overflow_y, display, white_space, content, visibility, unknown, Declaration}
 use Rattle.syntax.specs.Layout.{flag, overflow_number, white_space_number, decl_text, declaration_text, decl_row, declaration_row, declaration_rows, declaration_texts}
 use Rattle.syntax.specs.Stream.{texts_many, rows_many}
 use Rattle.syntax.proofs.Streams.{Held, held-part, sets-held}
@@ -72,6 +72,7 @@ row_is i s f (white_space normal) = refl
 row_is i s f (white_space pre) = refl
 row_is i s f (white_space pre_wrap) = refl
 row_is i s f (content t) = refl
+row_is i s f (visibility z) = refl
 row_is i s f (unknown t) = refl
 
 -- one without a text has none, with names or without
@@ -86,6 +87,7 @@ named-textless names (overflow_y o) h = refl
 named-textless names (display n) h = refl
 named-textless names (white_space w) h = refl
 named-textless names (content t) h = h.none
+named-textless names (visibility z) h = refl
 named-textless true (unknown t) h = h.none
 named-textless false (unknown t) h = refl
 

@@ -11,7 +11,7 @@ use Rattle.combinators.specs.Store.{wiped}
 use Rattle.combinators.specs.Part.{part}
 use Rattle.combinators.proofs.Parts.{part-le}
 use Rattle.lexer.specs.Token.{Token, text_of}
-use Rattle.syntax.specs.Declaration.{Decl, color, background_color, height, max_height, overflow, overflow_y, display, white_space, content, unknown}
+use Rattle.syntax.specs.Declaration.{Decl, color, background_color, height, max_height, overflow, overflow_y, display, white_space, content, visibility, unknown}
 use Rattle.syntax.specs.Layout.{flag, decl_text}
 use Rattle.syntax.specs.Stream.{texts_many}
 use Rattle.values.specs.Property.{decl_of}
@@ -35,6 +35,7 @@ named-answer names (overflow_y o) = refl
 named-answer names (display n) = refl
 named-answer names (white_space w) = refl
 named-answer names (content t) = refl
+named-answer names (visibility z) = refl
 named-answer true (unknown t) = refl
 named-answer false (unknown t) = refl
 
@@ -49,6 +50,7 @@ Bounded n t (overflow_y o) = Unit
 Bounded n t (display z) = Unit
 Bounded n t (white_space w) = Unit
 Bounded n t (content b) = length b ≤ t
+Bounded n t (visibility z) = Unit
 Bounded n t (unknown b) = length b ≤ n
 
 -- is among n bytes of name and t bytes behind them
@@ -63,6 +65,7 @@ text-among names n t (overflow_y o) b = omega arith
 text-among names n t (display z) b = omega arith
 text-among names n t (white_space w) b = omega arith
 text-among names n t (content x) b = omega arith
+text-among names n t (visibility z) b = omega arith
 text-among true n t (unknown x) b = omega arith
 text-among false n t (unknown x) b = omega arith
 
@@ -78,6 +81,7 @@ textless-bounded n t (overflow_y o) h = tt
 textless-bounded n t (display z) h = tt
 textless-bounded n t (white_space w) h = tt
 textless-bounded n t (content b) h = omega (arith, ap length h.none)
+textless-bounded n t (visibility z) h = tt
 textless-bounded n t (unknown b) h = omega (arith, ap length h.none)
 
 -- a declaration's text is its name, where it is unknown, or what its strings say

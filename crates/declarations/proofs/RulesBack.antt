@@ -7,7 +7,7 @@ use native.Mathlib.Omega.{arith}
 use lib.ListN.{length, drop, length-map}
 use Rattle.combinators.specs.Store.{wiped}
 use Rattle.combinators.proofs.Wiped.{length-wiped}
-use Rattle.syntax.specs.Declaration.{Decl, color, background_color, height, max_height, overflow, overflow_y, display, white_space, content, unknown, Declaration}
+use Rattle.syntax.specs.Declaration.{Decl, color, background_color, height, max_height, overflow, overflow_y, display, white_space, content, visibility, unknown, Declaration}
 use Rattle.syntax.specs.Layout.{declaration_text, declaration_texts, declarations_at}
 use Rattle.syntax.specs.Stream.{texts_many}
 use Rattle.syntax.proofs.Back.{DeclFits, DeclarationsFit, declarations-written}
@@ -29,6 +29,7 @@ named-fits names (overflow_y o) h = tt
 named-fits names (display n) h = tt
 named-fits names (white_space w) h = tt
 named-fits names (content t) h = tt
+named-fits names (visibility z) h = tt
 named-fits names (unknown t) h = tt
 
 module _ (names : Bool) (at : ℕ) where

@@ -18,7 +18,7 @@ use Rattle.combinators.proofs.AllLaws.{all_append}
 use Rattle.lexer.specs.TokenRow.{token_width}
 use Rattle.lexer.specs.Whitespace.{skip_whitespace}
 use Rattle.lexer.proofs.Comments.{skip-le}
-use Rattle.syntax.specs.Declaration.{Decl, color, background_color, height, max_height, overflow, overflow_y, display, white_space, content, unknown, Declaration}
+use Rattle.syntax.specs.Declaration.{Decl, color, background_color, height, max_height, overflow, overflow_y, display, white_space, content, visibility, unknown, Declaration}
 use Rattle.syntax.specs.Layout.{declaration_width, style_width, declaration_text, declaration_rows, declaration_texts, style_rows, style_texts, styles_at}
 use Rattle.syntax.specs.Stream.{texts_many}
 use Rattle.syntax.proofs.Streams.{sets-drop}
@@ -50,6 +50,7 @@ nameless-one (overflow_y o) = tt
 nameless-one (display n) = tt
 nameless-one (white_space w) = tt
 nameless-one (content t) = tt
+nameless-one (visibility z) = tt
 nameless-one (unknown n) = refl
 
 -- declarations that are kept without names have no text other than a content's
@@ -71,6 +72,7 @@ module _ (names : Bool) where
   named-same f h (display n) = refl
   named-same f h (white_space w) = refl
   named-same f h (content t) = refl
+  named-same f h (visibility z) = refl
   named-same f h (unknown n) = h _ _
 
   -- the styles that they ask for by themselves
@@ -207,6 +209,7 @@ own-fits i s (display true) h = (tt, tt)
 own-fits i s (display false) h = tt
 own-fits i s (white_space w) h = (tt, tt)
 own-fits i s (content t) h = (tt, tt)
+own-fits i s (visibility z) h = (tt, tt)
 own-fits i s (unknown n) h = tt
 
 -- the styles of declarations that fit do fit

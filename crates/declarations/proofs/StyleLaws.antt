@@ -8,9 +8,9 @@ use lib.ListN.{length, get_or, drop, length-append}
 use Rattle.combinators.specs.Choice.{pick, or, and, is}
 use Rattle.combinators.specs.All.{All}
 use Rattle.combinators.proofs.Rules.{pick-holds, is_true}
-use Rattle.syntax.specs.Declaration.{Overflow, visible, hidden, scroll, auto, Decl, color, background_color, height, max_height, overflow, overflow_y, display, white_space, content, unknown, Declaration}
+use Rattle.syntax.specs.Declaration.{Overflow, visible, hidden, scroll, auto, Decl, color, background_color, height, max_height, overflow, overflow_y, display, white_space, content, visibility, unknown, Declaration}
 use Rattle.syntax.specs.Layout as layout
-use Rattle.syntax.specs.Layout.{color_kind, background_color_kind, height_kind, max_height_kind, overflow_kind, overflow_yKind, display_kind, white_space_kind, content_kind, flag, flag_of, overflow_number, overflow_of, declaration_width, declaration_start, decl_text, declaration_text, decl_row, declaration_row, decl_of, read_declaration, declaration_rows, declaration_texts, declarations_at, display_slot, style_width, style_text_of, style_text, style_slot_of, number_from, value_from, numbers_from, row_of_numbers, style_row, value_in, style_in, read_style, style_rows, style_texts, styles_at}
+use Rattle.syntax.specs.Layout.{color_kind, background_color_kind, height_kind, max_height_kind, overflow_kind, overflow_yKind, display_kind, white_space_kind, content_kind, visibility_kind, flag, flag_of, overflow_number, overflow_of, declaration_width, declaration_start, decl_text, declaration_text, decl_row, declaration_row, decl_of, read_declaration, declaration_rows, declaration_texts, declarations_at, display_slot, style_width, style_text_of, style_text, style_slot_of, number_from, value_from, numbers_from, row_of_numbers, style_row, value_in, style_in, read_style, style_rows, style_texts, styles_at}
 use Rattle.syntax.specs.Stream.{Read, read_many, texts_many, rows_many}
 use Rattle.syntax.specs.Style as style
 use Rattle.syntax.specs.Style.{StyleDecl}
@@ -44,11 +44,12 @@ record Other (k : ℕ) : Type 0 where
   display : is k display_kind ≡ false
   white-space : is k white_space_kind ≡ false
   content : is k content_kind ≡ false
+  visibility : is k visibility_kind ≡ false
 
 -- what holds of every kind holds of any number
 by_kind : (P : ℕ → Type 0) → P color_kind → P background_color_kind → P height_kind → P max_height_kind → P overflow_kind → P overflow_yKind → P display_kind
-    → P white_space_kind → P content_kind → (k : ℕ) → (Other k → P k) → P k
-by_kind P p₁ p₂ p₃ p₄ p₅ p₆ p₇ p₈ p₉ k q =
+    → P white_space_kind → P content_kind → P visibility_kind → (k : ℕ) → (Other k → P k) → P k
+by_kind P p₁ p₂ p₃ p₄ p₅ p₆ p₇ p₈ p₉ p₁₀ k q =
     by_number P k color_kind p₁ (λ n₁.
     by_number P k background_color_kind p₂ (λ n₂.
     by_number P k height_kind p₃ (λ n₃.
@@ -58,7 +59,8 @@ by_kind P p₁ p₂ p₃ p₄ p₅ p₆ p₇ p₈ p₉ k q =
     by_number P k display_kind p₇ (λ n₇.
     by_number P k white_space_kind p₈ (λ n₈.
     by_number P k content_kind p₉ (λ n₉.
-    q (record { color = n₁; background = n₂; height = n₃; max-height = n₄; overflow = n₅; overflow-y = n₆; display = n₇; white-space = n₈; content = n₉ }))))))))))
+    by_number P k visibility_kind p₁₀ (λ n₁₀.
+    q (record { color = n₁; background = n₂; height = n₃; max-height = n₄; overflow = n₅; overflow-y = n₆; display = n₇; white-space = n₈; content = n₉; visibility = n₁₀ })))))))))))
 
 -- the number of an overflow says whether it hides
 hides-number : (a : ℕ) → is a (overflow_number hidden) ≡ hides (overflow_of a)
@@ -126,8 +128,8 @@ module _ (store : List ℕ) where
   unfolding said_by own_numbers style_in value_in style_of one decl_of layout.style_of pick is
   own-said k i v =
       by_kind (λ n. said_by (own_numbers n i v) ≡ style_of i v.start (decl_of store n v.number v.second))
-      refl refl refl refl refl refl (display-said i (flag_of v.number) v.start) refl refl k
-      (λ o. rw (o.color, o.background, o.height, o.max-height, o.overflow, o.overflow-y, o.display, o.white-space, o.content))
+      refl refl refl refl refl refl (display-said i (flag_of v.number) v.start) refl refl refl k
+      (λ o. rw (o.color, o.background, o.height, o.max-height, o.overflow, o.overflow-y, o.display, o.white-space, o.content, o.visibility))
 
   -- that the declaration at the start of a stream asks for
   pub declared-said : (t : List ℕ) → said_by (own_numbers_at t) ≡ style_of (read_declaration store t).value.important (read_declaration store t).value.start (read_declaration store t).value.decl
@@ -149,15 +151,15 @@ module _ (store : List ℕ) where
   zero-own : (k a b : ℕ) → and (or (is k height_kind) (is k max_height_kind)) (is a (flag true)) ≡ zero_height (decl_of store k a b)
   unfolding zero_height decl_of flag flag_of pick and or is
   zero-own k a b =
-      by_kind (λ n. and (or (is n height_kind) (is n max_height_kind)) (is a (flag true)) ≡ zero_height (decl_of store n a b)) refl refl refl refl refl refl refl refl refl k
-      (λ o. rw (o.color, o.background, o.height, o.max-height, o.overflow, o.overflow-y, o.display, o.white-space, o.content))
+      by_kind (λ n. and (or (is n height_kind) (is n max_height_kind)) (is a (flag true)) ≡ zero_height (decl_of store n a b)) refl refl refl refl refl refl refl refl refl refl k
+      (λ o. rw (o.color, o.background, o.height, o.max-height, o.overflow, o.overflow-y, o.display, o.white-space, o.content, o.visibility))
 
   -- whether they hide what overflows
   hidden-own : (k a b : ℕ) → and (or (is k overflow_kind) (is k overflow_yKind)) (is a (overflow_number hidden)) ≡ hides_overflow (decl_of store k a b)
   unfolding hides_overflow decl_of pick and or is
   hidden-own k a b =
-      by_kind (λ n. and (or (is n overflow_kind) (is n overflow_yKind)) (is a (overflow_number hidden)) ≡ hides_overflow (decl_of store n a b)) refl refl refl refl (hides-number a) (hides-number a) refl refl refl k
-      (λ o. rw (o.color, o.background, o.height, o.max-height, o.overflow, o.overflow-y, o.display, o.white-space, o.content))
+      by_kind (λ n. and (or (is n overflow_kind) (is n overflow_yKind)) (is a (overflow_number hidden)) ≡ hides_overflow (decl_of store n a b)) refl refl refl refl (hides-number a) (hides-number a) refl refl refl refl k
+      (λ o. rw (o.color, o.background, o.height, o.max-height, o.overflow, o.overflow-y, o.display, o.white-space, o.content, o.visibility))
 
   -- ---- the first n declarations of a stream
 
@@ -266,6 +268,7 @@ own-or-zero i s (display true) = omega arith
 own-or-zero i s (display false) = omega arith
 own-or-zero i s (white_space w) = omega arith
 own-or-zero i s (content t) = omega arith
+own-or-zero i s (visibility z) = omega arith
 own-or-zero i s (unknown n) = omega arith
 
 -- one of two conditions counts for no more than both
@@ -315,6 +318,7 @@ NamelessDecl (overflow_y o) = Unit
 NamelessDecl (display n) = Unit
 NamelessDecl (white_space w) = Unit
 NamelessDecl (content t) = Unit
+NamelessDecl (visibility z) = Unit
 NamelessDecl (unknown n) = n ≡ []
 
 abbrev pub Nameless : List Declaration → Type 0
@@ -334,6 +338,7 @@ row-behind i s f (overflow_y o) t = refl
 row-behind i s f (display n) t = refl
 row-behind i s f (white_space w) t = refl
 row-behind i s f (content b) t = refl
+row-behind i s f (visibility z) t = refl
 row-behind i s f (unknown b) t = refl
 
 -- the row of a style alone
@@ -354,6 +359,7 @@ own-row i s f (display true) t = one-row _ f _ (rw (flag-back i))
 own-row i s f (display false) t = refl
 own-row i s f (white_space w) t = one-row _ f _ (rw (flag-back i))
 own-row i s f (content b) t = one-row _ f _ (rw (flag-back i))
+own-row i s f (visibility z) t = one-row _ f _ (rw (flag-back i))
 own-row i s f (unknown b) t = refl
 
 -- the text of a style is that of its declaration
@@ -369,6 +375,7 @@ own-text i s (display true) u = refl
 own-text i s (display false) u = refl
 own-text i s (white_space w) u = refl
 own-text i s (content b) u = append-nil b
+own-text i s (visibility z) u = refl
 own-text i s (unknown b) u = sym u
 
 -- whether it sets a height to zero
@@ -385,6 +392,7 @@ zero_row_lem i s f (overflow_y o) t = refl
 zero_row_lem i s f (display n) t = refl
 zero_row_lem i s f (white_space w) t = refl
 zero_row_lem i s f (content b) t = refl
+zero_row_lem i s f (visibility z) t = refl
 zero_row_lem i s f (unknown b) t = refl
 
 -- the third number of a declaration's row is the byte where it starts
@@ -399,6 +407,7 @@ start-row i s f (overflow_y o) t = refl
 start-row i s f (display n) t = refl
 start-row i s f (white_space w) t = refl
 start-row i s f (content b) t = refl
+start-row i s f (visibility z) t = refl
 start-row i s f (unknown b) t = refl
 
 -- the number of a word says whether it hides
@@ -421,6 +430,7 @@ hidden-row i s f (overflow_y o) t = hides-word o
 hidden-row i s f (display n) t = refl
 hidden-row i s f (white_space w) t = refl
 hidden-row i s f (content b) t = refl
+hidden-row i s f (visibility z) t = refl
 hidden-row i s f (unknown b) t = refl
 
 -- ---- declarations

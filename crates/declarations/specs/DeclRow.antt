@@ -2,8 +2,8 @@
 use Rattle.std.specs.Prelude.{ℕ, ◌+◌, ◌^◌, ◌≤◌, ◌<◌, Bool, List, [], ◌∷◌, length}
 use Rattle.combinators.specs.Choice.{pick}
 use Rattle.combinators.specs.Part.{part}
-use Rattle.syntax.specs.Declaration.{Decl, color, background_color, height, max_height, overflow, overflow_y, display, white_space, content, unknown}
-use Rattle.syntax.specs.Layout.{color_kind, background_color_kind, height_kind, max_height_kind, overflow_kind, overflow_yKind, display_kind, white_space_kind, content_kind, unknown_kind, flag, overflow_number, white_space_number}
+use Rattle.syntax.specs.Declaration.{Decl, color, background_color, height, max_height, overflow, overflow_y, display, white_space, content, visibility, unknown}
+use Rattle.syntax.specs.Layout.{color_kind, background_color_kind, height_kind, max_height_kind, overflow_kind, overflow_yKind, display_kind, white_space_kind, content_kind, visibility_kind, unknown_kind, flag, overflow_number, white_space_number}
 use Rattle.values.specs.DeclAnswer.{text_length}
 use Rattle.values.specs.KeywordAnswer.{overflow_meant, white_space_meant}
 use Rattle.values.specs.declared.properties.Decl as declared
@@ -20,6 +20,7 @@ named_decl names (overflow_y o) = overflow_y o
 named_decl names (display n) = display n
 named_decl names (white_space w) = white_space w
 named_decl names (content t) = content t
+named_decl names (visibility z) = visibility z
 named_decl names (unknown t) = unknown (pick names t [])
 
 unfoldable pub named_by : Bool → declared.Decl → declared.Decl
@@ -32,6 +33,7 @@ named_by names (code.OverflowY v) = code.OverflowY v
 named_by names (code.Display z) = code.Display z
 named_by names (code.WhiteSpace v) = code.WhiteSpace v
 named_by names (code.Content n) = code.Content n
+named_by names (code.Visibility z) = code.Visibility z
 named_by names (code.Unknown n) = code.Unknown (pick names n 0)
 
 -- ---- its text behind a name of n bytes at f: a content lies behind the name
@@ -45,6 +47,7 @@ shift (code.OverflowY v) n = 0
 shift (code.Display z) n = 0
 shift (code.WhiteSpace v) n = 0
 shift (code.Content m) n = n
+shift (code.Visibility z) n = 0
 shift (code.Unknown m) n = 0
 
 unfoldable pub kept_text : declared.Decl → List ℕ → ℕ → ℕ → List ℕ
@@ -69,6 +72,7 @@ kind_of (code.OverflowY v) = overflow_yKind
 kind_of (code.Display z) = display_kind
 kind_of (code.WhiteSpace v) = white_space_kind
 kind_of (code.Content n) = content_kind
+kind_of (code.Visibility z) = visibility_kind
 kind_of (code.Unknown n) = unknown_kind
 
 -- where the text starts, or the declaration's number: a content and an unknown declaration have a text
@@ -82,6 +86,7 @@ row_value f (code.OverflowY v) = overflow_number (overflow_meant v)
 row_value f (code.Display z) = flag z
 row_value f (code.WhiteSpace v) = white_space_number (white_space_meant v)
 row_value f (code.Content n) = f
+row_value f (code.Visibility z) = flag z
 row_value f (code.Unknown n) = f
 
 unfoldable pub row_by : ℕ → ℕ → ℕ → declared.Decl → List ℕ

@@ -4,7 +4,7 @@ use Rattle.std.specs.Simd.{first_chunks}
 use Rattle.std.proofs.lemmas.List.Edits.{sets}
 use Rattle.combinators.specs.Choice.{pick, or, and, is}
 use Rattle.syntax.specs.Declaration.{hidden}
-use Rattle.syntax.specs.Layout.{color_kind, background_color_kind, height_kind, max_height_kind, overflow_kind, overflow_yKind, display_kind, white_space_kind, content_kind, flag, flag_of, overflow_number, declaration_width, declaration_kind, declaration_important, declaration_start, declaration_value, declaration_second, colour_slot, background_slot, display_slot, white_space_slot, content_slot, style_width, value_numbers, row_of_numbers, declarations_at, styles_at}
+use Rattle.syntax.specs.Layout.{color_kind, background_color_kind, height_kind, max_height_kind, overflow_kind, overflow_yKind, display_kind, white_space_kind, content_kind, visibility_kind, flag, flag_of, overflow_number, declaration_width, declaration_kind, declaration_important, declaration_start, declaration_value, declaration_second, colour_slot, background_slot, display_slot, white_space_slot, content_slot, visibility_slot, style_width, value_numbers, row_of_numbers, declarations_at, styles_at}
 use Rattle.declarations.specs.Styles.{styles_of}
 use Rattle.syntax.specs.declared.styles.Value.{Value}
 use Rattle.syntax.specs.declared.styles.StyleNumbers.{StyleNumbers}
@@ -29,7 +29,8 @@ own_numbers k important v =
     (pick (is k background_color_kind) (style_for background_slot important v)
     (pick (is k display_kind) (pick (flag_of v.number) (style_for display_slot important (no_value v.start)) None)
     (pick (is k white_space_kind) (style_for white_space_slot important v)
-    (pick (is k content_kind) (style_for content_slot important v) None))))
+    (pick (is k content_kind) (style_for content_slot important v)
+    (pick (is k visibility_kind) (style_for visibility_slot important v) None)))))
 
 -- the value of the row at the start of a stream, and the style that it asks for
 unfoldable pub declared_value : List ℕ → Value

@@ -1,7 +1,7 @@
 -- Styles of declarations: `styles_from_properties` of src/css.rs.
 use Rattle.std.specs.Prelude.{Bool, true, false, List, [], ◌∷◌, ◌++◌, ◌≡◌, refl, ℕ}
 use Rattle.combinators.specs.Choice.{pick, or, and}
-use Rattle.syntax.specs.Declaration.{Overflow, visible, hidden, scroll, auto, Decl, color, background_color, height, max_height, overflow, overflow_y, display, white_space, content, unknown, Declaration}
+use Rattle.syntax.specs.Declaration.{Overflow, visible, hidden, scroll, auto, Decl, color, background_color, height, max_height, overflow, overflow_y, display, white_space, content, visibility, unknown, Declaration}
 use Rattle.syntax.specs.Style as style
 use Rattle.syntax.specs.Style.{Style, StyleDecl}
 
@@ -20,6 +20,7 @@ style_of i s (overflow_y o) = []
 style_of i s (display n) = pick n (one i s style.display_none) []
 style_of i s (white_space w) = one i s (style.white_space w)
 style_of i s (content t) = one i s (style.content t)
+style_of i s (visibility z) = one i s (style.visibility z)
 style_of i s (unknown n) = []
 
 unfoldable pub hides : Overflow → Bool
@@ -39,6 +40,7 @@ hides_overflow (overflow_y o) = hides o
 hides_overflow (display n) = false
 hides_overflow (white_space w) = false
 hides_overflow (content t) = false
+hides_overflow (visibility z) = false
 hides_overflow (unknown n) = false
 
 unfoldable pub zero_height : Decl → Bool
@@ -51,6 +53,7 @@ zero_height (overflow_y o) = false
 zero_height (display n) = false
 zero_height (white_space w) = false
 zero_height (content t) = false
+zero_height (visibility z) = false
 zero_height (unknown n) = false
 
 unfoldable pub any_decl : (Decl → Bool) → List Declaration → Bool

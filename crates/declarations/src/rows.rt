@@ -9,7 +9,7 @@ use crate::texts::move_down;
 use combinators::stores::{emit_all, fill_part};
 use syntax::rows::{
     BACKGROUND_COLOR, COLOR, CONTENT, DISPLAY, HEIGHT, MAX_HEIGHT, OVERFLOW, OVERFLOW_Y, UNKNOWN,
-    WHITE_SPACE, flag_of,
+    VISIBILITY, WHITE_SPACE, flag_of,
 };
 use values::properties::Decl;
 
@@ -63,6 +63,7 @@ fn kind_of(decl: Decl) -> u32
         Decl::Display(_) => DISPLAY,
         Decl::WhiteSpace(_) => WHITE_SPACE,
         Decl::Content(_) => CONTENT,
+        Decl::Visibility(_) => VISIBILITY,
         Decl::Unknown(_) => UNKNOWN,
     }
 }
@@ -79,6 +80,7 @@ fn value_of(decl: Decl, fill: usize) -> u32
         Decl::WhiteSpace(white_space) => u32::from(white_space),
         Decl::Height(zero) | Decl::MaxHeight(zero) => flag_of(zero),
         Decl::Display(none) => flag_of(none),
+        Decl::Visibility(hidden) => flag_of(hidden),
         Decl::Content(_) | Decl::Unknown(_) => fill as u32,
     }
 }

@@ -12,7 +12,8 @@ use syntax::rows::{
     BACKGROUND_COLOR, BACKGROUND_SLOT, COLOR, COLOUR_SLOT, CONTENT, CONTENT_SLOT,
     DECLARATION_IMPORTANT, DECLARATION_KIND, DECLARATION_SECOND, DECLARATION_START,
     DECLARATION_VALUE, DECLARATION_WIDTH, DISPLAY, DISPLAY_SLOT, FLAG_TRUE, HEIGHT, MAX_HEIGHT,
-    OVERFLOW, OVERFLOW_HIDDEN, OVERFLOW_Y, STYLE_WIDTH, WHITE_SPACE, WHITE_SPACE_SLOT,
+    OVERFLOW, OVERFLOW_HIDDEN, OVERFLOW_Y, STYLE_WIDTH, VISIBILITY, VISIBILITY_SLOT, WHITE_SPACE,
+    WHITE_SPACE_SLOT,
 };
 use syntax::styles::{StyleNumbers, Value};
 
@@ -48,6 +49,7 @@ fn own_style(kind: u32, important: bool, value: Value) -> Option<StyleNumbers>
         DISPLAY if value.number == FLAG_TRUE => (DISPLAY_SLOT, no_value(value.start)),
         WHITE_SPACE => (WHITE_SPACE_SLOT, value),
         CONTENT => (CONTENT_SLOT, value),
+        VISIBILITY => (VISIBILITY_SLOT, value),
         _ => return None,
     };
     Some(StyleNumbers {

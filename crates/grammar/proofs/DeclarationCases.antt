@@ -22,7 +22,7 @@ use Rattle.lexer.proofs.SyntaxString.{ordinary, plain}
 use Rattle.syntax.specs.Declaration as syntax
 use Rattle.syntax.specs.Selector as pseudo
 use Rattle.values.specs.Colour.{rgb, numeral, all_of}
-use Rattle.values.specs.Property.{unsigned_zero, number_zero, any_of, height_of, first_word, overflow_of, display_of, white_space_of, decl_of}
+use Rattle.values.specs.Property.{unsigned_zero, number_zero, any_of, height_of, first_word, overflow_of, display_of, white_space_of, visibility_of, decl_of}
 use Rattle.values.specs.Words.{kind_of, number_of, unit_of, is_kind, lookup, on_found}
 use Rattle.selectors.specs.Selector.{pseudo_of}
 use Rattle.grammar.specs.Nth.{unsigned, plus, minus, written_sign, negative, worth}
@@ -146,13 +146,14 @@ unfolding group spelt written_group written_chosen written_pseudo written writte
 test-group = (refl, refl)
 
 -- ---- what the grammar leaves out, since the engine takes it otherwise than the documents
--- `display:inherit`, `display:x`, `white-space:inherit` are other than none, and normal; `overflow:inherit`, `overflow-y:clip` are unknown
+-- `display:inherit`, `display:x`, `white-space:inherit` are other than none, and normal; `overflow:inherit`, `overflow-y:clip`, `visibility:collapse` are unknown
 test-keywords : (decl_of (text "display") (tokens.ident (text "inherit") ∷ []) ≡ syntax.display false) × (decl_of (text "display") (tokens.ident (text "x") ∷ []) ≡ syntax.display false)
     × (decl_of (text "white-space") (tokens.ident (text "inherit") ∷ []) ≡ syntax.white_space syntax.normal)
     × (decl_of (text "overflow") (tokens.ident (text "inherit") ∷ []) ≡ syntax.unknown (text "overflow"))
     × (decl_of (text "overflow-y") (tokens.ident (text "clip") ∷ []) ≡ syntax.unknown (text "overflow-y"))
-unfolding decl_of display_of white_space_of overflow_of first_word lookup on_found is_kind kind_of text_of same_text text utf8 continuation pick and is
-test-keywords = (refl, refl, refl, refl, refl)
+    × (decl_of (text "visibility") (tokens.ident (text "collapse") ∷ []) ≡ syntax.unknown (text "visibility"))
+unfolding decl_of display_of white_space_of overflow_of visibility_of first_word lookup on_found is_kind kind_of text_of same_text text utf8 continuation pick and is
+test-keywords = (refl, refl, refl, refl, refl, refl)
 
 -- a full stop, 45 zeros and `7px` is a height of zero, one zero less is not
 test-finest : (decl_of (text "height") (tokens.dimension (ascii.full_stop ∷ (replicate 45 ascii.digit_zero ++ text "7")) (text "px") ∷ []) ≡ syntax.height true)

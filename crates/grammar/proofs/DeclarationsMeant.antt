@@ -21,13 +21,13 @@ use Rattle.syntax.specs.Declaration as syntax
 use Rattle.syntax.specs.Declaration.{Colour, Overflow, WhiteSpace}
 use Rattle.values.specs.Words.{Entry, Found, found, missing, lookup, on_found, kind_of, number_of, unit_of, is_kind}
 use Rattle.values.specs.Colour.{rgb, colours, all_of, one_token, colour_of, hash_colour, behind_comma, background_of}
-use Rattle.values.specs.Property.{number_zero, units, any_of, height_of, first_word, overflow_of, display_of, white_space_of, content_of, properties, decl_of}
+use Rattle.values.specs.Property.{number_zero, units, any_of, height_of, first_word, overflow_of, display_of, white_space_of, content_of, visibility_of, properties, decl_of}
 use Rattle.values.proofs.CssColour.{six-digits, replicated, functional}
 use Rattle.grammar.specs.Nth.{Blanks}
 use Rattle.grammar.specs.Selectors.{Quoted}
 use Rattle.grammar.specs.Tokens.{Numeral, Ident, folded, Atom, word, string, number, dimension, comma, written_atom, means_atom, means_opening, means_closer, means_numeral, ends_name, begins_name, may_follow, MayFollow}
 use Rattle.grammar.specs.Values.{Values, end, then, block, means_values, Follows, Apart, is_semicolon, is_bang, is_brace, Outermost, Unmarked, Some, DeclarationValue}
-use Rattle.grammar.specs.Declarations.{Keyword, colour_names, Shade, named, three, six, ColourValue, shade, parts, length_units, is_zero, Length, measured, bare, overflow_words, display_words, white_space_words, Strings, last, more, Known, color, background_color, background, height, max_height, overflow, overflow_y, display, white_space, content, known_names, known_name, alone, shade_values, part_values, colour_values, length_values, string_values, known_values, pair, means_shade, means_colour, means_length, means_strings, means_known}
+use Rattle.grammar.specs.Declarations.{Keyword, colour_names, Shade, named, three, six, ColourValue, shade, parts, length_units, is_zero, Length, measured, bare, overflow_words, display_words, white_space_words, visibility_words, Strings, last, more, Known, color, background_color, background, height, max_height, overflow, overflow_y, display, white_space, content, visibility, known_names, known_name, alone, shade_values, part_values, colour_values, length_values, string_values, known_values, pair, means_shade, means_colour, means_length, means_strings, means_known}
 use Rattle.grammar.proofs.Places.{Unblank, blank-first}
 use Rattle.grammar.proofs.NumbersMeant.{part-integer, numeral-zero}
 
@@ -241,6 +241,14 @@ white-space-meant k =
     rows : All (λ (e : Entry WhiteSpace). white_space_of (ident e.word ∷ []) ≡ e.means) white_space_words
     rows = unfold white_space_of first_word lookup on_found is_kind kind_of text_of same_text text utf8 continuation pick and is in (refl, (refl, (refl, tt)))
 
+-- each word of `visibility` is read as hidden or not, as the table says
+visibility-meant : (k : Keyword visibility_words) → visibility_of (ident (folded k.name) ∷ []) ≡ found k.means
+visibility-meant k =
+    row-holds (λ (w : List ℕ) (a : Bool). visibility_of (ident w ∷ []) ≡ found a) (folded k.name) k.means visibility_words rows k.listed
+  where
+    rows : All (λ (e : Entry Bool). visibility_of (ident e.word ∷ []) ≡ found e.means) visibility_words
+    rows = unfold visibility_of first_word lookup on_found is_kind kind_of text_of same_text text utf8 continuation pick and is in (refl, (refl, tt))
+
 -- ---- strings
 -- a string and what stands behind it
 string-content : (t : List ℕ) (ks : List Token) (r : List ℕ) → content_of ks ≡ found r → content_of (tokens.string t ∷ ks) ≡ found (t ++ r)
@@ -267,6 +275,7 @@ known-meant b (overflow_y k) = unfold means_values means_atom in rw (overflow-me
 known-meant b (display k) = unfold means_values means_atom in rw (display-meant k)
 known-meant b (white_space k) = unfold means_values means_atom in rw (white-space-meant k)
 known-meant b (content s) = rw (strings-meant b s)
+known-meant b (visibility k) = unfold means_values means_atom in rw (visibility-meant k)
 
 -- any other is unknown, whatever its value
 pub other-meant : (w : List ℕ) (ks : List Token) → any_of w known_names ≡ false → decl_of w ks ≡ syntax.unknown w
@@ -362,3 +371,4 @@ known-value b (overflow_y k) = word_value b k.name
 known-value b (display k) = word_value b k.name
 known-value b (white_space k) = word_value b k.name
 known-value b (content s) = strings-value b s
+known-value b (visibility k) = word_value b k.name

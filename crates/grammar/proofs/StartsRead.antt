@@ -18,7 +18,7 @@ use Rattle.combinators.proofs.Rules.{never, pick-holds, lt-or-ge, and-true}
 use Rattle.lexer.specs.Name.{name_of, ident_of}
 use Rattle.lexer.specs.Whitespace.{whitespace_item, skip_whitespace}
 use Rattle.lexer.proofs.TokenBounds.{on-holds}
-use Rattle.syntax.specs.Declaration.{Decl, color, background_color, height, max_height, overflow, overflow_y, display, white_space, content, unknown, Declaration}
+use Rattle.syntax.specs.Declaration.{Decl, color, background_color, height, max_height, overflow, overflow_y, display, white_space, content, visibility, unknown, Declaration}
 use Rattle.syntax.specs.Selector.{RuleSet}
 use Rattle.syntax.specs.Style.{StyleDecl, display_none}
 use Rattle.values.specs.Property.{decl_of}
@@ -331,6 +331,7 @@ module _ (P : Declaration → Type 0) where
       by (display false) e = tt
       by (white_space k) e = asked _ e _ refl refl
       by (content t) e = asked _ e _ refl refl
+      by (visibility k) e = asked _ e _ refl refl
       by (unknown n) e = tt
 
   -- those of declarations

@@ -130,6 +130,10 @@ abbrev pub white_space_words : List (Entry WhiteSpace)
 white_space_words =
     record { word = text "normal"; means = syntax.normal } ∷ record { word = text "pre"; means = syntax.pre } ∷ record { word = text "pre-wrap"; means = syntax.pre_wrap } ∷ []
 
+-- 11.2, by whether it is `hidden`; without `collapse`, which the engine does not know (S-9)
+abbrev pub visibility_words : List (Entry Bool)
+visibility_words = record { word = text "visible"; means = false } ∷ record { word = text "hidden"; means = true } ∷ []
+
 -- strings one behind the other, with white space or none between them (12.2, of <string>+)
 pub data Strings : Type 0 where
   last : Quoted → Strings
@@ -137,7 +141,7 @@ pub data Strings : Type 0 where
 
 -- ---- declarations
 -- the properties that the engine knows: 14.1, 14.2.1 (of `background` a colour alone; in rgb() the reader looks behind the last comma), 10.5, 10.7,
--- 11.1.1, CSS Overflow Level 3 section 3.1 (`overflow-y`, without `clip`), 9.2.4, 16.6, 12.2
+-- 11.1.1, CSS Overflow Level 3 section 3.1 (`overflow-y`, without `clip`), 9.2.4, 16.6, 12.2, 11.2
 pub data Known : Type 0 where
   color : ColourValue → Known
   background_color : ColourValue → Known
@@ -149,6 +153,7 @@ pub data Known : Type 0 where
   display : Keyword display_words → Known
   white_space : Keyword white_space_words → Known
   content : Strings → Known
+  visibility : Keyword visibility_words → Known
 
 -- their names
 unfoldable pub known_name : Known → List ℕ
@@ -162,11 +167,12 @@ known_name (overflow_y k) = text "overflow-y"
 known_name (display k) = text "display"
 known_name (white_space k) = text "white-space"
 known_name (content s) = text "content"
+known_name (visibility k) = text "visibility"
 
 abbrev pub known_names : List (List ℕ)
 known_names =
     text "background-color" ∷ text "background" ∷ text "color" ∷ text "height" ∷ text "max-height" ∷ text "overflow" ∷ text "overflow-y" ∷ text "display"
-    ∷ text "white-space" ∷ text "content" ∷ []
+    ∷ text "white-space" ∷ text "content" ∷ text "visibility" ∷ []
 
 -- a property and its value, with white space or none before it
 pub data Declared : Type 0 where
@@ -224,6 +230,7 @@ known_values b (overflow_y k) = alone b (word k.name)
 known_values b (display k) = alone b (word k.name)
 known_values b (white_space k) = alone b (word k.name)
 known_values b (content s) = string_values b s
+known_values b (visibility k) = alone b (word k.name)
 
 unfoldable pub written_value : Declared → List ℕ
 written_value (known n b k h) = written_values (known_values b k)
@@ -265,6 +272,7 @@ means_known (overflow_y k) = syntax.overflow_y k.means
 means_known (display k) = syntax.display k.means
 means_known (white_space k) = syntax.white_space k.means
 means_known (content s) = syntax.content (means_strings s)
+means_known (visibility k) = syntax.visibility k.means
 
 -- of any other property the engine keeps its name
 unfoldable pub means_declared : Declared → Decl

@@ -73,7 +73,7 @@ module _ (text : List ℕ) where
     written-rest = ap (λ (r : Read (List RuleSet)). r.rest) (rules-read text rs f t u h)
 
     -- room to keep them, in a store that is zero from a place on
-    pub written-room : (tokens : List ℕ) (place : ℕ) → Zeros tokens place → place + length (rule_rows f rs) + kept_head + kept_width + style_width ≤ length tokens
+    pub written-room : (tokens : List ℕ) (place : ℕ) → Zeros tokens place → place + length (rule_rows f rs) + kept_head + kept_width + style_width ≤ length tokens + rule_head
         → RulesKeptRoom text (length rs) (rule_rows f rs ++ t) tokens place
     written-room tokens place z k =
         record { lie = each-lies rs f t u h; room = omega (arith, k, length-append (rule_rows f rs) t, ap length written-rest); zeros = z }

@@ -8,7 +8,7 @@ use lib.ListN.{length, drop, length-append, length-drop}
 use lib.Seq.{sets}
 use Rattle.combinators.specs.Choice.{pick, and}
 use Rattle.combinators.specs.Store.{Zeros}
-use Rattle.syntax.specs.Declaration.{Decl, color, background_color, height, max_height, overflow, overflow_y, display, white_space, content, unknown, Declaration}
+use Rattle.syntax.specs.Declaration.{Decl, color, background_color, height, max_height, overflow, overflow_y, display, white_space, content, visibility, unknown, Declaration}
 use Rattle.syntax.specs.Layout.{decl_text, declaration_text, declaration_texts, style_text_of, style_text, style_texts}
 use Rattle.syntax.specs.RuleLayout.{read_rule, selector_texts, rule_text, rule_rows, rule_texts}
 use Rattle.syntax.specs.Selector.{RuleSet}
@@ -40,6 +40,7 @@ own-short i s (display true) = omega arith
 own-short i s (display false) = omega arith
 own-short i s (white_space w) = omega arith
 own-short i s (content b) = omega (arith, length-append b [])
+own-short i s (visibility z) = omega arith
 own-short i s (unknown b) = omega arith
 
 -- the texts of two lists of styles are as long as those of each together

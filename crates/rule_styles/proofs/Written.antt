@@ -7,7 +7,7 @@ use native.Mathlib.Nat.{add-zero}
 use native.Mathlib.Omega.{arith}
 use lib.ListN.{length, get_or, length-append}
 use Rattle.combinators.specs.Choice.{pick, and, is}
-use Rattle.syntax.specs.Declaration.{Decl, color, background_color, height, max_height, overflow, overflow_y, display, white_space, content, unknown, Declaration}
+use Rattle.syntax.specs.Declaration.{Decl, color, background_color, height, max_height, overflow, overflow_y, display, white_space, content, visibility, unknown, Declaration}
 use Rattle.syntax.specs.Layout.{flag, decl_text, declaration_text, decl_row, declaration_row, declaration_rows, declaration_texts, style_width, style_text_of, style_text, style_slot_of, number_from, value_from, numbers_from, row_of_numbers, style_row, style_texts}
 use Rattle.syntax.specs.RuleLayout.{rule_declarations, read_selector, selector_rows, selector_texts, rule_text, rule_row, rule_rows, rule_texts}
 use Rattle.syntax.specs.Selector.{RuleSet}
@@ -88,6 +88,7 @@ own-rows-one h i s (display true) = refl
 own-rows-one h i s (display false) = refl
 own-rows-one h i s (white_space w) = refl
 own-rows-one h i s (content b) = refl
+own-rows-one h i s (visibility z) = refl
 own-rows-one h i s (unknown b) = refl
 
 module _ (t : List ℕ) where
@@ -104,6 +105,7 @@ module _ (t : List ℕ) where
   own-content h i s (display false) k = refl
   own-content h i s (white_space w) k = refl
   own-content h i s (content b) k = ap (λ (l : List ℕ). l ++ []) (held-part t h b k)
+  own-content h i s (visibility z) k = refl
   own-content h i s (unknown b) k = refl
 
   -- the style of a declaration, placed, is the placed style that it asks for
@@ -119,6 +121,7 @@ module _ (t : List ℕ) where
   own-placed h f i s (display false) k = refl
   own-placed h f i s (white_space w) k = refl
   own-placed h f i s (content b) k = rw (held-part t h b k)
+  own-placed h f i s (visibility z) k = refl
   own-placed h f i s (unknown b) k = refl
 
 -- ---- declarations, whose texts lie end to end from h on

@@ -44,9 +44,9 @@ unfoldable pub EachLies : List ℕ → ℕ → List ℕ → Type 0
 EachLies text zero t = Unit
 EachLies text (suc n) t = RuleLies text t × EachLies text n (read_rule text t).rest
 
--- they are there, and the store is zero from a place on, with room for as many numbers as they take and for what is made behind those: what is kept of a rule
--- takes no more numbers than the rule
+-- they are there, and the store is zero from a place on, with room for as many numbers as they take and for what is made behind those, but for the head of a rule: what is
+-- kept of a rule takes no more numbers than the rule, and what is made of one takes the place of its head too
 pub record RulesKeptRoom (text : List ℕ) (n : ℕ) (t tokens : List ℕ) (place : ℕ) : Type 0 where
   pub lie : EachLies text n t
-  pub room : place + kept_head + kept_width + style_width + length t ≤ length tokens + length (read_many (read_rule text) n t).rest
+  pub room : place + kept_head + kept_width + style_width + length t ≤ length tokens + rule_head + length (read_many (read_rule text) n t).rest
   pub zeros : Zeros tokens place

@@ -10,7 +10,7 @@ use Rattle.page.specs.Lent.{Page}
 abbrev pub run_text_bytes : Page → ℕ
 run_text_bytes g = length g.text + 2 * attribute_rows g.attributes
 
--- "A run over c compiled bytes needs 65 × (c+1) bytes of state" and the numbers of a style row for each node (S-3: "so a style row has 153, and least lengths follow")
+-- "A run over c compiled bytes needs 65 × (c+1) bytes of state" and the numbers of a style row for each node (S-9: "A style row now has 183 numbers, and least lengths follow.")
 abbrev pub state_least : List ℕ → ℕ
 state_least code = depths * part_width code
 
@@ -25,5 +25,5 @@ pub record RunLent (code : List ℕ) (g : Page) (rows state : List ℕ) : Type 0
 -- 15 compiled bytes; two nodes, an attribute and half of one, 3 bytes of text
 test-lengths :
     let g : Page = record { nodes = replicate (2 * node_width) 0; attributes = replicate (attribute_width + 2) 0; text = replicate 3 0 } in
-    (state_least (replicate 15 0) ≡ 65 * 16) × (rows_least g ≡ 2 * 153) × (text_least (run_text_bytes g) ≡ 2 * (3 + 2) + 12)
+    (state_least (replicate 15 0) ≡ 65 * 16) × (rows_least g ≡ 2 * 183) × (text_least (run_text_bytes g) ≡ 2 * (3 + 2) + 12)
 test-lengths = (refl, refl, refl)

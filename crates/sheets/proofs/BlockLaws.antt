@@ -12,7 +12,7 @@ use Rattle.combinators.specs.Choice.{pick, is}
 use Rattle.combinators.specs.Store.{wiped}
 use Rattle.combinators.proofs.Lists.{rest, byte-there}
 use Rattle.lexer.specs.Whitespace.{skip_whitespace}
-use Rattle.syntax.specs.Declaration.{Decl, color, background_color, height, max_height, overflow, overflow_y, display, white_space, content, unknown, Declaration}
+use Rattle.syntax.specs.Declaration.{Decl, color, background_color, height, max_height, overflow, overflow_y, display, white_space, content, visibility, unknown, Declaration}
 use Rattle.syntax.specs.Layout.{declaration_width, declaration_rows, declaration_texts}
 use Rattle.syntax.proofs.RowSizes.{length-declarations}
 use Rattle.declarations.specs.DeclRow.{named_decl}
@@ -74,6 +74,7 @@ named-same (overflow_y o) = refl
 named-same (display n) = refl
 named-same (white_space w) = refl
 named-same (content t) = refl
+named-same (visibility z) = refl
 named-same (unknown t) = refl
 
 -- what is kept of declarations of a text at d, itself at `at`

@@ -8,7 +8,8 @@ use syntax::rows::{
     BACKGROUND_COLOR, COLOR, CONTENT, DECLARATION_IMPORTANT, DECLARATION_KIND, DECLARATION_SECOND,
     DECLARATION_START, DECLARATION_VALUE, DECLARATION_WIDTH, DISPLAY, FLAG_TRUE, HEIGHT,
     MAX_HEIGHT, OVERFLOW, OVERFLOW_AUTO, OVERFLOW_HIDDEN, OVERFLOW_SCROLL, OVERFLOW_VISIBLE,
-    OVERFLOW_Y, UNKNOWN, WHITE_SPACE, WHITE_SPACE_NORMAL, WHITE_SPACE_PRE, WHITE_SPACE_PRE_WRAP,
+    OVERFLOW_Y, UNKNOWN, VISIBILITY, WHITE_SPACE, WHITE_SPACE_NORMAL, WHITE_SPACE_PRE,
+    WHITE_SPACE_PRE_WRAP,
 };
 
 /// A declaration, whose row has its texts in a store.
@@ -33,13 +34,14 @@ impl fmt::Display for Declaration<'_> {
         match self.row[DECLARATION_KIND] {
             COLOR => write!(f, "color: {}", Colour(value)),
             BACKGROUND_COLOR => write!(f, "background-color: {}", Colour(value)),
-            HEIGHT => write!(f, "height: {}", flag_word(value, "zero")),
-            MAX_HEIGHT => write!(f, "max-height: {}", flag_word(value, "zero")),
+            HEIGHT => write!(f, "height: {}", flag_word(value, "zero", "other")),
+            MAX_HEIGHT => write!(f, "max-height: {}", flag_word(value, "zero", "other")),
             OVERFLOW => write!(f, "overflow: {}", overflow_word(value)),
             OVERFLOW_Y => write!(f, "overflow-y: {}", overflow_word(value)),
-            DISPLAY => write!(f, "display: {}", flag_word(value, "none")),
+            DISPLAY => write!(f, "display: {}", flag_word(value, "none", "other")),
             WHITE_SPACE => write!(f, "white-space: {}", white_space_word(value)),
             CONTENT => write!(f, "content: {}", Quoted(text)),
+            VISIBILITY => write!(f, "visibility: {}", flag_word(value, "hidden", "visible")),
             UNKNOWN => write!(f, "unknown: {}", Name(text)),
             _ => Ok(()),
         }?;
@@ -50,9 +52,9 @@ impl fmt::Display for Declaration<'_> {
     }
 }
 
-// The word for a flag that is set.
-fn flag_word<'a>(flag: u32, word: &'a str) -> &'a str {
-    if flag == FLAG_TRUE { word } else { "other" }
+// The word for a flag that is set, or the one for a flag that is not.
+fn flag_word<'a>(flag: u32, set: &'a str, unset: &'a str) -> &'a str {
+    if flag == FLAG_TRUE { set } else { unset }
 }
 
 fn overflow_word(value: u32) -> &'static str {

@@ -83,6 +83,7 @@ module _ (t : List ℕ) where
   number-says f b style.display_none h = record { number = refl; second = refl }
   number-says f b (style.white_space w) h = record { number = refl; second = refl }
   number-says f b (style.content x) h = let l = h x refl in record { long = refl; within = l.within; named = held-part t f x l.there }
+  number-says f b (style.visibility z) h = record { number = refl; second = refl }
 
   -- the value of a style in numbers says the style, where the text of a content lies at f
   pub value-says : (f : ℕ) (v : StyleValue) → ((x : List ℕ) → v.style ≡ style.content x → Lies t f x) → Says t (value_from f v) v

@@ -9,7 +9,7 @@ use lib.Seq.{sets}
 use mir.Val.{bool_byte}
 use Rattle.combinators.specs.Choice.{pick, is}
 use Rattle.combinators.specs.All.{All}
-use Rattle.syntax.specs.Declaration.{Colour, Overflow, visible, hidden, scroll, auto, WhiteSpace, normal, pre, pre_wrap, Decl, color, background_color, height, max_height, overflow, overflow_y, display, white_space, content, unknown, Declaration}
+use Rattle.syntax.specs.Declaration.{Colour, Overflow, visible, hidden, scroll, auto, WhiteSpace, normal, pre, pre_wrap, Decl, color, background_color, height, max_height, overflow, overflow_y, display, white_space, content, visibility, unknown, Declaration}
 use Rattle.syntax.specs.Layout.{flag, flag_of, overflow_number, overflow_of, white_space_number, white_space_of, colour_number, colour_of, decl_text, declaration_text, decl_row, declaration_row, decl_of, read_declaration, declaration_rows, declaration_texts, declarations_at, style_width, style_text_of, style_text, style_slot_of, number_from, value_from, numbers_from, value_numbers, row_of_numbers, style_row, numbers_at, style_of, value_in, style_in, read_style, style_rows, style_texts, styles_at}
 use Rattle.syntax.specs.declared.styles.StyleNumbers.{StyleNumbers}
 use Rattle.syntax.specs.Stream.{Read, read_many, texts_many}
@@ -73,6 +73,7 @@ DeclFits (overflow_y o) = Unit
 DeclFits (display n) = Unit
 DeclFits (white_space w) = Unit
 DeclFits (content t) = Unit
+DeclFits (visibility h) = Unit
 DeclFits (unknown n) = Unit
 
 unfoldable pub StyleFits : Style → Type 0
@@ -81,6 +82,7 @@ StyleFits (style.background c) = OfBytes c
 StyleFits style.display_none = Unit
 StyleFits (style.white_space w) = Unit
 StyleFits (style.content t) = Unit
+StyleFits (style.visibility h) = Unit
 
 abbrev pub DeclarationsFit : List Declaration → Type 0
 DeclarationsFit ds = All (λ d. DeclFits d.decl) ds
@@ -113,6 +115,7 @@ module _ (store : List ℕ) where
   decl-back i s f (display n) t u h = rw (flag-back n)
   decl-back i s f (white_space w) t u h = rw (white-space-back w)
   decl-back i s f (content b) t u h = rw (held-part store f b h)
+  decl-back i s f (visibility z) t u h = rw (flag-back z)
   decl-back i s f (unknown b) t u h = rw (held-part store f b h)
 
   -- a declaration that was written is read back from its row, and what stands behind it is left
@@ -145,6 +148,7 @@ module _ (store : List ℕ) where
   style-of-back f s style.display_none u h = refl
   style-of-back f s (style.white_space w) u h = rw (white-space-back w)
   style-of-back f s (style.content b) u h = rw (held-part store f b h)
+  style-of-back f s (style.visibility z) u h = rw (flag-back z)
 
   -- and with its start as what it gives its slot
   value-back : (f : ℕ) (v : StyleValue) → StyleFits v.style → Held store f (style_text_of v.style) → value_in store (style_slot_of v.style) (value_from f v) ≡ v

@@ -5,7 +5,7 @@ use Prim.Native.Nat.{ℕ, ◌+◌, ◌*◌}
 use native.Mathlib.Nat.{mul-zero, mul-suc}
 use native.Mathlib.Omega.{arith}
 use lib.ListN.{length, length-append, length-reverse}
-use Rattle.syntax.specs.Declaration.{Decl, color, background_color, height, max_height, overflow, overflow_y, display, white_space, content, unknown, Declaration}
+use Rattle.syntax.specs.Declaration.{Decl, color, background_color, height, max_height, overflow, overflow_y, display, white_space, content, visibility, unknown, Declaration}
 use Rattle.syntax.specs.Layout.{declaration_width, decl_row, declaration_row, declaration_text, declaration_rows, style_width, style_text, numbers_from, value_numbers, row_of_numbers, style_row, style_rows}
 use Rattle.syntax.specs.declared.styles.StyleNumbers.{StyleNumbers}
 use Rattle.syntax.specs.RuleLayout.{component_width, component_row, component_text, component_rows, selector_row, selector_text, selector_rows, selector_texts, rule_row, rule_text, rule_rows}
@@ -43,6 +43,7 @@ length-decl i s f (overflow_y o) = refl
 length-decl i s f (display n) = refl
 length-decl i s f (white_space w) = refl
 length-decl i s f (content t) = refl
+length-decl i s f (visibility h) = refl
 length-decl i s f (unknown t) = refl
 
 -- the row of a declaration

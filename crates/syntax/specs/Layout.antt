@@ -3,7 +3,7 @@
 use Rattle.std.specs.Prelude.{ℕ, ◌+◌, ◌*◌, ◌/◌, ◌%◌, Bool, true, false, List, [], ◌∷◌, length, get_or, drop}
 use Rattle.combinators.specs.Choice.{pick, is}
 use Rattle.combinators.specs.Part.{part}
-use Rattle.syntax.specs.Declaration.{Colour, Overflow, visible, hidden, scroll, auto, WhiteSpace, normal, pre, pre_wrap, Decl, color, background_color, height, max_height, overflow, overflow_y, display, white_space, content, unknown, Declaration}
+use Rattle.syntax.specs.Declaration.{Colour, Overflow, visible, hidden, scroll, auto, WhiteSpace, normal, pre, pre_wrap, Decl, color, background_color, height, max_height, overflow, overflow_y, display, white_space, content, visibility, unknown, Declaration}
 use Rattle.syntax.specs.Stream.{Read, read_many, texts_many, rows_many}
 use Rattle.syntax.specs.Style as style
 use Rattle.syntax.specs.Style.{Style, StyleValue, StyleDecl}
@@ -40,6 +40,9 @@ content_kind = 9
 
 abbrev pub unknown_kind : ℕ
 unknown_kind = 10
+
+abbrev pub visibility_kind : ℕ
+visibility_kind = 11
 
 -- ---- flags and words
 unfoldable pub flag : Bool → ℕ
@@ -104,6 +107,7 @@ decl_text (overflow_y o) = []
 decl_text (display n) = []
 decl_text (white_space w) = []
 decl_text (content t) = t
+decl_text (visibility h) = []
 decl_text (unknown t) = t
 
 unfoldable pub declaration_text : Declaration → List ℕ
@@ -120,6 +124,7 @@ decl_row i s f (overflow_y o) = overflow_yKind ∷ i ∷ s ∷ overflow_number o
 decl_row i s f (display n) = display_kind ∷ i ∷ s ∷ flag n ∷ 0 ∷ []
 decl_row i s f (white_space w) = white_space_kind ∷ i ∷ s ∷ white_space_number w ∷ 0 ∷ []
 decl_row i s f (content t) = content_kind ∷ i ∷ s ∷ f ∷ length t ∷ []
+decl_row i s f (visibility h) = visibility_kind ∷ i ∷ s ∷ flag h ∷ 0 ∷ []
 decl_row i s f (unknown t) = unknown_kind ∷ i ∷ s ∷ f ∷ length t ∷ []
 
 unfoldable pub declaration_row : ℕ → Declaration → List ℕ
@@ -137,7 +142,8 @@ decl_of store k a b =
     (pick (is k display_kind) (display (flag_of a))
     (pick (is k white_space_kind) (white_space (white_space_of a))
     (pick (is k content_kind) (content (part store a b))
-    (unknown (part store a b))))))))))
+    (pick (is k visibility_kind) (visibility (flag_of a))
+    (unknown (part store a b)))))))))))
 
 unfoldable pub read_declaration : List ℕ → List ℕ → Read Declaration
 read_declaration store t =
@@ -177,8 +183,11 @@ white_space_slot = 3
 abbrev pub content_slot : ℕ
 content_slot = 4
 
+abbrev pub visibility_slot : ℕ
+visibility_slot = 5
+
 abbrev pub last_slot : ℕ
-last_slot = content_slot
+last_slot = visibility_slot
 
 abbrev pub style_width : ℕ
 style_width = 5
@@ -204,6 +213,7 @@ style_text_of (style.background c) = []
 style_text_of style.display_none = []
 style_text_of (style.white_space w) = []
 style_text_of (style.content t) = t
+style_text_of (style.visibility h) = []
 
 unfoldable pub style_text : StyleDecl → List ℕ
 style_text d = style_text_of d.value.style
@@ -215,6 +225,7 @@ style_slot_of (style.background c) = background_slot
 style_slot_of style.display_none = display_slot
 style_slot_of (style.white_space w) = white_space_slot
 style_slot_of (style.content t) = content_slot
+style_slot_of (style.visibility h) = visibility_slot
 
 -- the number that a style gives its slot: of a content where its text starts, which is f
 unfoldable pub number_from : ℕ → Style → ℕ
@@ -223,6 +234,7 @@ number_from f (style.background c) = colour_number c
 number_from f style.display_none = 0
 number_from f (style.white_space w) = white_space_number w
 number_from f (style.content t) = f
+number_from f (style.visibility h) = flag h
 
 -- what a style gives its slot: its number, how long its text is, and where its declaration starts
 unfoldable pub value_from : ℕ → StyleValue → Value
@@ -259,7 +271,8 @@ style_of store k v =
     (pick (is k background_slot) (style.background (colour_of v.number))
     (pick (is k display_slot) style.display_none
     (pick (is k white_space_slot) (style.white_space (white_space_of v.number))
-    (style.content (part store v.number v.second)))))
+    (pick (is k content_slot) (style.content (part store v.number v.second))
+    (style.visibility (flag_of v.number))))))
 
 -- what a value says, by its slot, with the start that it carries
 unfoldable pub value_in : List ℕ → ℕ → Value → StyleValue

@@ -8,6 +8,8 @@ pub data Style : Type 0 where
   display_none : Style
   white_space : WhiteSpace → Style
   content : List ℕ → Style
+  -- whether it is hidden. S-9: "`visibility` with `visible` or `hidden` becomes a sixth slot"
+  visibility : Bool → Style
 
 -- where a sheet is from (`StyleOrigin` of src/lib.rs), by the numbers of the compiled sheet
 abbrev pub agent_origin : ℕ

@@ -37,7 +37,9 @@ pub const CONTENT: u32 = 9;
 
 pub const UNKNOWN: u32 = 10;
 
-// Flags: whether something is important, whether a height is zero, whether a display is none.
+pub const VISIBILITY: u32 = 11;
+
+// Flags: whether something is important, whether a height is zero, whether a display is none, whether an element is hidden.
 pub const FLAG_FALSE: u32 = 0;
 
 pub const FLAG_TRUE: u32 = 1;
@@ -89,7 +91,9 @@ pub const WHITE_SPACE_SLOT: u32 = 3;
 
 pub const CONTENT_SLOT: u32 = 4;
 
-pub const LAST_SLOT: u32 = CONTENT_SLOT;
+pub const VISIBILITY_SLOT: u32 = 5;
+
+pub const LAST_SLOT: u32 = VISIBILITY_SLOT;
 
 // Where a sheet is from, by the numbers of the compiled sheet.
 pub const AGENT_ORIGIN: u32 = 1;

@@ -7,14 +7,14 @@ use lib.ListN.{length}
 use Rattle.combinators.proofs.Rules.{pick-holds}
 use Rattle.lexer.specs.Token.{Token, text_of}
 use Rattle.lexer.specs.TokenRow.{string_kind}
-use Rattle.syntax.specs.Declaration.{Decl, color, background_color, height, max_height, overflow, overflow_y, display, white_space, content, unknown}
+use Rattle.syntax.specs.Declaration.{Decl, color, background_color, height, max_height, overflow, overflow_y, display, white_space, content, visibility, unknown}
 use Rattle.syntax.specs.Layout.{colour_number, decl_text}
 use Rattle.syntax.specs.Stream.{texts_many}
 use Rattle.syntax.proofs.Back.{DeclFits}
 use Rattle.values.specs.Words.{Entry, Found, found, missing, lookup, on_found, row_at, is_kind}
 use Rattle.values.specs.Colour.{colour_of, background_of}
 use Rattle.values.specs.ColourAnswer.{colour_answer}
-use Rattle.values.specs.Property.{height_of, overflow_of, display_of, white_space_of, content_of, properties, decl_of}
+use Rattle.values.specs.Property.{height_of, overflow_of, display_of, white_space_of, content_of, visibility_of, properties, decl_of}
 use Rattle.values.specs.ValueAnswer.{height_answer, content_answer}
 use Rattle.values.specs.KeywordAnswer.{overflow_word, white_space_word, overflow_answer}
 use Rattle.values.specs.declared.keywords.Overflow as declared_overflow
@@ -105,6 +105,12 @@ module _ (name : List ℕ) where
     unfolding decl_at row_at on_found place_of decl_answer content_answer
     content-made a e m = made content (λ (t : List ℕ). length t) code.Content (λ c. refl) (content_of ks) a e r m
 
+    -- a visibility
+    pub visibility-made : (a : Option Bool) → a ≡ on_found (visibility_of ks) Some None → MatchOption a (r ≡ None) (λ v. IsSomeAnd r (λ d. d ≡ code.Visibility v))
+        → or_unknown r ≡ decl_answer (decl_at (place_of property.Visibility) name ks)
+    unfolding decl_at row_at on_found place_of decl_answer
+    visibility-made a e m = made visibility (λ z. z) code.Visibility (λ c. refl) (visibility_of ks) a e r m
+
 -- ---- `decl_of`: the table of properties
 -- a row of the code's table reads what the row of the property's place does
 abbrev pub reads : Property → List ℕ → List Token → Decl
@@ -134,10 +140,10 @@ module _ (P : Decl → Type 0) (name : List ℕ) (ks : List Token) where
       → P (on_found (colour_of ks) color (unknown name)) → P (on_found (height_of ks) height (unknown name))
       → P (on_found (height_of ks) max_height (unknown name)) → P (on_found (overflow_of ks) overflow (unknown name))
       → P (on_found (overflow_of ks) overflow_y (unknown name)) → P (display (display_of ks)) → P (white_space (white_space_of ks))
-      → P (on_found (content_of ks) content (unknown name)) → P (unknown name) → P (decl_of name ks)
+      → P (on_found (content_of ks) content (unknown name)) → P (on_found (visibility_of ks) visibility (unknown name)) → P (unknown name) → P (decl_of name ks)
   unfolding decl_of on_found
-  decl-holds a b c d e f g h i j u =
-      lookup-holds (λ x. P (on_found x (λ read. read name ks) (unknown name))) name properties (a, (b, (c, (d, (e, (f, (g, (h, (i, (j, tt)))))))))) u
+  decl-holds a b c d e f g h i j k u =
+      lookup-holds (λ x. P (on_found x (λ read. read name ks) (unknown name))) name properties (a, (b, (c, (d, (e, (f, (g, (h, (i, (j, (k, tt))))))))))) u
 
 -- every declaration fits its row: colours are of bytes
 pub decl-fits : (name : List ℕ) (ks : List Token) → DeclFits (decl_of name ks)
@@ -154,6 +160,7 @@ decl-fits name ks =
     tt
     tt
     (found-holds DeclFits (content_of ks) content (unknown name) (λ t e. tt) tt)
+    (found-holds DeclFits (visibility_of ks) visibility (unknown name) (λ z e. tt) tt)
     tt
 
 -- ---- texts
@@ -196,6 +203,7 @@ module _ (P : Decl → Type 0) (name : List ℕ) (ks : List Token) (h : (d : Dec
       (bare (display (display_of ks)) refl)
       (bare (white_space (white_space_of ks)) refl)
       (content-holds (λ f. P (on_found f content (unknown name))) ks u m)
+      (maybe (visibility_of ks) visibility (λ z. bare (visibility z) refl))
       u
 
 -- the answer has the text's length
@@ -210,4 +218,5 @@ decl-length (overflow_y o) = refl
 decl-length (display n) = refl
 decl-length (white_space w) = refl
 decl-length (content t) = refl
+decl-length (visibility h) = refl
 decl-length (unknown t) = refl

@@ -16,10 +16,10 @@ use Rattle.lexer.specs.TokenRow.{token_width, kind_column, ident_kind}
 use Rattle.syntax.specs.Declaration.{WhiteSpace, normal}
 use Rattle.values.specs.Words.{Entry, Found, found, missing, lookup, on_found, is_kind}
 use Rattle.values.specs.View.{token_here, first_text, tokens_at}
-use Rattle.values.specs.Property.{first_word, overflows, overflow_of, displays, display_of, white_spaces, white_space_of}
+use Rattle.values.specs.Property.{first_word, overflows, overflow_of, displays, display_of, white_spaces, white_space_of, visibilities, visibility_of}
 use Rattle.values.specs.KeywordAnswer.{overflow_word, white_space_word, overflow_answer}
 use Rattle.values.specs.declared.keywords.WhiteSpace as declared_white_space
-use Rattle.values.proofs.TokenViews.{ident-text, kind-told, here-text, next-token, no-token}
+use Rattle.values.proofs.TokenViews.{ident-text, kind-told, here-text, tokens-here, tokens_none, next-token, no-token}
 use Rattle.values.proofs.WordLaws.{mapped, found_as, on-found-as, lookup-mapped}
 
 module _ {A : Type 0} (table : List (Entry A)) where
@@ -165,3 +165,19 @@ white-space-told ks r e = go (first_word white_spaces ks) (e ∙ ap (λ f. on_fo
         → unwrap_or r (white_space_word normal) ≡ white_space_word (on_found x (λ a. a) normal)
     go (found a) e = unfold found_as on_found in ap (λ o. unwrap_or o (white_space_word normal)) e
     go missing e = unfold found_as on_found in ap (λ o. unwrap_or o (white_space_word normal)) e
+
+-- ---- `parse_visibility`: a value of n tokens
+-- no token, or two and more, are no visibility
+pub visibility-none : (rows store : List ℕ) (n : ℕ) → ¬ (n ≡ 1) → None ≡ on_found (visibility_of (tokens_at rows store n)) Some None
+unfolding visibility_of on_found
+visibility-none rows store zero d = rw (tokens_none rows store)
+visibility-none rows store (suc zero) d = absurd (d refl)
+visibility-none rows store (suc (suc n)) d = rw (tokens-here rows store 0 (suc n), tokens-here rows store token_width n)
+
+-- one token is a visibility where it is a word of the table
+pub visibility-one : (rows store : List ℕ) (n : ℕ) → n ≡ 1
+    → on_found (first_word visibilities (token_here rows store 0 ∷ [])) Some None ≡ on_found (visibility_of (tokens_at rows store n)) Some None
+unfolding visibility_of
+visibility-one rows store n e =
+    let one : tokens_at rows store n ≡ token_here rows store 0 ∷ [] = ap (tokens_at rows store) e ∙ tokens-here rows store 0 0 ∙ ap (λ ks. token_here rows store 0 ∷ ks) (tokens_none (drop token_width rows) store) in
+    sym (ap (λ ks. on_found (visibility_of ks) Some None) one)

@@ -1,7 +1,7 @@
 -- Declarations as the code has them.
 use Rattle.std.specs.Prelude.{ℕ, List, length}
 use Rattle.lexer.specs.Token.{Token}
-use Rattle.syntax.specs.Declaration.{Decl, color, background_color, height, max_height, overflow, overflow_y, display, white_space, content, unknown}
+use Rattle.syntax.specs.Declaration.{Decl, color, background_color, height, max_height, overflow, overflow_y, display, white_space, content, visibility, unknown}
 use Rattle.syntax.specs.Layout.{colour_number}
 use Rattle.values.specs.Words.{on_found, row_at}
 use Rattle.values.specs.Property.{properties}
@@ -21,6 +21,7 @@ decl_answer (overflow_y o) = code.OverflowY (overflow_word o)
 decl_answer (display n) = code.Display n
 decl_answer (white_space w) = code.WhiteSpace (white_space_word w)
 decl_answer (content t) = code.Content (length t)
+decl_answer (visibility h) = code.Visibility h
 decl_answer (unknown t) = code.Unknown (length t)
 
 -- the bytes of a declaration's text
@@ -34,6 +35,7 @@ text_length (code.OverflowY v) = 0
 text_length (code.Display z) = 0
 text_length (code.WhiteSpace v) = 0
 text_length (code.Content n) = n
+text_length (code.Visibility h) = 0
 text_length (code.Unknown n) = n
 
 -- the place of a property in the table
@@ -48,6 +50,7 @@ place_of property.OverflowY = 6
 place_of property.Display = 7
 place_of property.WhiteSpace = 8
 place_of property.Content = 9
+place_of property.Visibility = 10
 
 -- the declaration of a value by the property at a place; past the last, it is unknown
 unfoldable pub decl_at : ℕ → List ℕ → List Token → Decl

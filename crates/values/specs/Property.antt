@@ -1,16 +1,17 @@
 -- Properties: `parse_height`, `parse_overflow`, `parse_display`, `parse_white_space`, `parse_content` and the match of
 -- `parse_declaration` of src/css/parser.rs.
-use Rattle.std.specs.Prelude.{ℕ, ◌+◌, Bool, true, false, List, [], ◌∷◌, ◌++◌, take, drop}
-use Rattle.combinators.specs.Choice.{pick}
+use Rattle.std.specs.Prelude.{ℕ, ◌+◌, Bool, true, false, ◌≡◌, refl, List, [], ◌∷◌, ◌++◌, take, drop}
+use Rattle.combinators.specs.Choice.{pick, and, is}
 use Rattle.combinators.specs.Word.{same_text}
 use Rattle.decimal.specs.Decimal.{rounds_to_zero}
 use Rattle.characters.specs.Literal.{text}
+use Rattle.characters.specs.Utf8.{utf8, continuation}
 use Rattle.lexer.specs.Number.{digits, sign}
-use Rattle.lexer.specs.Token.{Token, text_of}
+use Rattle.lexer.specs.Token.{Token, ident, string, comma, text_of}
 use Rattle.lexer.specs.TokenRow.{ident_kind, string_kind, number_kind, dimension_kind}
 use Rattle.lexer.specs.Whitespace.{skip_whitespace}
-use Rattle.syntax.specs.Declaration.{Overflow, visible, hidden, scroll, auto, WhiteSpace, normal, pre, pre_wrap, Decl, color, background_color, height, max_height, overflow, overflow_y, display, white_space, content, unknown}
-use Rattle.values.specs.Words.{Entry, Found, found, missing, lookup, on_found, is_kind, number_of, unit_of}
+use Rattle.syntax.specs.Declaration.{Overflow, visible, hidden, scroll, auto, WhiteSpace, normal, pre, pre_wrap, Decl, color, background_color, height, max_height, overflow, overflow_y, display, white_space, content, visibility, unknown}
+use Rattle.values.specs.Words.{Entry, Found, found, missing, lookup, on_found, kind_of, is_kind, number_of, unit_of}
 use Rattle.values.specs.Colour.{colour_of, background_of}
 
 -- ---- heights: "`Height` matters only as zero or not"
@@ -69,12 +70,34 @@ white_spaces =
 unfoldable pub white_space_of : List Token → WhiteSpace
 white_space_of ks = on_found (first_word white_spaces ks) (λ a. a) normal
 
+-- ---- visibility: exactly one word (S-9: "any other word, or more than that one word, being unknown")
+-- whether it is hidden
+abbrev pub visibilities : List (Entry Bool)
+visibilities = record { word = text "visible"; means = false } ∷ record { word = text "hidden"; means = true } ∷ []
+
+unfoldable pub visibility_of : List Token → Found Bool
+visibility_of [] = missing
+visibility_of (k ∷ []) = first_word visibilities (k ∷ [])
+visibility_of (k ∷ a ∷ r) = missing
+
+-- either word alone; another word, two words, a string, a comma behind it, nothing
+case-visibility :
+    (visibility_of (ident (text "visible") ∷ []) ≡ found false)
+    × (visibility_of (ident (text "hidden") ∷ []) ≡ found true)
+    × (visibility_of (ident (text "collapse") ∷ []) ≡ missing)
+    × (visibility_of (ident (text "hidden") ∷ ident (text "visible") ∷ []) ≡ missing)
+    × (visibility_of (string (text "hidden") ∷ []) ≡ missing)
+    × (visibility_of (ident (text "hidden") ∷ comma ∷ []) ≡ missing)
+    × (visibility_of [] ≡ missing)
+unfolding visibility_of first_word lookup on_found is_kind kind_of text_of same_text text utf8 continuation pick and is
+case-visibility = (refl, refl, refl, refl, refl, refl, refl)
+
 -- strings, joined; nothing else
 unfoldable pub content_of : List Token → Found (List ℕ)
 content_of [] = found []
 content_of (k ∷ ks) = pick (is_kind string_kind k) (on_found (content_of ks) (λ b. found (text_of k ++ b)) missing) missing
 
--- ---- properties, in the crate's order, and how each reads a value; its name is kept where the value does not read
+-- ---- properties, in the crate's order, behind them `visibility`, and how each reads a value; its name is kept where the value does not read
 abbrev pub properties : List (Entry (List ℕ → List Token → Decl))
 properties =
     record { word = text "background-color"; means = λ name ks. on_found (colour_of ks) background_color (unknown name) }
@@ -87,6 +110,7 @@ properties =
     ∷ record { word = text "display"; means = λ name ks. display (display_of ks) }
     ∷ record { word = text "white-space"; means = λ name ks. white_space (white_space_of ks) }
     ∷ record { word = text "content"; means = λ name ks. on_found (content_of ks) content (unknown name) }
+    ∷ record { word = text "visibility"; means = λ name ks. on_found (visibility_of ks) visibility (unknown name) }
     ∷ []
 
 -- the declaration of a property with a value

@@ -1,9 +1,9 @@
-// Keywords: the first name of a value that a table has.
+// Keywords: the first name of a value that a table has, or its only token.
 ghost use Rattle.std.specs.Prelude.{◌≡◌, ◌*◌, Some, None, [], ◌∷◌};
 ghost use Rattle.lexer.specs.TokenRow.{token_width};
 ghost use Rattle.syntax.specs.Layout.{overflow_number, white_space_number};
 ghost use Rattle.values.specs.Words.{on_found, entries};
-ghost use Rattle.values.specs.Property.{first_word, overflow_of, display_of, white_space_of};
+ghost use Rattle.values.specs.Property.{first_word, overflow_of, display_of, white_space_of, visibility_of};
 ghost use Rattle.values.specs.View.{token_here};
 ghost use Rattle.values.specs.Tokens.{value_tokens};
 ghost use Rattle.values.specs.KeywordAnswer.{overflow_meant, white_space_meant, overflow_answer, white_space_word};
@@ -77,6 +77,8 @@ const WHITE_SPACES: [(&str, WhiteSpace); 3] = [
     ("pre-wrap", WhiteSpace::PreWrap),
 ];
 
+const VISIBILITIES: [(&str, bool); 2] = [("visible", false), ("hidden", true)];
+
 // What a token that is a name stands for in a table.
 fn word_at<T: Copy>(tokens: Tokens, i: usize, table: &[(&str, T)]) -> Option<T>
     ensures { result ≡ on_found (first_word (entries table.now) (token_here tokens.entry.rows.now tokens.entry.store.now (i * token_width) ∷ [])) Some None }
@@ -114,4 +116,14 @@ pub fn parse_white_space(tokens: Tokens) -> WhiteSpace
     ensures { result ≡ white_space_word (white_space_of (value_tokens tokens.entry)) }
 {
     first_word(tokens, &WHITE_SPACES).unwrap_or(WhiteSpace::Normal)
+}
+
+// Whether a value of exactly one word hides.
+pub fn parse_visibility(tokens: Tokens) -> Option<bool>
+    ensures { result ≡ on_found (visibility_of (value_tokens tokens.entry)) Some None }
+{
+    if tokens.count() != 1 {
+        return None;
+    }
+    word_at(tokens, 0, &VISIBILITIES)
 }

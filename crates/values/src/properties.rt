@@ -9,12 +9,14 @@ ghost use Rattle.values.specs.declared.properties.Decl.TheVariants.{Unknown};
 use crate::colour_values::{parse_background_color, parse_color};
 use crate::contents::parse_content;
 use crate::heights::parse_height;
-use crate::keywords::{Overflow, WhiteSpace, parse_display, parse_overflow, parse_white_space};
+use crate::keywords::{
+    Overflow, WhiteSpace, parse_display, parse_overflow, parse_visibility, parse_white_space,
+};
 use crate::tokens::Tokens;
 use crate::words::lookup;
 
-// A declaration. A height says whether it is zero, a display whether it is none; of a content there is the length of its text, of an
-// unknown declaration that of its name.
+// A declaration. A height says whether it is zero, a display whether it is none, a visibility whether it is hidden; of a content there is the length of
+// its text, of an unknown declaration that of its name.
 #[derive(Clone, Copy)]
 pub enum Decl {
     Color(u32),
@@ -26,6 +28,7 @@ pub enum Decl {
     Display(bool),
     WhiteSpace(WhiteSpace),
     Content(usize),
+    Visibility(bool),
     Unknown(usize),
 }
 
@@ -55,10 +58,11 @@ pub enum Property {
     Display,
     WhiteSpace,
     Content,
+    Visibility,
 }
 
-// The ten properties.
-const PROPERTIES: [(&str, Property); 10] = [
+// The eleven properties.
+const PROPERTIES: [(&str, Property); 11] = [
     ("background-color", Property::BackgroundColor),
     ("background", Property::Background),
     ("color", Property::Color),
@@ -69,6 +73,7 @@ const PROPERTIES: [(&str, Property); 10] = [
     ("display", Property::Display),
     ("white-space", Property::WhiteSpace),
     ("content", Property::Content),
+    ("visibility", Property::Visibility),
 ];
 
 // The declaration of a known property with the value of these tokens, where it reads the value. No table of readers: they answer three types, and
@@ -89,6 +94,7 @@ fn decl_at(property: Property, tokens: Tokens) -> Option<Decl>
         Property::Display => Some(Decl::Display(parse_display(tokens))),
         Property::WhiteSpace => Some(Decl::WhiteSpace(parse_white_space(tokens))),
         Property::Content => parse_content(tokens).map(Decl::Content),
+        Property::Visibility => parse_visibility(tokens).map(Decl::Visibility),
     }
 }
 

@@ -1,4 +1,4 @@
-//! The text of an HTML page in the colours that its stylesheets give it, with hidden parts left out: the maker's sheet, the school's and the page's own decide.
+//! The text of an HTML page in the colours that its stylesheets give it, with hidden parts left out and invisible ones blank: the maker's sheet, the school's and the page's own decide.
 
 pub mod document;
 pub mod dom;

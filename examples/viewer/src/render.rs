@@ -1,13 +1,20 @@
-//! The text of a page, in lines of pieces that have one colour each.
+//! The text of a page, in lines of pieces that look the same throughout.
 use crate::document::Document;
-use hicsolmab::{Color, Page, Record, Style, Styles, WhiteSpace};
+use hicsolmab::{Color, Page, Record, Style, Styles, Visibility, WhiteSpace};
 
-/// Text of one colour on one background.
+/// How text looks. What is invisible keeps its place, and has no colours.
+#[derive(Clone, Copy, Default, PartialEq, Eq)]
+pub struct Look {
+    pub color: Option<Color>,
+    pub background: Option<Color>,
+    pub invisible: bool,
+}
+
+/// Text of one look.
 #[derive(PartialEq, Eq)]
 pub struct Piece {
     pub text: String,
-    pub color: Option<Color>,
-    pub background: Option<Color>,
+    pub look: Look,
 }
 
 type Line = Vec<Piece>;
@@ -29,7 +36,7 @@ struct Renderer<'a> {
     space: bool,
 }
 
-/// The lines of a page by the styles of its elements; what is hidden is left out.
+/// The lines of a page by the styles of its elements; what is hidden is left out, and what is invisible is blank.
 pub fn render(document: &Document, styles: &Styles) -> Vec<Line> {
     let mut renderer = Renderer { document, styles, children: children(&document.page), lines: vec![vec![]], space: false };
     renderer.put_children(0, None);
@@ -66,7 +73,7 @@ impl Renderer<'_> {
         }
         if cell && self.is_begun() {
             self.space = false;
-            self.put(BETWEEN_CELLS, None, None);
+            self.put(BETWEEN_CELLS, Look::default());
         }
         self.put_content(style.before(), style);
         self.put_children(row, Some(style));
@@ -76,14 +83,19 @@ impl Renderer<'_> {
         }
     }
 
-    // What a sheet says stands before or behind the text of an element. Where it says no colour for it, it has the element's.
+    // What a sheet says stands before or behind the text of an element. What it does not say of its look is the element's.
     fn put_content(&mut self, record: Option<Record>, style: Style) {
         let Some(record) = record.filter(|record| !record.is_hidden()) else {
             return;
         };
         if let Some(content) = record.content() {
             let text = String::from_utf8_lossy(content).into_owned();
-            self.put_words(&text, record.color().or(style.color()), record.background_color().or(style.background_color()));
+            let look = Look {
+                color: record.color().or(style.color()),
+                background: record.background_color().or(style.background_color()),
+                invisible: record.visibility().or(style.visibility()) == Some(Visibility::Hidden),
+            };
+            self.put_words(&text, look);
         }
     }
 
@@ -91,43 +103,48 @@ impl Renderer<'_> {
         let Some(text) = self.document.texts[row].clone() else {
             return;
         };
-        let (color, background) = (style.and_then(Style::color), style.and_then(Style::background_color));
+        let look = Look {
+            color: style.and_then(Style::color),
+            background: style.and_then(Style::background_color),
+            invisible: style.is_some_and(Style::is_invisible),
+        };
         match style.and_then(Style::white_space) {
-            Some(WhiteSpace::Pre | WhiteSpace::PreWrap) => self.put_as_it_stands(&text, color, background),
-            _ => self.put_words(&text, color, background),
+            Some(WhiteSpace::Pre | WhiteSpace::PreWrap) => self.put_as_it_stands(&text, look),
+            _ => self.put_words(&text, look),
         }
     }
 
-    fn put_as_it_stands(&mut self, text: &str, color: Option<Color>, background: Option<Color>) {
+    fn put_as_it_stands(&mut self, text: &str, look: Look) {
         if std::mem::take(&mut self.space) && self.is_begun() {
-            self.put(" ", color, background);
+            self.put(" ", look);
         }
         for (i, line) in text.split('\n').enumerate() {
             if i > 0 {
                 self.new_line();
             }
-            self.put(line, color, background);
+            self.put(line, look);
         }
     }
 
     // Words with one space between them.
-    fn put_words(&mut self, text: &str, color: Option<Color>, background: Option<Color>) {
+    fn put_words(&mut self, text: &str, look: Look) {
         let words: Vec<&str> = text.split_ascii_whitespace().collect();
         self.space |= text.starts_with(|c: char| c.is_ascii_whitespace());
         if words.is_empty() {
             return;
         }
         let before = if self.space && self.is_begun() { " " } else { "" };
-        self.put(&format!("{before}{}", words.join(" ")), color, background);
+        self.put(&format!("{before}{}", words.join(" ")), look);
         self.space = text.ends_with(|c: char| c.is_ascii_whitespace());
     }
 
-    fn put(&mut self, text: &str, color: Option<Color>, background: Option<Color>) {
+    fn put(&mut self, text: &str, look: Look) {
+        let (text, look) = if look.invisible { blank(text) } else { (text.to_string(), look) };
         let line = self.lines.last_mut().expect("a line");
         match line.last_mut() {
             _ if text.is_empty() => {}
-            Some(piece) if (piece.color, piece.background) == (color, background) => piece.text.push_str(text),
-            _ => line.push(Piece { text: text.to_string(), color, background }),
+            Some(piece) if piece.look == look => piece.text.push_str(&text),
+            _ => line.push(Piece { text, look }),
         }
     }
 
@@ -146,17 +163,23 @@ impl Renderer<'_> {
 
 // ---- printing
 
+// A blank for each character, in no colours.
+fn blank(text: &str) -> (String, Look) {
+    (" ".repeat(text.chars().count()), Look { invisible: true, ..Look::default() })
+}
+
 /// A piece in the colours of a terminal.
 pub fn in_colours(piece: &Piece) -> String {
     let code = |number: u8, color: Option<Color>| color.map_or(String::new(), |c| format!("\x1b[{number};2;{};{};{}m", c.red, c.green, c.blue));
-    let codes = format!("{}{}", code(38, piece.color), code(48, piece.background));
+    let codes = format!("{}{}", code(38, piece.look.color), code(48, piece.look.background));
     if codes.is_empty() { piece.text.clone() } else { format!("{codes}{}\x1b[0m", piece.text) }
 }
 
-/// A piece with its colours in words, for a file that is read and compared: `{#ff0000 on #ffffff}text{}`.
+/// A piece with its look in words, for a file that is read and compared: `{#ff0000 on #ffffff}text{}`.
 pub fn in_marks(piece: &Piece) -> String {
-    let color = piece.color.map_or(String::new(), |c| c.to_string());
-    let background = piece.background.map_or(String::new(), |c| format!("on {c}"));
-    let mark = [color, background].join(" ");
-    if mark == " " { piece.text.clone() } else { format!("{{{}}}{}{{}}", mark.trim(), piece.text) }
+    let color = piece.look.color.map(|c| c.to_string());
+    let background = piece.look.background.map(|c| format!("on {c}"));
+    let invisible = piece.look.invisible.then(|| "invisible".to_string());
+    let mark: Vec<String> = [color, background, invisible].into_iter().flatten().collect();
+    if mark.is_empty() { piece.text.clone() } else { format!("{{{}}}{}{{}}", mark.join(" "), piece.text) }
 }

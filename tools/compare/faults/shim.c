@@ -41,6 +41,11 @@ static int filled(const uint32_t *slot)
     return slot[HICSOLMAB_SLOT_FILLED] != 0;
 }
 
+static void clear(uint32_t *slot)
+{
+    memset(slot, 0, HICSOLMAB_SLOT_WIDTH * sizeof(uint32_t));
+}
+
 static uint32_t kind(const uint32_t *nodes, size_t row)
 {
     return nodes[HICSOLMAB_NODE_WIDTH * row + HICSOLMAB_NODE_KIND];
@@ -159,7 +164,7 @@ hicsolmab_style_result hicsolmab_style(STYLE_PARAMETERS)
 {
     size_t asked = is("style_of_parent") && row > 0 && row < nodes_length / HICSOLMAB_NODE_WIDTH && parent(nodes, row) > 0 ? parent(nodes, row) : row;
     hicsolmab_style_result result = real_hicsolmab_style(STYLE_ARGUMENTS(asked, document_styles));
-    uint32_t *content, *colour, *space;
+    uint32_t *content, *colour, *space, *visibility;
     if (is("style_no_element") && result.refusal == HICSOLMAB_NO_ELEMENT)
         result.refusal = HICSOLMAB_BAD_ROW;
     if (is("style_short_store") && result.refusal == HICSOLMAB_SHORT_STORE && out_length >= WIDTH && texts_length > 0)
@@ -173,6 +178,9 @@ hicsolmab_style_result hicsolmab_style(STYLE_PARAMETERS)
     space = slot(out, HICSOLMAB_MAIN, HICSOLMAB_WHITE_SPACE_SLOT);
     if (is("style_declaration") && filled(space) && !space[HICSOLMAB_SLOT_INLINE])
         space[HICSOLMAB_SLOT_START] += 1;
+    visibility = slot(out, HICSOLMAB_MAIN, HICSOLMAB_VISIBILITY_SLOT);
+    if (is("style_visibility") && filled(visibility))
+        visibility[HICSOLMAB_SLOT_NUMBER] = HICSOLMAB_VISIBILITY_HIDDEN;
     if (is("style_inline_origin") && filled(colour) && colour[HICSOLMAB_SLOT_INLINE])
         colour[HICSOLMAB_SLOT_ORIGIN] = HICSOLMAB_USER_ORIGIN;
     if (is("style_empty_record") && hicsolmab_has_record(out, HICSOLMAB_AFTER) && !filled(slot(out, HICSOLMAB_AFTER, HICSOLMAB_CONTENT_SLOT)))
@@ -183,13 +191,16 @@ hicsolmab_style_result hicsolmab_style(STYLE_PARAMETERS)
 hicsolmab_style_result hicsolmab_style_book(STYLE_PARAMETERS)
 {
     hicsolmab_style_result result;
-    uint32_t *colour;
+    uint32_t *colour, *visibility;
     if (is("book_is_crate"))
         return real_hicsolmab_style(STYLE_ARGUMENTS(row, document_styles));
     result = real_hicsolmab_style_book(STYLE_ARGUMENTS(row, is("book_switch") ? 1 : document_styles));
     if (result.refusal != 0)
         return result;
     colour = slot(out, HICSOLMAB_MAIN, HICSOLMAB_COLOUR_SLOT);
+    visibility = slot(out, HICSOLMAB_BEFORE, HICSOLMAB_VISIBILITY_SLOT);
+    if (is("book_visibility") && memcmp(visibility, slot(out, HICSOLMAB_MAIN, HICSOLMAB_VISIBILITY_SLOT), HICSOLMAB_SLOT_WIDTH * sizeof(uint32_t)) == 0)
+        clear(visibility);
     if (is("book_inline_important") && filled(colour) && colour[HICSOLMAB_SLOT_INLINE])
         colour[HICSOLMAB_SLOT_IMPORTANT] = 0;
     if (is("book_declaration") && filled(colour) && colour[HICSOLMAB_SLOT_IMPORTANT] && filled(colour + HICSOLMAB_SLOT_WIDTH))
@@ -211,6 +222,7 @@ static void change_rows(const uint32_t *nodes, size_t count, size_t compiled_len
         uint32_t *colour = slot(own, HICSOLMAB_MAIN, HICSOLMAB_COLOUR_SLOT);
         uint32_t *content = slot(own, HICSOLMAB_MAIN, HICSOLMAB_CONTENT_SLOT);
         uint32_t *display = slot(own, HICSOLMAB_MAIN, HICSOLMAB_DISPLAY_SLOT);
+        uint32_t *visibility = slot(own, HICSOLMAB_MAIN, HICSOLMAB_VISIBILITY_SLOT);
         int element = kind(nodes, row) == HICSOLMAB_ELEMENT;
         if (is("run_row_copied") && element && row == count - 1)
             memcpy(own, before, ROW_BYTES);
@@ -220,8 +232,10 @@ static void change_rows(const uint32_t *nodes, size_t count, size_t compiled_len
             memcpy(colour, slot(before, HICSOLMAB_MAIN, HICSOLMAB_COLOUR_SLOT), HICSOLMAB_SLOT_WIDTH * sizeof(uint32_t));
         if (is("run_slot_off") && filled(colour) && !filled(colour + HICSOLMAB_SLOT_WIDTH)) {
             memcpy(colour + HICSOLMAB_SLOT_WIDTH, colour, HICSOLMAB_SLOT_WIDTH * sizeof(uint32_t));
-            memset(colour, 0, HICSOLMAB_SLOT_WIDTH * sizeof(uint32_t));
+            clear(colour);
         }
+        if (is("run_visibility") && visibility[HICSOLMAB_SLOT_NUMBER] == HICSOLMAB_VISIBILITY_VISIBLE)
+            clear(visibility);
         if (is("run_other_store") && filled(content) && content[HICSOLMAB_SLOT_NUMBER] >= compiled_length)
             content[HICSOLMAB_SLOT_NUMBER] -= (uint32_t)compiled_length;
         if (is("run_important") && filled(colour))

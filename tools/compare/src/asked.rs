@@ -1,5 +1,7 @@
-//! html2text, asked for sheets as this engine reads them. The one difference (docs/DIFFERENCES.md): where a sheet ends behind the `=` of an attribute selector html2text panics, and
+//! html2text, asked for sheets as this engine reads them. Two differences (docs/DIFFERENCES.md): where a sheet ends behind the `=` of an attribute selector html2text panics, and
 //! this reads on. There html2text is asked for the sheet with one `=` more, in which that selector is one that it does not read. Where it panics at a number it does so with that too.
+//! And html2text knows no `visibility`. What it answers is its own; to that tools/crate adds the declarations of that name which its readers find with the one word `visible` or `hidden`,
+//! and what its own `maybe_update` makes of them. To html2text such a declaration is an unknown one, a rule with no other style has none, and a pseudo record with no other slot is not there.
 use judge::answers::{Page, Sheet, StyleRow};
 use judge::css::questions::{self as html2text, Applied};
 use std::borrow::Cow;

@@ -1,5 +1,5 @@
 //! Book order a second time, plainly: all that is declared for a slot is gathered in order and sorted by its key, and the last of the greatest wins. Where nothing is
-//! declared, colour and white space are inherited: by the element from its parent, by its pseudo elements from the element.
+//! declared, colour, white space and visibility are inherited: by the element from its parent, by its pseudo elements from the element.
 //! What is read and which selectors match is html2text's; html2text has no such cascade.
 use crate::asked;
 use judge::answers::{Page, SLOT_WIDTH, SLOTS, Style, StyleRow, Text};
@@ -46,11 +46,7 @@ impl Said {
 
     // As they stand in a row; the start and the length of a content are zero.
     fn numbers(&self) -> [u32; SLOT_WIDTH] {
-        let value = match self.style {
-            Style::Colour(n) | Style::Background(n) | Style::WhiteSpace(n) => n,
-            Style::DisplayNone | Style::Content(_) => 0,
-        };
-        [1, self.origin, u32::from(self.inline), self.ids, self.classes, self.types, u32::from(self.important), value, 0, self.start as u32]
+        [1, self.origin, u32::from(self.inline), self.ids, self.classes, self.types, u32::from(self.important), self.style.number(), 0, self.start as u32]
     }
 
     fn content(&self) -> Text {
@@ -130,7 +126,7 @@ fn declared(applied: &[Applied], attributes: &[(&str, &str)]) -> Records {
 
 fn inherits(said: &Said) -> bool {
     match said.style {
-        Style::Colour(_) | Style::WhiteSpace(_) => true,
+        Style::Colour(_) | Style::WhiteSpace(_) | Style::Visibility(_) => true,
         Style::Background(_) | Style::DisplayNone | Style::Content(_) => false,
     }
 }

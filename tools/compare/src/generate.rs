@@ -51,12 +51,21 @@ const STRINGS: [&str; 8] = ["\"x\"", "'x'", "\"\"", "''", "\"a'b\"", "'a\"b'", "
 const ODD_STRINGS: [&str; 14] =
     ["\"\\41\"", "\"\\\"\"", "\"a\\\nb\"", "\"a\nb\"", "\"open", "'open", "\"\\", "\"a\\", "'}'", "\"/*\"", "\"\r\"", "'\\''", "'\\é'", "\"\n"];
 
-const PROPERTIES: [&str; 13] =
-    ["color", "background-color", "background", "height", "max-height", "overflow", "overflow-y", "display", "white-space", "content", "zz", "COLOR", "-k"];
-const ODD_PROPERTIES: [&str; 10] = ["x-syntax", "overflow-x", "c\\6flor", "Background", "colo\\72 ", "--x", "é", "\\", "1a", "content\\"];
+const PROPERTIES: [&str; 15] = [
+    "color", "background-color", "background", "height", "max-height", "overflow", "overflow-y", "display", "white-space", "content", "visibility",
+    "visibility", "zz", "COLOR", "-k",
+];
+const ODD_PROPERTIES: [&str; 13] =
+    ["x-syntax", "overflow-x", "c\\6flor", "Background", "colo\\72 ", "--x", "é", "\\", "1a", "content\\", "VISIBILITY", "visib\\69lity", "-visibility"];
 
 const WORDS: [&str; 12] = ["none", "block", "hidden", "visible", "scroll", "auto", "normal", "pre", "pre-wrap", "nowrap", "HIDDEN", "None"];
 const ODD_WORDS: [&str; 12] = ["PRE", "x-raw-dom", "url(x)", "x", "important", "!important", "hidd\\65n", "n\\6fne", "p\\72 e", "\"none\"", "none(", "5"];
+
+const VISIBILITIES: [&str; 8] = ["hidden", "hidden", "visible", "visible", "HIDDEN", "Visible", "hidd\\65n", "collapse"];
+const ODD_VISIBILITIES: [&str; 14] = [
+    "", "'hidden'", "\"visible\"", "hidden visible", "hidden hidden", "hidden,", ",hidden", "hidden/**/", "hidden()", "(hidden)", "hid\\64 en", "\\48idden",
+    "hidden 0", "!important",
+];
 
 const MARKED: [&str; 3] = ["!important", " !important", "! IMPORTANT"];
 const ODDLY_MARKED: [&str; 6] = ["!/**/important", "!import", "! important x", "!impor\\74 ant", "!", "!important!important"];
@@ -156,6 +165,11 @@ fn string(random: &mut Random) -> String {
     random.either(&STRINGS, &ODD_STRINGS).to_string()
 }
 
+// One word mostly.
+fn visibility(random: &mut Random) -> String {
+    if random.percent(80) { random.choose(&VISIBILITIES).to_string() } else { random.choose(&ODD_VISIBILITIES).to_string() }
+}
+
 fn value_for(random: &mut Random, property: &str) -> String {
     if random.odd() {
         return piece(random, 3);
@@ -164,6 +178,7 @@ fn value_for(random: &mut Random, property: &str) -> String {
         "height" | "max-height" => number(random),
         "overflow" | "overflow-y" | "display" | "white-space" => parts(random, word, &[" ", " ", ",", "/"]),
         "content" => parts(random, string, &[" ", "", "/**/"]),
+        "visibility" | "visib\\69lity" => visibility(random),
         "background" => parts(random, colour, &[",", ", ", " "]),
         _ => colour(random),
     }
@@ -369,7 +384,8 @@ pub fn styling_sheet(random: &mut Random) -> String {
 
 // Declarations of which many are important, and many of the same property, so that they stand against each other.
 fn contesting(random: &mut Random) -> String {
-    let properties = ["color", "color", "background-color", "background", "display", "white-space", "content", "content", "height", "overflow"];
+    let properties =
+        ["color", "color", "background-color", "background", "display", "white-space", "content", "content", "height", "overflow", "visibility", "visibility"];
     let one = |random: &mut Random| {
         let property = random.choose(&properties);
         let value = match property {
@@ -377,6 +393,7 @@ fn contesting(random: &mut Random) -> String {
             "white-space" => random.choose(&["normal", "pre", "pre-wrap"]).to_string(),
             "height" => random.choose(&["0", "1px"]).to_string(),
             "overflow" => "hidden".to_string(),
+            "visibility" => random.choose(&["visible", "hidden", "hidden", "collapse", "hidden visible"]).to_string(),
             "content" => format!("\"{}\"", random.choose(&["", "x", "yz", "é", "long enough to be seen"])),
             _ => format!("#{:03x}", random.below(4096)),
         };

@@ -23,9 +23,10 @@ const SELECTOR: [&str; 13] = ["p", ".", "#", "*", ">", " ", "::before", ":nth-ch
 const ESCAPE: [&str; 9] = ["\\", "4", "1", "a", "g", "d800", " ", "\n", "é"];
 const RGB: [&str; 8] = ["1", "255", "6", ",", " ", "+", "-", ")"];
 const COLOUR: [&str; 12] = ["0", "a", "g", "#", "+", " ", "\u{a0}", ";", "}", "(", "!important", "é"];
+const VISIBILITY: [&str; 14] = ["hidden", "visible", "HIDDEN", "x", " ", ",", ";", "(", ")", "'", "\\", "/**/", "!", "important"];
 const DECLARATIONS: [&str; 10] = ["a", ":", ";", " ", "color:red", "/**/", "}", "\\", "!important", "1"];
 
-pub const FRAMES: [Frame; 21] = [
+pub const FRAMES: [Frame; 23] = [
     Frame { question: "sheet", before: "", behind: "", pieces: &SHEET, length: 4 },
     Frame { question: "sheet", before: "p{color:red}", behind: "q{}", pieces: &SHEET, length: 3 },
     Frame { question: "sheet", before: "p{", behind: "}q{}", pieces: &DECLARATIONS, length: 5 },
@@ -33,6 +34,7 @@ pub const FRAMES: [Frame; 21] = [
     Frame { question: "sheet", before: "p{a:", behind: ";b:c}q{}", pieces: &MARKS, length: 5 },
     Frame { question: "sheet", before: "p{background:", behind: "}", pieces: &VALUE, length: 3 },
     Frame { question: "sheet", before: "p{content:", behind: "}", pieces: &VALUE, length: 3 },
+    Frame { question: "sheet", before: "p{visibility:", behind: "}q{}", pieces: &VISIBILITY, length: 4 },
     Frame { question: "sheet", before: "p{height:", behind: "}", pieces: &HEIGHT, length: 5 },
     Frame { question: "sheet", before: "p{color:rgb(", behind: ")}", pieces: &RGB, length: 6 },
     Frame { question: "sheet", before: ":nth-child(", behind: "){}", pieces: &NTH, length: 5 },
@@ -46,6 +48,7 @@ pub const FRAMES: [Frame; 21] = [
     Frame { question: "sheet", before: "p{color:\\", behind: "}", pieces: &ESCAPE, length: 5 },
     Frame { question: "style", before: "", behind: "", pieces: &DECLARATIONS, length: 5 },
     Frame { question: "style", before: "content:", behind: "", pieces: &VALUE, length: 3 },
+    Frame { question: "style", before: "visibility:", behind: ";color:red", pieces: &VISIBILITY, length: 3 },
     Frame { question: "colour", before: "", behind: "", pieces: &COLOUR, length: 5 },
 ];
 

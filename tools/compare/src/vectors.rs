@@ -4,7 +4,7 @@ use crate::engine::{self, Stores, Styled};
 use crate::pages;
 use crate::questions::Input;
 use crate::styled::{say, texts_of_calls};
-use judge::answers::{ELEMENT_KIND, Page, RECORD_WIDTH, Rows, SLOT_WIDTH, SLOTS, STYLE_WIDTH, StyleRow};
+use judge::answers::{Decl, ELEMENT_KIND, Page, RECORD_WIDTH, Rows, Rule, SLOT_WIDTH, SLOTS, STYLE_WIDTH, Style, StyleRow};
 use judge::css::questions as html2text;
 
 const SHEET: u32 = 1;
@@ -156,6 +156,19 @@ fn computed(input: &Input) -> Vec<Vec<u8>> {
         Some(out.bytes)
     };
     [true, false].into_iter().filter_map(one).collect()
+}
+
+// Whether a style attribute has a visibility that this knows.
+fn hides_or_shows(value: &str) -> bool {
+    html2text::style_attribute(value).is_some_and(|styles| styles.iter().any(|s| matches!(s.style, Style::Visibility(_))))
+}
+
+/// Whether an input has a visibility that this knows, read as a sheet or as a style attribute. Html2text does not, so of such an input its answer is no vector.
+pub fn has_visibility(input: &Input) -> bool {
+    let declared = |rule: &Rule| rule.declarations.iter().any(|d| matches!(d.decl, Decl::Visibility { .. }));
+    let in_sheet = |text: &String| html2text::read_sheet(text).is_some_and(|read| read.rules.iter().any(declared)) || hides_or_shows(text);
+    let in_attributes = |(_, attributes): &(String, Vec<(String, String)>)| attributes.iter().any(|(_, value)| hides_or_shows(value));
+    input.texts.iter().any(in_sheet) || input.tree.iter().filter_map(|node| node.element.as_ref()).any(in_attributes)
 }
 
 /// The records of an input, by the name of its question.

@@ -1,9 +1,9 @@
 //! against SCHOOL.css PAGE.html ..
 //!
 //! Holds what the viewer shows of pages against html2text 0.17.4: for each element whether it is hidden and in which colours it is, by the crate's own `computed_style` (tools/crate builds it),
-//! and the same for its `::before` and `::after`. It fails where there is a difference.
+//! whether it is invisible, by the crate's own `maybe_update`, and the same for its `::before` and `::after`. It fails where there is a difference.
 use hicsolmab::{Color, Record, Settings, Style};
-use judge::answers::{Page, RECORD_WIDTH, SLOT_WIDTH, StyleRow};
+use judge::answers::{Page, RECORD_WIDTH, SLOT_WIDTH, StyleRow, VISIBILITY_SLOT};
 use judge::css::questions as html2text;
 use std::fs;
 use std::process::ExitCode;
@@ -23,6 +23,7 @@ const NUMBER: usize = 7;
 struct Shown {
     there: bool,
     hidden: bool,
+    invisible: bool,
     colour: Option<u32>,
     background: Option<u32>,
     content: Vec<u8>,
@@ -36,6 +37,7 @@ fn by_this(record: Option<Record>) -> Shown {
     record.map_or(Shown::default(), |record| Shown {
         there: true,
         hidden: record.is_hidden(),
+        invisible: record.is_invisible(),
         colour: record.color().map(number),
         background: record.background_color().map(number),
         content: record.content().unwrap_or_default().to_vec(),
@@ -49,6 +51,7 @@ fn by_html2text(row: &StyleRow, record: usize) -> Shown {
     Shown {
         there: numbers[0] != 0,
         hidden: value(DISPLAY).is_some(),
+        invisible: value(VISIBILITY_SLOT) == Some(1),
         colour: value(COLOUR),
         background: value(BACKGROUND),
         content: row.contents[record].clone(),

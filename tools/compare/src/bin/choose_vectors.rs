@@ -4,7 +4,7 @@
 //!     choose_vectors SEED FOLDER
 use compare::questions::{Answer, Input, QUESTIONS, Question};
 use compare::random::Random;
-use compare::vectors::{Writer, records};
+use compare::vectors::{Writer, has_visibility, records};
 use std::collections::HashSet;
 use std::hash::{DefaultHasher, Hash, Hasher};
 
@@ -65,7 +65,7 @@ fn choose(question: &Question, seed: u64) -> Vec<Input> {
     let mut random = Random::new(seed);
     let mut inputs: Vec<Input> = (0..LOOKED_AT).map(|_| (question.generate)(&mut random)).collect();
     let outside = |i: &Input| question.ask.is_some_and(|ask| matches!(ask(i), Answer::Outside));
-    inputs.retain(|i| length(i) <= LONGEST && !outside(i));
+    inputs.retain(|i| length(i) <= LONGEST && !outside(i) && !has_visibility(i));
     let mut by_length: Vec<usize> = (0..inputs.len()).collect();
     by_length.sort_by_key(|&i| length(&inputs[i]));
     let (mut counters, mut sets, mut taken) = (HashSet::new(), HashSet::new(), vec![]);

@@ -1,4 +1,4 @@
--- Colour, then white space, as they are handed on.
+-- Colour, white space, then visibility, as they are handed on.
 use Rattle.cascade.proofs.Inheriting.{record-filled}
 use borrow.Author.Rules.{rules}
 use Rattle.cascade.proofs.rows.fill_record.Goals as goal

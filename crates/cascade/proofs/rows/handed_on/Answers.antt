@@ -1,4 +1,4 @@
--- The two slots are read where they begin.
+-- The slots are read where they begin.
 use Rattle.cascade.proofs.Inheriting.{handed-slots}
 use borrow.Author.Rules.{rules}
 use Rattle.cascade.proofs.rows.handed_on.Goals as goal

@@ -31,3 +31,6 @@ returns-in-Display c name = rw c.in-Display.is (laws.display-made name _ _ c.par
 
 pub returns-in-WhiteSpace : goal.returns-in-WhiteSpace
 returns-in-WhiteSpace c name = rw c.in-WhiteSpace.is (laws.white-space-made name _ _ c.parse_white_space.ensures)
+
+pub returns-in-Visibility : goal.returns-in-Visibility
+returns-in-Visibility c name = rw c.in-Visibility.is (laws.visibility-made name _ c.map-in-Visibility.result _ c.parse_visibility.ensures c.map-in-Visibility.ensures.cases)

@@ -12,5 +12,9 @@ returns-in-4 c = let k = c.in-4.is in laws.value-content _ _ _ _ (λ z. omega (a
 pub returns-in-3 : goal.returns-in-3
 returns-in-3 c = let k = c.in-3.is in laws.value-white-space _ _ _ _ (λ z. omega (arith, z)) _ (λ z. omega (arith, z)) k c.read_number_up_to.ensures
 
+pub returns-in-5 : goal.returns-in-5
+returns-in-5 c = let k = c.in-5.is in laws.value-visibility _ _ _ _ (λ z. omega (arith, z)) _ (λ z. omega (arith, z)) (λ z. omega (arith, z)) k c.read_number_up_to-in-5.ensures
+
 pub returns-in_default : goal.returns-in_default
-returns-in_default c = laws.value-colour _ _ _ _ (λ z. omega (arith, z)) _ (λ z. omega (arith, z)) (λ z. omega (arith, z)) c.read_number_up_to-in_default.ensures
+returns-in_default c =
+    laws.value-colour _ _ _ _ (λ z. omega (arith, z)) _ (λ z. omega (arith, z)) (λ z. omega (arith, z)) (λ z. omega (arith, z)) c.read_number_up_to-in_default.ensures
