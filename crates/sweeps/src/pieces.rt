@@ -144,7 +144,7 @@ fn test_met(compiled: &[u8], at: usize, element: &Handed<'_>) -> Option<Met>
 }
 
 // The component at `at` for the element of a row, or for the document. Where the tests so far have failed, a test need not be carried out.
-// (A part of each loop that asks it, and so is `test_met`: calls would cost a run over a typical page a fortieth of its instructions more.)
+// (A part of each loop that asks it, and so is `test_met`: as calls they took a run over a typical page some 15 in a thousand of its instructions more.)
 #[inline(always)]
 pub fn read_met(row: &Row<'_>, at: usize, ok: bool) -> Option<Met>
     ensures { result ≡ met_at row.now.compiled.now (row_alone row.now.element) ok at }
