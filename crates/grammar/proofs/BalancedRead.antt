@@ -10,7 +10,7 @@ use Rattle.combinators.specs.Ascii as ascii
 use Rattle.combinators.specs.Choice.{pick, and, is}
 use Rattle.combinators.specs.Parsed.{Parsed, ok}
 use Rattle.combinators.proofs.Rules.{never}
-use Rattle.lexer.specs.Token.{Token, token_of, start_of}
+use Rattle.lexer.specs.Token.{Token, token_of}
 use Rattle.lexer.specs.Token as tokens
 use Rattle.lexer.specs.Whitespace.{whitespace_item}
 use Rattle.lexer.proofs.TokenBounds.{token-fits}
@@ -402,14 +402,14 @@ module _ (include calm : Bool) (base : List ℕ) (z : List ℕ) (hz : Halts z) (
       k : Clear (plain x e v)
       k = first-clear calm (plain x e v) fs c
 
-      begins : (n : ℕ) (j : Token) → tokens.token_by (start_of x) 1 x (written_balanced (plain x e v) ++ after fs z) ≡ ok n j → Begins (written_balanced (plain x e v) ++ after fs z) n j
+      begins : (n : ℕ) (j : Token) → tokens.token_with 1 x (written_balanced (plain x e v) ++ after fs z) ≡ ok n j → Begins (written_balanced (plain x e v) ++ after fs z) n j
       begins n j q = plain-begins n j (there-item (after fs z) ha x e v k) q
         where
           plain-begins : (n : ℕ) (j : Token) → whitespace_item (written_balanced (plain x e v) ++ after fs z) ≡ 0
-              → tokens.token_by (start_of x) 1 x (written_balanced (plain x e v) ++ after fs z) ≡ ok n j → Begins (written_balanced (plain x e v) ++ after fs z) n j
+              → tokens.token_with 1 x (written_balanced (plain x e v) ++ after fs z) ≡ ok n j → Begins (written_balanced (plain x e v) ++ after fs z) n j
           plain-begins n j i q = unfold written_balanced in begins-by x (written_balanced v ++ after fs z) n j i (omega (arith, (plain_byte x e).high)) q
 
-      by_token : (p : Parsed Token) → tokens.token_by (start_of x) 1 x (written_balanced (plain x e v) ++ after fs z) ≡ p → TokenIn (plain x e v) (after fs z) p
+      by_token : (p : Parsed Token) → tokens.token_with 1 x (written_balanced (plain x e v) ++ after fs z) ≡ p → TokenIn (plain x e v) (after fs z) p
           → Through include calm (b.bytes ++ (written_balanced (plain x e v) ++ after fs z)) z at (stack base fs) base
       by_token _ q tokenless = absurd (start-some (after fs z) ha x e v k q)
       by_token _ q (token n j y f) =

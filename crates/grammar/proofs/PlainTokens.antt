@@ -27,9 +27,7 @@ use Rattle.std.specs.Prelude.{Option, None}
 use Rattle.lexer.specs.Name.{is_nmstart, is_nmchar, folded_char, ident_escape_of, escaped_of, nmstart_of, nmchar_of, char_taken, chars_end, chars_text, chars_of, lower, name_from, dash, name_of, ident_of, identstring_of}
 use Rattle.lexer.specs.Number.{is_digit, one_digit, digits}
 use Rattle.lexer.specs.Number as numbers
-use Rattle.lexer.specs.declared.tokens.Start.{Start}
-use Rattle.lexer.specs.declared.tokens.Start.TheVariants.{Quote, Hash, Plus, Minus, Dot, Less, Backslash, Letter, Digit, Other}
-use Rattle.lexer.specs.Token.{Token, start_of, is_ident_start, is_quote, numeric_from, numeric_of, ident_like_of}
+use Rattle.lexer.specs.Token.{Token, is_ident_start, is_quote, numeric_from, numeric_of, ident_like_of}
 use Rattle.lexer.specs.Token as tokens
 use Rattle.lexer.specs.Whitespace.{is_whitespace, comment_end, comment_of, whitespace_item, skip_whitespace}
 use Rattle.lexer.proofs.Comments.{above-space}
@@ -922,26 +920,23 @@ module _ (t : List ℕ) (h : Halts t) (x : ℕ) (e : is_plain x ≡ true) (v : B
       no-mark = let m = marks clear_behind.0 in unfold written_balanced in no-cdo x (written_balanced v) t m.0 m.1 q h
 
   -- what the token takes, by the reader that its first character selects
-  abbrev By : Start → Type 0
-  By s = TokenIn (plain x e v) t (tokens.token_by s 1 x text-here)
-
-  -- by the reader that it selects
-  pub start-in : TokenIn (plain x e v) t (tokens.token_by (start_of x) 1 x text-here)
-  unfolding start_of is_quote
+  pub start-in : TokenIn (plain x e v) t (tokens.token_with 1 x text-here)
+  unfolding tokens.token_with is_quote
   start-in =
       let p = plain_byte x e in
-      pick-holds By (or (is x ascii.quotation_mark) (is x ascii.apostrophe)) Quote _ (λ q. never (sym (or-none _ _ p.no-double p.no-single) ∙ q))
-      (λ _. pick-holds By (is x ascii.number_sign) Hash _ (λ q. unfold tokens.token_by in hash-in t h x e v clear_behind.1)
-      (λ _. pick-holds By (is x ascii.plus_sign) Plus _ (λ q. plus-in)
-      (λ _. pick-holds By (is x ascii.hyphen_minus) Minus _ (λ q. unfold tokens.token_by in minus-in)
-      (λ _. pick-holds By (is x ascii.full_stop) Dot _ (λ q. unfold tokens.token_by in else-in t h (plain x e v) _ _ (numeric-in t h (plain x e v) c) (delim-in t h x e v))
-      (λ _. pick-holds By (is x ascii.less_than_sign) Less _ (λ q. unfold tokens.token_by in less-in q)
-      (λ _. pick-holds By (is x ascii.reverse_solidus) Backslash _ (λ q. never (sym p.no-escape ∙ q))
-      (λ _. pick-holds By (is_ident_start x) Letter _ (λ q. unfold tokens.token_by in like-in t h (plain x e v) c)
-      (λ _. pick-holds By (is_digit x) Digit Other (λ q. unfold tokens.token_by in numeric-in t h (plain x e v) c) (λ q. unfold tokens.token_by in mark-in t h x e v)))))))))
+      let By : Parsed Token → Type 0 = TokenIn (plain x e v) t in
+      pick-holds By (or (is x ascii.quotation_mark) (is x ascii.apostrophe)) _ _ (λ q. never (sym (or-none _ _ p.no-double p.no-single) ∙ q))
+      (λ _. pick-holds By (is x ascii.number_sign) _ _ (λ q. hash-in t h x e v clear_behind.1)
+      (λ _. pick-holds By (is x ascii.plus_sign) _ _ (λ q. plus-in)
+      (λ _. pick-holds By (is x ascii.hyphen_minus) _ _ (λ q. minus-in)
+      (λ _. pick-holds By (is x ascii.full_stop) _ _ (λ q. else-in t h (plain x e v) _ _ (numeric-in t h (plain x e v) c) (delim-in t h x e v))
+      (λ _. pick-holds By (is x ascii.less_than_sign) _ _ (λ q. less-in q)
+      (λ _. pick-holds By (is x ascii.reverse_solidus) _ _ (λ q. never (sym p.no-escape ∙ q))
+      (λ _. pick-holds By (is_ident_start x) _ _ (λ q. like-in t h (plain x e v) c)
+      (λ _. pick-holds By (is_digit x) _ _ (λ q. numeric-in t h (plain x e v) c) (λ q. mark-in t h x e v)))))))))
     where
-      plus-in : TokenIn (plain x e v) t (tokens.token_by Plus 1 x text-here)
-      plus-in = unfold tokens.token_by tokens.plus_of written_balanced in else-in t h (plain x e v) _ _ (behind-one t h x e v _ (numeric-in t h v clear_behind.1)) (delim-in t h x e v)
+      plus-in : TokenIn (plain x e v) t (tokens.plus_of x text-here)
+      plus-in = unfold tokens.plus_of written_balanced in else-in t h (plain x e v) _ _ (behind-one t h x e v _ (numeric-in t h v clear_behind.1)) (delim-in t h x e v)
 
 -- ---- which is one
 -- what is read is read
@@ -1046,31 +1041,31 @@ module _ (t : List ℕ) (h : Halts t) (x : ℕ) (e : is_plain x ≡ true) (v : B
   unfolding written_balanced
   digit-there q = numeric-some (x ∷ (written_balanced v ++ t)) (digit-some x (written_balanced v ++ t) there-item q)
 
-  -- so every reader reads
-  abbrev Some : Start → Type 0
-  Some s = ¬ (tokens.token_by s 1 x text-there ≡ err)
+  -- something is read
+  abbrev Some : Parsed Token → Type 0
+  Some p = ¬ (p ≡ err)
 
   -- so a plain character begins a token, whichever reader it selects
-  pub start-some : Some (start_of x)
-  unfolding start_of is_quote
+  pub start-some : Some (tokens.token_with 1 x text-there)
+  unfolding tokens.token_with is_quote
   start-some =
       let p = plain_byte x e in
-      pick-holds Some (or (is x ascii.quotation_mark) (is x ascii.apostrophe)) Quote _ (λ q. never (sym (or-none _ _ p.no-double p.no-single) ∙ q))
-      (λ _. pick-holds Some (is x ascii.number_sign) Hash _ (λ q. unfold tokens.token_by tokens.hash_of in name-some-read (identstring_of (drop 1 text-there)) _ _ (λ n b. some_read _ _) (some_read _ _))
-      (λ _. pick-holds Some (is x ascii.plus_sign) Plus _ (λ q. unfold tokens.token_by tokens.plus_of in else-some _ 1 (tokens.delim x))
-      (λ d. pick-holds Some (is x ascii.hyphen_minus) Minus _ (λ q. minus-some)
-      (λ m. pick-holds Some (is x ascii.full_stop) Dot _ (λ q. unfold tokens.token_by in else-some _ 1 (tokens.delim x))
-      (λ _. pick-holds Some (is x ascii.less_than_sign) Less _ (λ q. less-some)
-      (λ _. pick-holds Some (is x ascii.reverse_solidus) Backslash _ (λ q. never (sym p.no-escape ∙ q))
-      (λ _. pick-holds Some (is_ident_start x) Letter _ (λ q. unfold tokens.token_by in letter-there q m)
-      (λ _. pick-holds Some (is_digit x) Digit Other (λ q. unfold tokens.token_by in digit-there q) (λ q. unfold tokens.token_by in some_read 1 (tokens.mark_of x))))))))))
+      pick-holds Some (or (is x ascii.quotation_mark) (is x ascii.apostrophe)) _ _ (λ q. never (sym (or-none _ _ p.no-double p.no-single) ∙ q))
+      (λ _. pick-holds Some (is x ascii.number_sign) (tokens.hash_of x text-there) _ (λ q. unfold tokens.hash_of in name-some-read (identstring_of (drop 1 text-there)) _ _ (λ n b. some_read _ _) (some_read _ _))
+      (λ _. pick-holds Some (is x ascii.plus_sign) (tokens.plus_of x text-there) _ (λ q. unfold tokens.plus_of in else-some _ 1 (tokens.delim x))
+      (λ d. pick-holds Some (is x ascii.hyphen_minus) _ _ (λ q. minus-some)
+      (λ m. pick-holds Some (is x ascii.full_stop) _ _ (λ q. else-some _ 1 (tokens.delim x))
+      (λ _. pick-holds Some (is x ascii.less_than_sign) _ _ (λ q. less-some)
+      (λ _. pick-holds Some (is x ascii.reverse_solidus) _ _ (λ q. never (sym p.no-escape ∙ q))
+      (λ _. pick-holds Some (is_ident_start x) _ _ (λ q. letter-there q m)
+      (λ _. pick-holds Some (is_digit x) _ _ (λ q. digit-there q) (λ q. some_read 1 (tokens.mark_of x))))))))))
     where
       else-second : (p q : Parsed Token) → ¬ (q ≡ err) → ¬ (or_else p q ≡ err)
       else-second (ok n k) q d = unfold or_else in some_read n k
       else-second err q d = unfold or_else in d
 
-      less-some : Some Less
-      less-some = unfold tokens.token_by tokens.less_of in pick_some (starts_with tokens.cdo_mark text-there) _ _ (some_read 4 tokens.cdo) (some_read 1 (tokens.delim x))
+      less-some : Some (tokens.less_of x text-there)
+      less-some = unfold tokens.less_of in pick_some (starts_with tokens.cdo_mark text-there) _ _ (some_read 4 tokens.cdo) (some_read 1 (tokens.delim x))
 
-      minus-some : Some Minus
-      minus-some = unfold tokens.token_by tokens.minus_of in else-second _ _ (pick_some (starts_with tokens.cdc_mark text-there) _ _ (some_read 3 tokens.cdc) (else-some _ 1 (tokens.delim x)))
+      minus-some : Some (tokens.minus_of x text-there)
+      minus-some = unfold tokens.minus_of in else-second _ _ (pick_some (starts_with tokens.cdc_mark text-there) _ _ (some_read 3 tokens.cdc) (else-some _ 1 (tokens.delim x)))

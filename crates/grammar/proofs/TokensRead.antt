@@ -26,11 +26,8 @@ use Rattle.lexer.specs.Name.{is_nmstart, is_nmchar, lower, nmstart_of, nmchar_of
 use Rattle.lexer.specs.Number.{is_digit, one_digit, digits}
 use Rattle.lexer.specs.Number as numbers
 use Rattle.lexer.specs.Token as tokens
-use Rattle.lexer.specs.Token.{Token, numeric_from, numeric_of, ident_like_of, is_quote, string_of, first_above_u0080, is_ident_start, start_of, mark_of, hash_of, plus_of, minus_of, less_of, token_by, token_at, token_of}
+use Rattle.lexer.specs.Token.{Token, numeric_from, numeric_of, ident_like_of, is_quote, string_of, first_above_u0080, is_ident_start, mark_of, hash_of, plus_of, minus_of, less_of, token_with, token_at, token_of}
 use Rattle.lexer.specs.Whitespace.{is_whitespace, comment_of, whitespace_item, skip_whitespace}
-use Rattle.lexer.specs.declared.tokens.Start.{Start}
-use Rattle.lexer.specs.declared.tokens.Start.TheVariants.{Quote, Letter, Digit, Other}
-use Rattle.lexer.proofs.Starts.{by-start}
 use Rattle.lexer.proofs.SyntaxName.{Each, none, more, IdentSequence, started, dashed, ident_start, ident_code_point, letter, start-code-point, code-point-item, hyphen-code-point, ident-sequence, start_is, code-point-is}
 use Rattle.lexer.proofs.SyntaxWhitespace.{skips-blank}
 use Rattle.lexer.proofs.SyntaxWhitespace as blanks
@@ -62,10 +59,10 @@ module _ (b : Blanks) (t : List ℕ) (n : ℕ) (k : Token) (h : Begins t n k) wh
   unfolding token_of behind
   token-read = rw (token-skips, drop-append_seam b.bytes t, h.reads)
 
--- the reader that it selects
-pub begins-by : (x : ℕ) (l : List ℕ) (n : ℕ) (k : Token) → whitespace_item (x ∷ l) ≡ 0 → x ≤ 0x7f → token_by (start_of x) 1 x (x ∷ l) ≡ ok n k → Begins (x ∷ l) n k
+-- what the reader reads that its first byte selects, where that is of ASCII
+pub begins-by : (x : ℕ) (l : List ℕ) (n : ℕ) (k : Token) → whitespace_item (x ∷ l) ≡ 0 → x ≤ 0x7f → token_with 1 x (x ∷ l) ≡ ok n k → Begins (x ∷ l) n k
 unfolding token_at
-begins-by x l n k e h p = record { item = e; reads = rw (ascii-read x l h, by-start 1 x (x ∷ l), p) }
+begins-by x l n k e h p = record { item = e; reads = rw (ascii-read x l h, p) }
 
 -- ---- names: 4.3.4, Consume an ident-like token
 -- no mark is an ident-start code point
@@ -89,9 +86,9 @@ unfolding ident_start letter is_ident_start
 crate-start x e = or-among _ _ _ _ e
 
 -- an ident-start code point selects the reader of names
-start-letter : (x : ℕ) → ident_start x ≡ true → start_of x ≡ Letter
-unfolding start_of is_quote pick or
-start-letter x e =
+start-letter : (x : ℕ) (l : List ℕ) → ident_start x ≡ true → token_with 1 x l ≡ ident_like_of l
+unfolding token_with is_quote pick or
+start-letter x l e =
     rw (
       differs ident_start x ascii.quotation_mark e start-marks.0,
       differs ident_start x ascii.apostrophe e start-marks.1,
@@ -133,12 +130,11 @@ dashed-number x l e =
 
 -- what an ident-start code point begins is what the reader of names reads
 letter-begins : (x : ℕ) (l : List ℕ) (n : ℕ) (k : Token) → ident_start x ≡ true → ident_like_of (x ∷ l) ≡ ok n k → Begins (x ∷ l) n k
-unfolding token_by
-letter-begins x l n k e p = begins-by x l n k (code-point-item x l (start-code-point x e)) (start_between x e).0 (rw (start-letter x e, p))
+letter-begins x l n k e p = begins-by x l n k (code-point-item x l (start-code-point x e)) (start_between x e).0 (start-letter x (x ∷ l) e ∙ p)
 
 -- and so is what a '-' begins before one
 dash-begins : (x : ℕ) (l : List ℕ) (n : ℕ) (k : Token) → ident_start x ≡ true → ident_like_of (ascii.hyphen_minus ∷ x ∷ l) ≡ ok n k → Begins (ascii.hyphen_minus ∷ x ∷ l) n k
-unfolding token_by start_of is_quote minus_of or_else starts_with pick or and is
+unfolding token_with is_quote minus_of or_else starts_with pick or and is
 dash-begins x l n k e p =
     begins-by ascii.hyphen_minus (x ∷ l) n k (code-point-item ascii.hyphen_minus (x ∷ l) hyphen-code-point) (omega arith)
     (rw (dashed-number x l e, differs ident_start x ascii.hyphen_minus e start-marks.4, p))
@@ -228,7 +224,7 @@ hash-named h t e =
 
 -- behind '#' the characters of a name are a hash
 hash-begins : (l : List ℕ) (m : ℕ) (b : List ℕ) → identstring_of l ≡ ok m b → Begins (ascii.number_sign ∷ l) (1 + m) (tokens.hash b)
-unfolding whitespace_item is_whitespace comment_of token_by start_of is_quote hash_of on_parsed pick or is
+unfolding whitespace_item is_whitespace comment_of token_with is_quote hash_of on_parsed pick or is
 hash-begins l m b p = begins-by ascii.number_sign l (1 + m) (tokens.hash b) refl (omega arith) (rw p)
 
 -- "If the next input code point is an ident code point ..: Consume an ident sequence, and set the <hash-token>'s value to the returned string"
@@ -250,27 +246,21 @@ unfolding is_digit ident_code_point
 ended-digit x e = (neither _ _ (neither _ _ e).1).0
 
 -- ---- strings: 4.3.5, Consume a string token
--- what a first byte says of a text: the reader that it selects, that it is of ASCII, and that it begins no white space
-abbrev Selects : Start → ℕ → Type 0
-Selects s x = (start_of x ≡ s) × (x ≤ 0x7f) × ((l : List ℕ) → whitespace_item (x ∷ l) ≡ 0)
+-- neither quote begins white space
+quote-unblank : Unblank is_quote
+unfolding is_quote or is
+quote-unblank = record { of_space = refl; of-tab = refl; of-line-feed = refl; of-carriage-return = refl; of-form-feed = refl; of-solidus = refl }
 
--- both quotes select the reader of strings
-quotes-select : Selects Quote ascii.quotation_mark × Selects Quote ascii.apostrophe
-unfolding start_of is_quote whitespace_item is_whitespace comment_of pick or is
-quotes-select = ((refl, omega arith, λ l. refl), (refl, omega arith, λ l. refl))
-
--- and so does what the reader calls a quote
-quote-selects : (q : ℕ) → is_quote q ≡ true → Selects Quote q
+-- both are of ASCII
+quote-low : (q : ℕ) → is_quote q ≡ true → q ≤ 0x7f
 unfolding is_quote
-quote-selects q e =
-    either (Selects Quote q) _ _ e
-    (λ w. subst (Selects Quote) (sym (is_true q ascii.quotation_mark w)) quotes-select.0)
-    (λ w. subst (Selects Quote) (sym (is_true q ascii.apostrophe w)) quotes-select.1)
+quote-low q e =
+    either (q ≤ 0x7f) _ _ e (λ w. let h = is_true q ascii.quotation_mark w in omega arith) (λ w. let h = is_true q ascii.apostrophe w in omega arith)
 
--- what it begins is a string
+-- what a quote begins is a string
 quote-begins : (q : ℕ) (l : List ℕ) (n : ℕ) (k : Token) → is_quote q ≡ true → string_of (q ∷ l) ≡ ok n k → Begins (q ∷ l) n k
-unfolding token_by
-quote-begins q l n k e p = let s = quote-selects q e in begins-by q l n k (s.2 l) s.1 (rw (s.0, p))
+unfolding token_with pick
+quote-begins q l n k e p = begins-by q l n k (unblank-item is_quote quote-unblank (q ∷ l) e) (quote-low q e) (rw (e, p))
 
 -- "ending code point: Return the <string-token>"
 pub string-token : (q : Quoted) (t : List ℕ) → Begins (q.quote ∷ (q.bytes ++ (q.quote ∷ t))) (1 + length q.bytes + 1) (tokens.string q.body)
@@ -466,9 +456,9 @@ digit-below x e =
     )
 
 -- so it selects the reader of numbers
-digit-start : (x : ℕ) → is_digit x ≡ true → start_of x ≡ Digit
-unfolding start_of is_quote pick or
-digit-start x e =
+digit-start : (x : ℕ) (l : List ℕ) → is_digit x ≡ true → token_with 1 x l ≡ numeric_of l
+unfolding token_with is_quote pick or
+digit-start x l e =
     rw (
       differs is_digit x ascii.quotation_mark e digit-marks.0,
       differs is_digit x ascii.apostrophe e digit-marks.1,
@@ -484,12 +474,11 @@ digit-start x e =
 
 -- what a digit begins is a number
 digit-begins : (x : ℕ) (l : List ℕ) (n : ℕ) (k : Token) → is_digit x ≡ true → numeric_of (x ∷ l) ≡ ok n k → Begins (x ∷ l) n k
-unfolding token_by
-digit-begins x l n k e p = begins-by x l n k (code-point-item x l (digit-code-point x e)) (digit-below x e).0 (rw (digit-start x e, p))
+digit-begins x l n k e p = begins-by x l n k (code-point-item x l (digit-code-point x e)) (digit-below x e).0 (digit-start x (x ∷ l) e ∙ p)
 
 -- and so is what a full stop begins, where a number is read there
 stop-begins : (l : List ℕ) (n : ℕ) (k : Token) → numeric_of (ascii.full_stop ∷ l) ≡ ok n k → Begins (ascii.full_stop ∷ l) n k
-unfolding whitespace_item is_whitespace comment_of token_by start_of is_quote or_else pick or is
+unfolding whitespace_item is_whitespace comment_of token_with is_quote or_else pick or is
 stop-begins l n k p = begins-by ascii.full_stop l n k refl (omega arith) (rw p)
 
 -- a number without a sign, by what it begins with
@@ -501,12 +490,12 @@ unsigned-begins false _ u n k (more {x} {r} e es) l p = digit-begins x (r ++ u) 
 
 -- behind a '+' the reader starts anew, and drops it
 plus-begins : (l : List ℕ) (n : ℕ) (k : Token) → numeric_of l ≡ ok n k → Begins (ascii.plus_sign ∷ l) (1 + n) k
-unfolding whitespace_item is_whitespace comment_of token_by start_of is_quote plus_of or_else behind pick or is
+unfolding whitespace_item is_whitespace comment_of token_with is_quote plus_of or_else behind pick or is
 plus-begins l n k p = begins-by ascii.plus_sign l (1 + n) k refl (omega arith) (rw p)
 
 -- a '-' is read with the number
 minus-begins : (l : List ℕ) (n : ℕ) (k : Token) → numeric_of (ascii.hyphen_minus ∷ l) ≡ ok n k → Begins (ascii.hyphen_minus ∷ l) n k
-unfolding token_by start_of is_quote minus_of or_else pick or is
+unfolding token_with is_quote minus_of or_else pick or is
 minus-begins l n k p = begins-by ascii.hyphen_minus l n k (code-point-item ascii.hyphen_minus l hyphen-code-point) (omega arith) (rw p)
 
 -- with a sign or none, by its parts
@@ -599,61 +588,57 @@ name-item n t = by-start n.bytes n.sequence
     by-start _ (dashed {x} {r} e s) = code-point-item ascii.hyphen_minus (x ∷ (r ++ t)) hyphen-code-point
 
 -- ---- code points that are tokens by themselves: 4.3.1, Consume a token
--- what selects no other reader is a mark or a delimiter
-mark-begins : (x : ℕ) (l : List ℕ) → whitespace_item (x ∷ l) ≡ 0 → x ≤ 0x7f → start_of x ≡ Other → Begins (x ∷ l) 1 (mark_of x)
-mark-begins x l e h s = begins-by x l 1 (mark_of x) e h (unfold token_by in rw s)
-
 -- a comma is a token of one byte
 pub comma-token : (t : List ℕ) → Begins (ascii.comma ∷ t) 1 tokens.comma
-unfolding whitespace_item is_whitespace comment_of start_of is_quote is_ident_start is_digit mark_of pick or and within is
-comma-token t = mark-begins ascii.comma t refl (omega arith) refl
+unfolding whitespace_item is_whitespace comment_of token_with is_quote is_ident_start is_digit mark_of pick or and within is
+comma-token t = begins-by ascii.comma t 1 _ refl (omega arith) refl
 
 -- a colon is a token of one byte
 pub colon-token : (t : List ℕ) → Begins (ascii.colon ∷ t) 1 tokens.colon
-unfolding whitespace_item is_whitespace comment_of start_of is_quote is_ident_start is_digit mark_of pick or and within is
-colon-token t = mark-begins ascii.colon t refl (omega arith) refl
+unfolding whitespace_item is_whitespace comment_of token_with is_quote is_ident_start is_digit mark_of pick or and within is
+colon-token t = begins-by ascii.colon t 1 _ refl (omega arith) refl
 
 -- a semicolon is a token of one byte
 pub semicolon-token : (t : List ℕ) → Begins (ascii.semicolon ∷ t) 1 tokens.semicolon
-unfolding whitespace_item is_whitespace comment_of start_of is_quote is_ident_start is_digit mark_of pick or and within is
-semicolon-token t = mark-begins ascii.semicolon t refl (omega arith) refl
+unfolding whitespace_item is_whitespace comment_of token_with is_quote is_ident_start is_digit mark_of pick or and within is
+semicolon-token t = begins-by ascii.semicolon t 1 _ refl (omega arith) refl
 
 -- what opens a block: a round bracket
 pub round-token : (t : List ℕ) → Begins (ascii.left_parenthesis ∷ t) 1 tokens.open_round
-unfolding whitespace_item is_whitespace comment_of start_of is_quote is_ident_start is_digit mark_of pick or and within is
-round-token t = mark-begins ascii.left_parenthesis t refl (omega arith) refl
+unfolding whitespace_item is_whitespace comment_of token_with is_quote is_ident_start is_digit mark_of pick or and within is
+round-token t = begins-by ascii.left_parenthesis t 1 _ refl (omega arith) refl
 
 -- an opening square bracket is a token of one byte
 pub square-token : (t : List ℕ) → Begins (ascii.left_square_bracket ∷ t) 1 tokens.open_square
-unfolding whitespace_item is_whitespace comment_of start_of is_quote is_ident_start is_digit mark_of pick or and within is
-square-token t = mark-begins ascii.left_square_bracket t refl (omega arith) refl
+unfolding whitespace_item is_whitespace comment_of token_with is_quote is_ident_start is_digit mark_of pick or and within is
+square-token t = begins-by ascii.left_square_bracket t 1 _ refl (omega arith) refl
 
 -- an opening brace is a token of one byte
 pub brace-token : (t : List ℕ) → Begins (ascii.left_curly_bracket ∷ t) 1 tokens.open_brace
-unfolding whitespace_item is_whitespace comment_of start_of is_quote is_ident_start is_digit mark_of pick or and within is
-brace-token t = mark-begins ascii.left_curly_bracket t refl (omega arith) refl
+unfolding whitespace_item is_whitespace comment_of token_with is_quote is_ident_start is_digit mark_of pick or and within is
+brace-token t = begins-by ascii.left_curly_bracket t 1 _ refl (omega arith) refl
 
 -- the byte that closes it
 pub closer-token : (o : Opening) (t : List ℕ) → Begins (closer o ∷ t) 1 (means_closer o)
-unfolding closer means_closer whitespace_item is_whitespace comment_of start_of is_quote is_ident_start is_digit mark_of pick or and within is
-closer-token (function n d) t = mark-begins ascii.right_parenthesis t refl (omega arith) refl
-closer-token round t = mark-begins ascii.right_parenthesis t refl (omega arith) refl
-closer-token square t = mark-begins ascii.right_square_bracket t refl (omega arith) refl
-closer-token brace t = mark-begins ascii.right_curly_bracket t refl (omega arith) refl
+unfolding closer means_closer whitespace_item is_whitespace comment_of token_with is_quote is_ident_start is_digit mark_of pick or and within is
+closer-token (function n d) t = begins-by ascii.right_parenthesis t 1 _ refl (omega arith) refl
+closer-token round t = begins-by ascii.right_parenthesis t 1 _ refl (omega arith) refl
+closer-token square t = begins-by ascii.right_square_bracket t 1 _ refl (omega arith) refl
+closer-token brace t = begins-by ascii.right_curly_bracket t 1 _ refl (omega arith) refl
 
 -- "If the next 3 input code points are U+0021 EXCLAMATION MARK U+002D HYPHEN-MINUS U+002D HYPHEN-MINUS (!--), consume them and return a <CDO-token>"
 pub cdo-token : (t : List ℕ) → Begins (tokens.cdo_mark ++ t) 4 tokens.cdo
-unfolding whitespace_item is_whitespace comment_of token_by start_of is_quote less_of starts_with pick or and is
+unfolding whitespace_item is_whitespace comment_of token_with is_quote less_of starts_with pick or and is
 cdo-token t = begins-by ascii.less_than_sign (ascii.exclamation_mark ∷ ascii.hyphen_minus ∷ ascii.hyphen_minus ∷ t) 4 tokens.cdo refl (omega arith) refl
 
 -- "if the next 2 input code points are U+002D HYPHEN-MINUS U+003E GREATER-THAN SIGN (->), consume them and return a <CDC-token>"
 pub cdc-token : (t : List ℕ) → Begins (tokens.cdc_mark ++ t) 3 tokens.cdc
-unfolding whitespace_item is_whitespace comment_of token_by start_of is_quote minus_of numeric_of numbers.number numbers.signed numbers.sign numbers.unsigned numbers.decimal digits one_digit is_digit skip_whitespace many took or_else starts_with pick or and within is
+unfolding whitespace_item is_whitespace comment_of token_with is_quote minus_of numeric_of numbers.number numbers.signed numbers.sign numbers.unsigned numbers.decimal digits one_digit is_digit skip_whitespace many took or_else starts_with pick or and within is
 cdc-token t = begins-by ascii.hyphen_minus (ascii.hyphen_minus ∷ ascii.greater_than_sign ∷ t) 3 tokens.cdc refl (omega arith) refl
 
--- a delimiter is of ASCII, selects no other reader, is no mark and no white space
+-- a delimiter is of ASCII, is a token by itself, and is no white space
 abbrev Plain : ℕ → Type 0
-Plain c = (c ≤ 0x7f) × (start_of c ≡ Other) × (mark_of c ≡ tokens.delim c) × (is_whitespace c ≡ false)
+Plain c = (c ≤ 0x7f) × ((t : List ℕ) → token_with 1 c t ≡ ok 1 (tokens.delim c)) × (is_whitespace c ≡ false)
 
 -- what holds of every number of a list
 unfoldable Every : (ℕ → Type 0) → List ℕ → Type 0
@@ -668,10 +653,10 @@ every P c (k ∷ ks) h e = either (P c) _ _ e (λ w. subst P (sym (is_true c k w
 
 -- so it does of each delimiter
 delimiter-plain : (c : ℕ) → is_delimiter c ≡ true → Plain c
-unfolding is_delimiter Every text utf8 pick start_of is_quote is_ident_start is_digit is_whitespace mark_of or and within is
+unfolding is_delimiter Every text utf8 pick token_with is_quote is_ident_start is_digit is_whitespace mark_of or and within is
 delimiter-plain c e =
     every Plain c (text "!$%&*/=>?^`|~")
-    ((omega arith, refl, refl, refl), ((omega arith, refl, refl, refl), ((omega arith, refl, refl, refl), ((omega arith, refl, refl, refl), ((omega arith, refl, refl, refl), ((omega arith, refl, refl, refl), ((omega arith, refl, refl, refl), ((omega arith, refl, refl, refl), ((omega arith, refl, refl, refl), ((omega arith, refl, refl, refl), ((omega arith, refl, refl, refl), ((omega arith, refl, refl, refl), ((omega arith, refl, refl, refl), tt))))))))))))) e
+    ((omega arith, λ t. refl, refl), ((omega arith, λ t. refl, refl), ((omega arith, λ t. refl, refl), ((omega arith, λ t. refl, refl), ((omega arith, λ t. refl, refl), ((omega arith, λ t. refl, refl), ((omega arith, λ t. refl, refl), ((omega arith, λ t. refl, refl), ((omega arith, λ t. refl, refl), ((omega arith, λ t. refl, refl), ((omega arith, λ t. refl, refl), ((omega arith, λ t. refl, refl), ((omega arith, λ t. refl, refl), tt))))))))))))) e
 
 -- a comment takes a solidus and an asterisk
 by-solidus : (a b : Bool) (n : ℕ) → and a b ≡ false → pick a (pick b n 0) 0 ≡ 0
@@ -689,7 +674,7 @@ pub delim-token : (c : ℕ) (d : is_delimiter c ≡ true) (t : List ℕ) → End
 unfolding may_follow
 delim-token c d t e =
     let p = delimiter-plain c d in
-    subst (λ (k : Token). Begins (c ∷ t) 1 k) p.2 (mark-begins c t (no-comment c t p.3 (not-true _ e)) p.0 p.1)
+    begins-by c t 1 (tokens.delim c) (no-comment c t p.2 (not-true _ e)) p.0 (p.1 (c ∷ t))
 
 -- a full stop begins no number where no digit follows
 stop-none : (t : List ℕ) → is_digit (get_or t 0 0) ≡ false → numeric_of (ascii.full_stop ∷ t) ≡ err
@@ -698,7 +683,7 @@ stop-none t e = rw (stop-digits t, digits-read none t e)
 
 -- "If the input stream starts with a number ..; otherwise, return a <delim-token>": U+002E FULL STOP
 pub point-token : (t : List ℕ) → is_digit (get_or t 0 0) ≡ false → Begins (ascii.full_stop ∷ t) 1 (tokens.delim ascii.full_stop)
-unfolding whitespace_item is_whitespace comment_of token_by start_of is_quote or_else pick or is
+unfolding whitespace_item is_whitespace comment_of token_with is_quote or_else pick or is
 point-token t e = begins-by ascii.full_stop t 1 (tokens.delim ascii.full_stop) refl (omega arith) (rw (stop-none t e))
 
 -- no name begins with a '-' that nothing of a name follows
@@ -723,8 +708,8 @@ hyphen-token t h e =
     (by-minus t (minus-none t (ended-digit _ h.no-character) e) (hyphen-unmarked t h) (hyphen-unnamed t h))
   where
     by-minus : (t : List ℕ) → numeric_of (ascii.hyphen_minus ∷ t) ≡ err → starts_with tokens.cdc_mark (ascii.hyphen_minus ∷ t) ≡ false → ident_like_of (ascii.hyphen_minus ∷ t) ≡ err
-        → token_by (start_of ascii.hyphen_minus) 1 ascii.hyphen_minus (ascii.hyphen_minus ∷ t) ≡ ok 1 (tokens.delim ascii.hyphen_minus)
-    by-minus t p q r = unfold token_by start_of is_quote minus_of or_else pick or is in rw (p, q, r)
+        → token_with 1 ascii.hyphen_minus (ascii.hyphen_minus ∷ t) ≡ ok 1 (tokens.delim ascii.hyphen_minus)
+    by-minus t p q r = unfold token_with is_quote minus_of or_else pick or is in rw (p, q, r)
 
 -- nothing is signed where no sign and no number stands
 unsigned-none : (s : List ℕ) → numbers.unsigned s ≡ 0 → is (get_or s 0 0) ascii.hyphen_minus ≡ false → is (get_or s 0 0) ascii.plus_sign ≡ false → numbers.signed s ≡ 0
@@ -747,7 +732,7 @@ no_number t e = rw (signed-none (drop (skip_whitespace t) t) (ap begins_number (
 
 -- "Otherwise, return a <delim-token>": U+002B PLUS SIGN
 pub addition-token : (t : List ℕ) → begins_number (get_or t (skip_whitespace t) 0) ≡ false → Begins (ascii.plus_sign ∷ t) 1 (tokens.delim ascii.plus_sign)
-unfolding whitespace_item is_whitespace comment_of token_by start_of is_quote plus_of or_else behind pick or is
+unfolding whitespace_item is_whitespace comment_of token_with is_quote plus_of or_else behind pick or is
 addition-token t e = begins-by ascii.plus_sign t 1 (tokens.delim ascii.plus_sign) refl (omega arith) (rw (no_number t e))
 
 -- ---- all of them

@@ -12,11 +12,8 @@ use Rattle.combinators.specs.declared.taken.Taken.{Taken}
 use Rattle.characters.proofs.RoundTrip.{written_back}
 use Rattle.lexer.specs.Whitespace.{skip_whitespace}
 use Rattle.lexer.specs.Name.{ident_of, identstring_of}
-use Rattle.lexer.specs.Token.{Token, delim, numeric_from, numeric_of, ident_like_of, string_from, string_of, start_of, mark_of, hash_of, plus_of, minus_of, less_of, token_by, token_at, token_of}
-use Rattle.lexer.specs.declared.tokens.Start.{Start}
-use Rattle.lexer.specs.declared.tokens.Start.TheVariants.{Quote, Hash, Plus, Minus, Dot, Less, Backslash, Letter, Digit, Other}
+use Rattle.lexer.specs.Token.{Token, delim, numeric_from, numeric_of, ident_like_of, string_from, string_of, mark_of, hash_of, plus_of, minus_of, less_of, token_with, token_at, token_of}
 use Rattle.lexer.proofs.TokenBounds.{on-holds}
-use Rattle.lexer.proofs.Starts.{by-start}
 
 -- ---- a reading that gives a delimiter only where it is a scalar value
 abbrev Only : Parsed Token → Type 0
@@ -75,26 +72,27 @@ module _ (c : ℕ) (h : is_scalar c ≡ true) where
       (λ _. pick-holds P _ _ _ (λ _ n d e. cc)
       (λ _. delim-only m)))))))))
 
-  -- by the reader that the first character c selects
-  by_only : (k : Start) (n : ℕ) (t : List ℕ) → Only (token_by k n c t)
-  unfolding token_by hash_of plus_of minus_of less_of
-  by_only Quote n t = string-only t
-  by_only Hash n t = on-holds Only (identstring_of (drop 1 t)) _ _ (λ m b _ n d e. cc) (λ _. delim-only 1)
-  by_only Plus n t = or-else-only _ _ (behind-only 1 _ (numeric-only (drop 1 t))) (delim-only 1)
-  by_only Minus n t =
-      or-else-only _ _ (numeric-only t) (pick-holds Only _ _ _ (λ _ n d e. cc) (λ _. or-else-only _ _ (ident-like-only t) (delim-only 1)))
-  by_only Dot n t = or-else-only _ _ (numeric-only t) (delim-only 1)
-  by_only Less n t = pick-holds Only _ _ _ (λ _ n d e. cc) (λ _. delim-only 1)
-  by_only Backslash n t = or-else-only _ _ (ident-like-only t) (delim-only 1)
-  by_only Letter n t = ident-like-only t
-  by_only Digit n t = numeric-only t
-  by_only Other n t = mark-only n
+  -- whichever reader the first character c selects
+  by_only : (n : ℕ) (t : List ℕ) → Only (token_with n c t)
+  unfolding token_with hash_of plus_of minus_of less_of
+  by_only n t =
+      pick-holds Only _ _ _ (λ _. string-only t)
+      (λ _. pick-holds Only _ _ _ (λ _. on-holds Only (identstring_of (drop 1 t)) _ _ (λ m b _ n d e. cc) (λ _. delim-only 1))
+      (λ _. pick-holds Only _ _ _ (λ _. or-else-only _ _ (behind-only 1 _ (numeric-only (drop 1 t))) (delim-only 1))
+      (λ _. pick-holds Only _ _ _
+      (λ _. or-else-only _ _ (numeric-only t) (pick-holds Only _ _ _ (λ _ n d e. cc) (λ _. or-else-only _ _ (ident-like-only t) (delim-only 1))))
+      (λ _. pick-holds Only _ _ _ (λ _. or-else-only _ _ (numeric-only t) (delim-only 1))
+      (λ _. pick-holds Only _ _ _ (λ _. pick-holds Only _ _ _ (λ _ n d e. cc) (λ _. delim-only 1))
+      (λ _. pick-holds Only _ _ _ (λ _. or-else-only _ _ (ident-like-only t) (delim-only 1))
+      (λ _. pick-holds Only _ _ _ (λ _. ident-like-only t)
+      (λ _. pick-holds Only _ _ _ (λ _. numeric-only t)
+      (λ _. mark-only n)))))))))
 
 -- ---- the next token
 -- where no white space is
 at_only : (t : List ℕ) (x : Option (Taken ℕ)) → scalar_of t ≡ x → Only (token_at t x)
 unfolding token_at
-at_only t (Some c) e = rw (by-start c.taken c.value t) (by_only c.value (written_back t c.taken c.value e).scalar (start_of c.value) c.taken t)
+at_only t (Some c) e = by_only c.value (written_back t c.taken c.value e).scalar c.taken t
 at_only t None h = λ n d e. cc
 
 -- a delimiter is a scalar value

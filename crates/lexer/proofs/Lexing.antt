@@ -1,4 +1,4 @@
--- A token by its first character, and the next token behind white space: the returns of `start_of` to `parse_token`.
+-- A token by its first character, and the next token behind white space: the returns of `token_at` and `parse_token`.
 use Rattle.std.proofs.lemmas.Option.{same_Some, none-some}
 use Rattle.std.proofs.Common.{Option, Some, None}
 use mathlib.Core.Path.{◌≡◌, refl, ap, sym, ◌∙◌}
@@ -8,26 +8,19 @@ use Prim.Native.Nat.{ℕ, ◌+◌, ◌-◌}
 use lib.ListN.{length, take, drop}
 use lib.Seq.{sets}
 use Rattle.combinators.specs.Choice.{pick, is}
-use Rattle.combinators.specs.Ascii.{number_sign, plus_sign, hyphen_minus, full_stop, less_than_sign, reverse_solidus, digit_zero, digit_nine, left_parenthesis, right_parenthesis, quotation_mark, apostrophe, left_square_bracket, right_square_bracket, left_curly_bracket, right_curly_bracket}
+use Rattle.combinators.specs.Ascii.{left_parenthesis, right_parenthesis, left_square_bracket, right_square_bracket, left_curly_bracket, right_curly_bracket}
 use Rattle.combinators.specs.Ascii as ascii
 use Rattle.combinators.specs.Parsed.{Parsed, ok, err, behind}
 use Rattle.combinators.proofs.Lists.{rest}
 use Rattle.characters.specs.Utf8.{scalar_of}
 use Rattle.combinators.specs.declared.taken.Taken.{Taken}
 use Rattle.lexer.specs.Whitespace.{skip_whitespace}
-use Rattle.lexer.specs.Token.{Token, start_of, mark_of, token_by, token_at, token_of, coded, text_of, token_answer, token_text, lexed_answer}
+use Rattle.lexer.specs.Token.{Token, mark_of, token_with, token_at, token_of, coded, text_of, token_answer, token_text, lexed_answer}
 use Rattle.lexer.specs.declared.tokens.Lexed.{Lexed}
-use Rattle.lexer.specs.declared.tokens.Start.{Start}
 use Rattle.lexer.specs.declared.tokens.Token as declared
-use Rattle.lexer.proofs.Starts.{by-start}
 use Rattle.lexer.proofs.TokenAnswers.{Lexes, lexes-err}
 
--- ---- `token_by`
--- the reader that the character selects
-pub selected : (c n : ℕ) (t st z : List ℕ) (fill : ℕ) (r : Option (Taken declared.Token)) (k k' : Start) → k ≡ start_of c → k ≡ k' → Lexes (token_by k' n c t) st fill r z
-    → Lexes (token_by (start_of c) n c t) st fill r z
-selected c n t st z fill r k k' e h w = rw (sym e ∙ h) w
-
+-- ---- a mark, the last row of `token_with`
 -- no token of a choice has a text
 no_text : (b : Bool) (x y : Token) → text_of x ≡ [] → text_of y ≡ [] → text_of (pick b x y) ≡ []
 unfolding pick
@@ -57,10 +50,10 @@ mark-lexes c n st fill k e = (ap (λ x. Some (record { taken = n; value = x })) 
 -- ---- `token_at`: by the character at the start, if there is one
 module _ (t st : List ℕ) (fill : ℕ) (x : Option (Taken ℕ)) (ex : x ≡ scalar_of t) where
   -- the return where a character is there: the token by what it starts
-  pub at-char : (n c : ℕ) → x ≡ Some (record { taken = n; value = c }) → (r : Option (Taken declared.Token)) (z : List ℕ) → Lexes (token_by (start_of c) n c t) st fill r z
+  pub at-char : (n c : ℕ) → x ≡ Some (record { taken = n; value = c }) → (r : Option (Taken declared.Token)) (z : List ℕ) → Lexes (token_with n c t) st fill r z
       → Lexes (token_at t (scalar_of t)) st fill r z
   unfolding token_at
-  at-char n c h r z w = rw (sym ex ∙ h, by-start n c t) w
+  at-char n c h r z w = rw (sym ex ∙ h) w
 
   -- where no character can be read, there is no token and the store is as it was
   pub at_none : x ≡ None → Lexes (token_at t (scalar_of t)) st fill None st

@@ -18,7 +18,6 @@ pub mod SyntaxName
 pub mod SyntaxEscape
 pub mod TokenAnswers
 pub mod TokenReaders
-pub mod Starts
 pub mod Lexing
 pub mod TokenBounds
 pub mod TokenRows

@@ -19,10 +19,8 @@ use Rattle.lexer.specs.Whitespace.{skip_whitespace}
 use Rattle.lexer.specs.Name.{ident_of, identstring_of}
 use Rattle.lexer.specs.Number as numbers
 use Rattle.lexer.specs.Quoted.{string_end, string_text}
-use Rattle.lexer.specs.Token.{Token, numeric_from, numeric_of, ident_like_of, string_from, string_of, start_of, hash_of, plus_of, minus_of, less_of, token_by, token_at, token_of, text_of, token_answer, delim, coded, length_by}
+use Rattle.lexer.specs.Token.{Token, numeric_from, numeric_of, ident_like_of, string_from, string_of, hash_of, plus_of, minus_of, less_of, token_with, token_at, token_of, text_of, token_answer, delim, coded, length_by}
 use Rattle.lexer.specs.Token as token
-use Rattle.lexer.specs.declared.tokens.Start.{Start}
-use Rattle.lexer.specs.declared.tokens.Start.TheVariants.{Quote, Hash, Plus, Minus, Dot, Less, Backslash, Letter, Digit, Other}
 use Rattle.lexer.specs.declared.tokens.Token as declared
 use Rattle.lexer.proofs.Comments.{skip-le}
 use Rattle.lexer.proofs.Digits.{number-le}
@@ -31,7 +29,6 @@ use Rattle.lexer.proofs.Quotes.{string-le, string-short}
 use Rattle.lexer.proofs.IdentBounds.{ident-fits, identstring-fits}
 use Rattle.lexer.proofs.TokenReaders.{quote-there}
 use Rattle.lexer.proofs.Lexing.{mark-text}
-use Rattle.lexer.proofs.Starts.{by-start}
 
 -- what a reading of s keeps to
 abbrev pub Bounded : List ℕ → Parsed Token → Type 0
@@ -149,25 +146,26 @@ module _ (c n : ℕ) (t : List ℕ) (i : 1 ≤ n) (h : n ≤ length t) where
   less-bounded =
       pick-holds (Bounded t) _ _ _ (λ e. no-text-fits t 4 (omega arith) (starts-le _ t e)) (λ _. delim-bounded t c filled)
 
-  -- by the reader that the character selects
-  by-bounded : (k : Start) → Bounded t (token_by k n c t)
-  unfolding token_by
-  by-bounded Quote = string-bounded t
-  by-bounded Hash = hash-bounded
-  by-bounded Plus = plus-bounded
-  by-bounded Minus = minus-bounded
-  by-bounded Dot = or-else-bounded t _ _ (numeric-bounded t) (delim-bounded t c filled)
-  by-bounded Less = less-bounded
-  by-bounded Backslash = or-else-bounded t _ _ (ident-like-bounded t) (delim-bounded t c filled)
-  by-bounded Letter = ident-like-bounded t
-  by-bounded Digit = numeric-bounded t
-  by-bounded Other = rw (mark-text c) (no-text-fits t n i h)
+  -- whichever reader the character selects
+  by-bounded : Bounded t (token_with n c t)
+  unfolding token_with
+  by-bounded =
+      pick-holds (Bounded t) _ _ _ (λ _. string-bounded t)
+      (λ _. pick-holds (Bounded t) _ _ _ (λ _. hash-bounded)
+      (λ _. pick-holds (Bounded t) _ _ _ (λ _. plus-bounded)
+      (λ _. pick-holds (Bounded t) _ _ _ (λ _. minus-bounded)
+      (λ _. pick-holds (Bounded t) _ _ _ (λ _. or-else-bounded t _ _ (numeric-bounded t) (delim-bounded t c filled))
+      (λ _. pick-holds (Bounded t) _ _ _ (λ _. less-bounded)
+      (λ _. pick-holds (Bounded t) _ _ _ (λ _. or-else-bounded t _ _ (ident-like-bounded t) (delim-bounded t c filled))
+      (λ _. pick-holds (Bounded t) _ _ _ (λ _. ident-like-bounded t)
+      (λ _. pick-holds (Bounded t) _ _ _ (λ _. numeric-bounded t)
+      (λ _. rw (mark-text c) (no-text-fits t n i h))))))))))
 
 -- ---- the next token
 -- where no white space is
 pub at-bounded : (t : List ℕ) (x : Option (Taken ℕ)) → scalar_of t ≡ x → Bounded t (token_at t x)
 unfolding token_at
-at-bounded t (Some c) e = let r = scalar-some t c.taken c.value e in rw (by-start c.taken c.value t) (by-bounded c.value c.taken t r.0 r.1 (start_of c.value))
+at-bounded t (Some c) e = let r = scalar-some t c.taken c.value e in by-bounded c.value c.taken t r.0 r.1
 at-bounded t None e = tt
 
 -- the next token takes a byte or more with the white space before it, no more than there are, and its text keeps to the bound

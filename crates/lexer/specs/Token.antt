@@ -14,8 +14,6 @@ use Rattle.lexer.specs.Quoted.{string_end, string_text}
 use Rattle.lexer.specs.declared.tokens.Token as declared
 use Rattle.lexer.specs.declared.tokens.Token.TheVariants as code
 use Rattle.lexer.specs.declared.tokens.Lexed.{Lexed}
-use Rattle.lexer.specs.declared.tokens.Start.{Start}
-use Rattle.lexer.specs.declared.tokens.Start.TheVariants.{Quote, Hash, Plus, Minus, Dot, Less, Backslash, Letter, Digit, Other}
 
 -- a token with its texts. The crate's at-keyword, url and bad url are left out: it never makes one.
 pub data Token : Type 0 where
@@ -142,32 +140,6 @@ token_at t None = err
 -- `parse_token`: behind white space and comments
 unfoldable pub token_of : List ℕ → Parsed Token
 token_of s = behind (skip_whitespace s) (token_at (drop (skip_whitespace s) s) (scalar_of (drop (skip_whitespace s) s)))
-
--- ---- as the code selects a reader: which one, and what it reads
-unfoldable pub start_of : ℕ → Start
-start_of c =
-    pick (is_quote c) Quote
-    (pick (is c number_sign) Hash
-    (pick (is c plus_sign) Plus
-    (pick (is c hyphen_minus) Minus
-    (pick (is c full_stop) Dot
-    (pick (is c less_than_sign) Less
-    (pick (is c reverse_solidus) Backslash
-    (pick (is_ident_start c) Letter
-    (pick (numbers.is_digit c) Digit
-    Other))))))))
-
-unfoldable pub token_by : Start → ℕ → ℕ → List ℕ → Parsed Token
-token_by Quote n c t = string_of t
-token_by Hash n c t = hash_of c t
-token_by Plus n c t = plus_of c t
-token_by Minus n c t = minus_of c t
-token_by Dot n c t = or_else (numeric_of t) (ok 1 (delim c))
-token_by Less n c t = less_of c t
-token_by Backslash n c t = or_else (ident_like_of t) (ok 1 (delim c))
-token_by Letter n c t = ident_like_of t
-token_by Digit n c t = numeric_of t
-token_by Other n c t = ok n (mark_of c)
 
 -- ---- as the code answers: the token with the lengths of its texts, which lie in the store one behind the other
 unfoldable pub coded : Token → declared.Token

@@ -1,7 +1,7 @@
 // Tokens: a token by value, read from the start of a text; its text goes to the store, from a fill that the callers keep, so that no writer is lent.
 ghost use Rattle.std.specs.Prelude.{◌≡◌, ◌≤◌, length, Some, ◌<◌, ◌^◌};
 ghost use Rattle.std.proofs.lemmas.List.Edits.{sets};
-ghost use Rattle.lexer.specs.Token.{numeric_of, ident_like_of, is_quote, string_of, is_ident_start, start_of, mark_of, hash_of, plus_of, minus_of, less_of, token_by, token_at, token_of, coded, token_answer, token_text, lexed_answer, or_delim, length_by};
+ghost use Rattle.lexer.specs.Token.{numeric_of, ident_like_of, is_quote, string_of, is_ident_start, mark_of, hash_of, plus_of, minus_of, less_of, token_with, token_at, token_of, coded, token_answer, token_text, lexed_answer, or_delim, length_by};
 ghost use Rattle.lexer.specs.Whitespace.{skip_whitespace};
 ghost use Rattle.lexer.specs.declared.tokens.Token.TheVariants.{Delim};
 ghost use Rattle.characters.specs.Utf8.{scalar_of};
@@ -74,21 +74,6 @@ impl Token {
 const CDO_MARK: [u8; 4] = *b"<!--";
 
 const CDC_MARK: [u8; 3] = *b"-->";
-
-// Which reader a first character selects.
-#[derive(Clone, Copy)]
-pub enum Start {
-    Quote,
-    Hash,
-    Plus,
-    Minus,
-    Dot,
-    Less,
-    Backslash,
-    Letter,
-    Digit,
-    Other,
-}
 
 // A number; with '%' behind it a percentage, with a name behind it a dimension.
 pub fn parse_numeric_token(s: &[u8], store: &mut [u8], fill: usize) -> Option<Taken<Token>>
@@ -177,25 +162,6 @@ fn is_ident_start(c: char) -> bool
     ensures { result ≡ is_ident_start c }
 {
     matches!(c, 'a'..='z' | 'A'..='Z' | '_' | FIRST_ABOVE_U_0080..)
-}
-
-// Which reader the character `c` selects, in the crate's order.
-#[tactic(auto, unfolding(crate::specs::Token::start_of, crate::specs::Token::is_quote, crate::specs::Number::is_digit, combinators::specs::Choice::pick, combinators::specs::Choice::or, combinators::specs::Choice::is, combinators::specs::Choice::within, combinators::specs::Choice::and))]
-fn start_of(c: char) -> Start
-    ensures { result ≡ start_of c }
-{
-    match c {
-        '"' | '\'' => Start::Quote,
-        '#' => Start::Hash,
-        '+' => Start::Plus,
-        '-' => Start::Minus,
-        '.' => Start::Dot,
-        '<' => Start::Less,
-        '\\' => Start::Backslash,
-        _ if is_ident_start(c) => Start::Letter,
-        '0'..='9' => Start::Digit,
-        _ => Start::Other,
-    }
 }
 
 // The token that the character `c` is by itself: a mark, or else a delimiter.
@@ -292,24 +258,25 @@ fn less_token(t: &[u8], c: char) -> Option<Taken<Token>>
     delimiter(c)
 }
 
-// The token at the start of `t`, whose first character is `first`: a `match`, as in its definition, since the readers are told different things.
-fn token_by(t: &[u8], first: Taken<char>, store: &mut [u8], fill: usize) -> Option<Taken<Token>>
+// The token at the start of `t`, whose first character is `first`, by the reader that it selects, in the crate's order.
+#[tactic(auto, unfolding(crate::specs::Token::token_with, crate::specs::Token::is_quote, crate::specs::Number::is_digit, combinators::specs::Choice::pick, combinators::specs::Choice::or, combinators::specs::Choice::is, combinators::specs::Choice::within, combinators::specs::Choice::and))]
+fn token_with(t: &[u8], first: Taken<char>, store: &mut [u8], fill: usize) -> Option<Taken<Token>>
     requires { 1 ≤ length t.now }
-    ensures value { result ≡ token_answer (token_by (start_of first.value) first.taken first.value t.now) }
-    ensures store_after { store.new ≡ sets store.old fill (token_text (token_by (start_of first.value) first.taken first.value t.now)) }
+    ensures value { result ≡ token_answer (token_with first.taken first.value t.now) }
+    ensures store_after { store.new ≡ sets store.old fill (token_text (token_with first.taken first.value t.now)) }
 {
     let c = first.value;
-    match start_of(c) {
-        Start::Quote => parse_string_token(t, store, fill),
-        Start::Hash => hash_token(t, c, store, fill),
-        Start::Plus => plus_token(t, c, store, fill),
-        Start::Minus => minus_token(t, c, store, fill),
-        Start::Dot => or_delim(parse_numeric_token(t, store, fill), c),
-        Start::Less => less_token(t, c),
-        Start::Backslash => or_delim(parse_ident_like(t, store, fill), c),
-        Start::Letter => parse_ident_like(t, store, fill),
-        Start::Digit => parse_numeric_token(t, store, fill),
-        Start::Other => Some(Taken {
+    match c {
+        '"' | '\'' => parse_string_token(t, store, fill),
+        '#' => hash_token(t, c, store, fill),
+        '+' => plus_token(t, c, store, fill),
+        '-' => minus_token(t, c, store, fill),
+        '.' => or_delim(parse_numeric_token(t, store, fill), c),
+        '<' => less_token(t, c),
+        '\\' => or_delim(parse_ident_like(t, store, fill), c),
+        _ if is_ident_start(c) => parse_ident_like(t, store, fill),
+        '0'..='9' => parse_numeric_token(t, store, fill),
+        _ => Some(Taken {
             taken: first.taken,
             value: mark_of(c),
         }),
@@ -322,7 +289,7 @@ fn token_at(t: &[u8], store: &mut [u8], fill: usize) -> Option<Taken<Token>>
     ensures store_after { store.new ≡ sets store.old fill (token_text (token_at t.now (scalar_of t.now))) }
 {
     let first = scalar_at(t)?;
-    token_by(t, first, store, fill)
+    token_with(t, first, store, fill)
 }
 
 // The next token of `s`, behind white space and comments.
