@@ -11,6 +11,5 @@ starts_with (w ∷ ws) (x ∷ s) = and (is x w) (starts_with ws s)
 -- two texts are the same bytes
 unfoldable pub same_text : List ℕ → List ℕ → Bool
 same_text [] [] = true
-same_text [] (y ∷ t) = false
-same_text (x ∷ s) [] = false
 same_text (x ∷ s) (y ∷ t) = and (is x y) (same_text s t)
+same_text _ _ = false

@@ -13,48 +13,26 @@ one important start s = record { value = record { style = s; start = start }; im
 unfoldable pub style_of : Bool → ℕ → Decl → List StyleDecl
 style_of i s (color c) = one i s (style.colour c)
 style_of i s (background_color c) = one i s (style.background c)
-style_of i s (height z) = []
-style_of i s (max_height z) = []
-style_of i s (overflow o) = []
-style_of i s (overflow_y o) = []
 style_of i s (display n) = pick n (one i s style.display_none) []
 style_of i s (white_space w) = one i s (style.white_space w)
 style_of i s (content t) = one i s (style.content t)
 style_of i s (visibility z) = one i s (style.visibility z)
-style_of i s (unknown n) = []
+style_of i s _ = []
 
 unfoldable pub hides : Overflow → Bool
-hides visible = false
 hides hidden = true
-hides scroll = false
-hides auto = false
+hides _ = false
 
 -- whether a declaration hides what overflows, and whether it sets a height to zero
 unfoldable pub hides_overflow : Decl → Bool
-hides_overflow (color c) = false
-hides_overflow (background_color c) = false
-hides_overflow (height z) = false
-hides_overflow (max_height z) = false
 hides_overflow (overflow o) = hides o
 hides_overflow (overflow_y o) = hides o
-hides_overflow (display n) = false
-hides_overflow (white_space w) = false
-hides_overflow (content t) = false
-hides_overflow (visibility z) = false
-hides_overflow (unknown n) = false
+hides_overflow _ = false
 
 unfoldable pub zero_height : Decl → Bool
-zero_height (color c) = false
-zero_height (background_color c) = false
 zero_height (height z) = z
 zero_height (max_height z) = z
-zero_height (overflow o) = false
-zero_height (overflow_y o) = false
-zero_height (display n) = false
-zero_height (white_space w) = false
-zero_height (content t) = false
-zero_height (visibility z) = false
-zero_height (unknown n) = false
+zero_height _ = false
 
 unfoldable pub any_decl : (Decl → Bool) → List Declaration → Bool
 any_decl p [] = false

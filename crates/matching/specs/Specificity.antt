@@ -14,10 +14,8 @@ added (attribute n) = specificity_of 0 1 0
 added (attribute_equal n v) = specificity_of 0 1 0
 added (element n) = specificity_of 0 0 1
 added (hash h) = specificity_of 1 0 0
-added star = no_specificity
-added child = no_specificity
-added descendant = no_specificity
 added (nth a b) = specificity_of 0 1 0
+added _ = no_specificity
 
 -- the same of one that is no star and no combinator, by its kind
 unfoldable pub name_added : ℕ → Specificity

@@ -20,12 +20,8 @@ pub record Numbered (v : Value) (s : Style) : Type 0 where
 
 -- "Contents are compared by their text": a content is named, any other style is its number
 unfoldable pub SaysStyle : List ℕ → Value → Style → Type 0
-SaysStyle t v (style.colour c) = Numbered v (style.colour c)
-SaysStyle t v (style.background c) = Numbered v (style.background c)
-SaysStyle t v style.display_none = Numbered v style.display_none
-SaysStyle t v (style.white_space w) = Numbered v (style.white_space w)
 SaysStyle t v (style.content x) = Names t v x
-SaysStyle t v (style.visibility z) = Numbered v (style.visibility z)
+SaysStyle t v s = Numbered v s
 
 -- and it has the start of the same declaration (S-3: "The compiled run must name the same byte as the computed style")
 pub record Says (t : List ℕ) (v : Value) (x : StyleValue) : Type 0 where

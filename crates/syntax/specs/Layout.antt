@@ -98,17 +98,9 @@ declaration_second = 4
 
 -- its text in the store: of a content that text, of an unknown declaration its name
 unfoldable pub decl_text : Decl → List ℕ
-decl_text (color c) = []
-decl_text (background_color c) = []
-decl_text (height z) = []
-decl_text (max_height z) = []
-decl_text (overflow o) = []
-decl_text (overflow_y o) = []
-decl_text (display n) = []
-decl_text (white_space w) = []
 decl_text (content t) = t
-decl_text (visibility h) = []
 decl_text (unknown t) = t
+decl_text _ = []
 
 unfoldable pub declaration_text : Declaration → List ℕ
 declaration_text d = decl_text d.decl
@@ -208,12 +200,8 @@ abbrev pub style_start : ℕ
 style_start = 4
 
 unfoldable pub style_text_of : Style → List ℕ
-style_text_of (style.colour c) = []
-style_text_of (style.background c) = []
-style_text_of style.display_none = []
-style_text_of (style.white_space w) = []
 style_text_of (style.content t) = t
-style_text_of (style.visibility h) = []
+style_text_of _ = []
 
 unfoldable pub style_text : StyleDecl → List ℕ
 style_text d = style_text_of d.value.style
