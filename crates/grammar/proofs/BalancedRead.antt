@@ -7,7 +7,7 @@ use native.Mathlib.Omega.{arith}
 use lib.ListN.{length, drop, length-drop}
 use lib.Seq.{drop-append-add}
 use Rattle.combinators.specs.Ascii as ascii
-use Rattle.combinators.specs.Choice.{pick, and, is}
+use Rattle.combinators.specs.Choice.{pick, is}
 use Rattle.combinators.specs.Parsed.{Parsed, ok}
 use Rattle.combinators.proofs.Rules.{never}
 use Rattle.lexer.specs.Token.{Token, token_of}
@@ -16,7 +16,7 @@ use Rattle.lexer.specs.Whitespace.{whitespace_item}
 use Rattle.lexer.proofs.TokenBounds.{token-fits}
 use Rattle.values.specs.Value.{bracket_of, step_of, statement_of, is_important}
 use Rattle.values.specs.Value as values
-use Rattle.values.specs.Words.{kind_of, is_kind, is_delim}
+use Rattle.values.specs.Words.{is_delim}
 use Rattle.grammar.specs.Nth.{Blanks}
 use Rattle.grammar.specs.Selectors.{Quoted}
 use Rattle.grammar.specs.Balanced.{is_plain, Bracket, round, square, curly, Balanced, end, space, remark, plain, quoted, semicolon, bang, block, opens, closes, written_balanced, Clear, Outside, More, Tight, Calm}
@@ -301,7 +301,7 @@ module _ (include : Bool) where
 -- brackets are no '!'
 brackets-unbanged : (b : Bracket)
     → (is_delim ascii.exclamation_mark (grammar.means_opening (opening b)) ≡ false) × (is_delim ascii.exclamation_mark (grammar.means_closer (opening b)) ≡ false)
-unfolding opening grammar.means_opening grammar.means_closer is_delim is_kind kind_of and is
+unfolding opening grammar.means_opening grammar.means_closer is_delim
 brackets-unbanged round = (refl, refl)
 brackets-unbanged square = (refl, refl)
 brackets-unbanged curly = (refl, refl)
@@ -309,7 +309,7 @@ brackets-unbanged curly = (refl, refl)
 -- nor are a string, a semicolon and a function
 others-unbanged : (b : List ℕ)
     → (is_delim ascii.exclamation_mark (tokens.string b) ≡ false) × (is_delim ascii.exclamation_mark tokens.semicolon ≡ false) × (is_delim ascii.exclamation_mark (tokens.function b) ≡ false)
-unfolding is_delim is_kind kind_of and is
+unfolding is_delim
 others-unbanged b = (refl, refl, refl)
 
 -- ---- all of a text

@@ -14,14 +14,13 @@ use Rattle.combinators.specs.Parsed.{ok, err, on_parsed, behind}
 use Rattle.combinators.specs.Repeat.{many, took}
 use Rattle.characters.specs.Literal.{text}
 use Rattle.lexer.specs.Name.{is_nmstart, folded_char, ident_escape_of, nmstart_of, name_from, dash, name_of, ident_of, identstring_of}
-use Rattle.lexer.specs.Token.{text_of, is_quote, string_of}
+use Rattle.lexer.specs.Token.{is_quote, string_of}
 use Rattle.lexer.specs.Whitespace.{is_whitespace, comment_of, whitespace_item, skip_whitespace}
 use Rattle.lexer.proofs.SyntaxName.{IdentSequence, started, dashed, ident_start, ident_code_point, letter, start-code-point, hyphen-code-point, sequence-unskipped, ident-sequence, ident-string}
 use Rattle.lexer.proofs.SyntaxWhitespace.{Blank, none, skips-blank}
 use Rattle.syntax.specs.Selector.{Component, star, class, element, hash, child, descendant, nth, attribute, attribute_equal}
-use Rattle.values.specs.Words.{is_kind, kind_of}
 use Rattle.selectors.specs.Outcome.{reads, fails, parsed, or_else}
-use Rattle.selectors.specs.Selector.{class_of, hash_of, closed, quoted_of, value_of, attr_of, pseudo_class_of, marked, blank_of, component_of}
+use Rattle.selectors.specs.Selector.{class_of, hash_of, closed, quoted_from, quoted_of, value_of, attr_of, pseudo_class_of, marked, blank_of, component_of}
 use Rattle.grammar.specs.Nth.{Blanks, Argument, written_argument, means_argument}
 use Rattle.grammar.proofs.NthRead.{args_read, pseudo-by}
 use Rattle.grammar.proofs.StringsRead.{quoted-read}
@@ -212,7 +211,7 @@ unquoted s e = rw (differs ident_code_point (get_or s 0 0) ascii.quotation_mark 
 
 -- a string is read whole
 quoted : (v : Quoted) (u : List ℕ) → quoted_of (v.quote ∷ (v.bytes ++ (v.quote ∷ u))) ≡ ok (1 + length v.bytes + 1) v.body
-unfolding quoted_of on_parsed is_kind kind_of text_of pick is
+unfolding quoted_of quoted_from on_parsed
 quoted v u = rw (quoted-read v u)
 
 module _ (n : Name) (r : List ℕ) where

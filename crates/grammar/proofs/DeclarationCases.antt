@@ -14,7 +14,7 @@ use Rattle.characters.specs.Utf8.{utf8, continuation}
 use Rattle.lexer.specs.Name.{is_hex_digit, hex_digit, lower}
 use Rattle.lexer.specs.Number.{is_digit, one_digit, digits, sign}
 use Rattle.lexer.specs.Token as tokens
-use Rattle.lexer.specs.Token.{is_quote, text_of}
+use Rattle.lexer.specs.Token.{is_quote}
 use Rattle.lexer.specs.Whitespace.{is_whitespace, comment_of, whitespace_item, skip_whitespace}
 use Rattle.lexer.proofs.SyntaxName.{more, letter, ident_start, ident_code_point}
 use Rattle.lexer.proofs.SyntaxName as each
@@ -23,7 +23,7 @@ use Rattle.syntax.specs.Declaration as syntax
 use Rattle.syntax.specs.Selector as pseudo
 use Rattle.values.specs.Colour.{rgb, numeral, all_of}
 use Rattle.values.specs.Property.{unsigned_zero, number_zero, any_of, height_of, first_word, overflow_of, display_of, white_space_of, visibility_of, decl_of}
-use Rattle.values.specs.Words.{kind_of, number_of, unit_of, is_kind, lookup, on_found}
+use Rattle.values.specs.Words.{lookup, on_found}
 use Rattle.selectors.specs.Selector.{pseudo_of}
 use Rattle.grammar.specs.Nth.{unsigned, plus, minus, written_sign, negative, worth}
 use Rattle.grammar.specs.Selectors.{Quoted, byte, escaped, unprocessed, typed, universal, one, written_simples, written_compound, written, means_compound, in_order, Agrees, written_pseudo, Tight, Group, several, written_chosen, written_group, means_chosen, means_group}
@@ -152,13 +152,13 @@ test-keywords : (decl_of (text "display") (tokens.ident (text "inherit") ∷ [])
     × (decl_of (text "overflow") (tokens.ident (text "inherit") ∷ []) ≡ syntax.unknown (text "overflow"))
     × (decl_of (text "overflow-y") (tokens.ident (text "clip") ∷ []) ≡ syntax.unknown (text "overflow-y"))
     × (decl_of (text "visibility") (tokens.ident (text "collapse") ∷ []) ≡ syntax.unknown (text "visibility"))
-unfolding decl_of display_of white_space_of overflow_of visibility_of first_word lookup on_found is_kind kind_of text_of same_text text utf8 continuation pick and is
+unfolding decl_of display_of white_space_of overflow_of visibility_of first_word lookup on_found same_text text utf8 continuation pick and is
 test-keywords = (refl, refl, refl, refl, refl, refl)
 
 -- a full stop, 45 zeros and `7px` is a height of zero, one zero less is not
 test-finest : (decl_of (text "height") (tokens.dimension (ascii.full_stop ∷ (replicate 45 ascii.digit_zero ++ text "7")) (text "px") ∷ []) ≡ syntax.height true)
     × (decl_of (text "height") (tokens.dimension (ascii.full_stop ∷ (replicate 44 ascii.digit_zero ++ text "7")) (text "px") ∷ []) ≡ syntax.height false)
-unfolding decl_of height_of any_of number_zero unsigned_zero skip_whitespace whitespace_item is_whitespace comment_of digits sign one_digit is_digit many took decimal.rounds_to_zero decimal.numerator decimal.denominator decimal.number decimal.digits decimal.digit unit_of number_of lookup on_found is_kind kind_of text_of same_text text utf8 continuation pick or and is within
+unfolding decl_of height_of any_of number_zero unsigned_zero skip_whitespace whitespace_item is_whitespace comment_of digits sign one_digit is_digit many took decimal.rounds_to_zero decimal.numerator decimal.denominator decimal.number decimal.digits decimal.digit lookup on_found same_text text utf8 continuation pick or and is within
 test-finest = (refl, refl)
 
 -- `::BEFORE` and `::first-line` are no pseudo elements

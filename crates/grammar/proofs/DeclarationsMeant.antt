@@ -15,12 +15,12 @@ use Rattle.characters.specs.Literal.{text}
 use Rattle.characters.specs.Utf8.{utf8, continuation}
 use Rattle.lexer.specs.Name.{case_distance, lower, is_hex_digit, hex_digit}
 use Rattle.lexer.specs.Token as tokens
-use Rattle.lexer.specs.Token.{Token, ident, text_of}
+use Rattle.lexer.specs.Token.{Token, ident}
 use Rattle.lexer.proofs.SyntaxName.{letter, ident_start, ident_code_point}
 use Rattle.syntax.specs.Declaration as syntax
 use Rattle.syntax.specs.Declaration.{Colour, Overflow, WhiteSpace}
-use Rattle.values.specs.Words.{Entry, Found, found, missing, lookup, on_found, kind_of, number_of, unit_of, is_kind}
-use Rattle.values.specs.Colour.{rgb, colours, all_of, one_token, colour_of, hash_colour, behind_comma, background_of}
+use Rattle.values.specs.Words.{Entry, Found, found, missing, lookup, on_found}
+use Rattle.values.specs.Colour.{rgb, colours, all_of, colour_of, hash_colour, behind_comma, background_of}
 use Rattle.values.specs.Property.{number_zero, units, any_of, height_of, first_word, overflow_of, display_of, white_space_of, content_of, visibility_of, properties, decl_of}
 use Rattle.values.proofs.CssColour.{six-digits, replicated, functional}
 use Rattle.grammar.specs.Nth.{Blanks}
@@ -79,12 +79,12 @@ names-agree = ((refl, (refl, (refl, (refl, (refl, (refl, (refl, (refl, (refl, (r
 
 -- a name is looked up
 ident-colour : (w : List ℕ) → colour_of (ident w ∷ []) ≡ lookup w colours
-unfolding colour_of one_token is_kind kind_of text_of pick is
+unfolding colour_of
 ident-colour w = refl
 
 -- a hash is worth its digits
 hash-colour : (b : List ℕ) → colour_of (tokens.hash b ∷ []) ≡ hash_colour b
-unfolding colour_of one_token is_kind kind_of text_of pick is
+unfolding colour_of
 hash-colour b = refl
 
 -- a hexadecimal digit is one in small letters too, of the same worth
@@ -186,9 +186,9 @@ shade-background : (b : Blanks) (s : Shade) → background_of (means_values (sha
 shade-background b s = without-comma b s ∙ shade-meant b s
   where
     without-comma : (b : Blanks) (s : Shade) → background_of (means_values (shade_values b s)) ≡ colour_of (means_values (shade_values b s))
-    without-comma b (named k) = unfold background_of behind_comma means_values shade_values means_atom is_kind kind_of pick is in refl
-    without-comma b (three h x y z w d) = unfold background_of behind_comma means_values shade_values means_atom is_kind kind_of pick is in refl
-    without-comma b (six h p q x y z w e d) = unfold background_of behind_comma means_values shade_values means_atom is_kind kind_of pick is in refl
+    without-comma b (named k) = unfold background_of behind_comma means_values shade_values means_atom in refl
+    without-comma b (three h x y z w d) = unfold background_of behind_comma means_values shade_values means_atom in refl
+    without-comma b (six h p q x y z w e d) = unfold background_of behind_comma means_values shade_values means_atom in refl
 
 -- ---- lengths
 -- the units of the document are the engine's
@@ -198,12 +198,12 @@ units-agree = (refl, (refl, (refl, (refl, (refl, (refl, (refl, (refl, tt))))))))
 
 -- a dimension with one of them
 dimension-height : (t u : List ℕ) (z : Bool) → any_of u units ≡ true → number_zero t ≡ z → height_of (tokens.dimension t u ∷ []) ≡ found z
-unfolding height_of is_kind kind_of number_of unit_of pick is
+unfolding height_of pick
 dimension-height t u z h e = rw (h, e)
 
 -- a number that is zero
 number-height : (t : List ℕ) → number_zero t ≡ true → height_of (tokens.number t ∷ []) ≡ found true
-unfolding height_of is_kind kind_of text_of pick is
+unfolding height_of pick
 number-height t e = rw e
 
 -- a length is zero or not, as it means
@@ -221,7 +221,7 @@ overflow-meant k =
     row-holds (λ (w : List ℕ) (a : Overflow). overflow_of (ident w ∷ []) ≡ found a) (folded k.name) k.means overflow_words rows k.listed
   where
     rows : All (λ (e : Entry Overflow). overflow_of (ident e.word ∷ []) ≡ found e.means) overflow_words
-    rows = unfold overflow_of first_word lookup on_found is_kind kind_of text_of same_text text utf8 continuation pick and is in (refl, (refl, (refl, (refl, tt))))
+    rows = unfold overflow_of first_word lookup on_found same_text text utf8 continuation pick and is in (refl, (refl, (refl, (refl, tt))))
 
 -- each word of the document's table of `display` hides the element or does not, as the table says
 display-meant : (k : Keyword display_words) → display_of (ident (folded k.name) ∷ []) ≡ k.means
@@ -230,7 +230,7 @@ display-meant k =
   where
     rows : All (λ (e : Entry Bool). display_of (ident e.word ∷ []) ≡ e.means) display_words
     rows =
-        unfold display_of first_word lookup on_found is_kind kind_of text_of same_text text utf8 continuation pick and is in
+        unfold display_of first_word lookup on_found same_text text utf8 continuation pick and is in
         (refl, (refl, (refl, (refl, (refl, (refl, (refl, (refl, (refl, (refl, (refl, (refl, (refl, (refl, (refl, tt)))))))))))))))
 
 -- each word of the document's table of `white-space` is read as the value that the table says
@@ -239,7 +239,7 @@ white-space-meant k =
     row-holds (λ (w : List ℕ) (a : WhiteSpace). white_space_of (ident w ∷ []) ≡ a) (folded k.name) k.means white_space_words rows k.listed
   where
     rows : All (λ (e : Entry WhiteSpace). white_space_of (ident e.word ∷ []) ≡ e.means) white_space_words
-    rows = unfold white_space_of first_word lookup on_found is_kind kind_of text_of same_text text utf8 continuation pick and is in (refl, (refl, (refl, tt)))
+    rows = unfold white_space_of first_word lookup on_found same_text text utf8 continuation pick and is in (refl, (refl, (refl, tt)))
 
 -- each word of `visibility` is read as hidden or not, as the table says
 visibility-meant : (k : Keyword visibility_words) → visibility_of (ident (folded k.name) ∷ []) ≡ found k.means
@@ -247,12 +247,12 @@ visibility-meant k =
     row-holds (λ (w : List ℕ) (a : Bool). visibility_of (ident w ∷ []) ≡ found a) (folded k.name) k.means visibility_words rows k.listed
   where
     rows : All (λ (e : Entry Bool). visibility_of (ident e.word ∷ []) ≡ found e.means) visibility_words
-    rows = unfold visibility_of first_word lookup on_found is_kind kind_of text_of same_text text utf8 continuation pick and is in (refl, (refl, tt))
+    rows = unfold visibility_of lookup same_text text utf8 continuation pick and is in (refl, (refl, tt))
 
 -- ---- strings
 -- a string and what stands behind it
 string-content : (t : List ℕ) (ks : List Token) (r : List ℕ) → content_of ks ≡ found r → content_of (tokens.string t ∷ ks) ≡ found (t ++ r)
-unfolding content_of on_found is_kind kind_of text_of pick is
+unfolding content_of on_found
 string-content t ks r e = rw e
 
 -- so all are joined

@@ -19,14 +19,13 @@ use Rattle.characters.specs.Literal.{text}
 use Rattle.characters.specs.Utf8.{utf8, scalar_of, scalar_by}
 use Rattle.lexer.specs.Number.{is_digit}
 use Rattle.lexer.specs.Token as tokens
-use Rattle.lexer.specs.Token.{Token, token_at, token_of, coded, text_of}
-use Rattle.lexer.specs.TokenRow.{columns_of}
+use Rattle.lexer.specs.Token.{Token, token_at, token_of}
 use Rattle.lexer.specs.Whitespace.{is_whitespace, comment_of, whitespace_item, skip_whitespace}
 use Rattle.lexer.proofs.SyntaxName.{ident_start, ident_code_point, letter}
 use Rattle.lexer.proofs.SyntaxWhitespace.{Blank, none, white, comment, skips-blank}
 use Rattle.lexer.proofs.TokenBounds.{token-fits}
 use Rattle.values.specs.Value.{Placed, bracket_of, next, before, closing, ending, step_of, Statement, stop, cons, on_step, scan, statement_of, tokens_of, is_mark, is_important, without_mark, value_from, value_of}
-use Rattle.values.specs.Words.{kind_of, is_kind, is_word, is_delim}
+use Rattle.values.specs.Words.{is_word, is_delim}
 use Rattle.grammar.specs.Nth.{Blanks}
 use Rattle.grammar.specs.Tokens.{is_delimiter, Atom, word, string, hash, number, percentage, dimension, comma, colon, semicolon, delimiter, point, hyphen, addition, Opening, function, round, square, brace, written_atom, written_opening, closer, means_atom, means_opening, means_closer, ends_name, begins_name, begins_number, may_follow, MayFollow, EndsBefore, Ident, folded}
 use Rattle.grammar.specs.Values.{Values, end, then, block, written_values, means_values, Follows, Apart, is_semicolon, is_bang, is_brace, Outermost, Unmarked, DeclarationValue, Importance, normal, important, written_importance, is_marked}
@@ -376,7 +375,7 @@ plain-behind (x ∷ z ∷ a ∷ xs) k ys e = plain-behind (z ∷ a ∷ xs) k ys 
 
 -- an atom that is no '!'
 atom-plain : (a : Atom) → is_bang a ≡ false → is_delim ascii.exclamation_mark (means_atom a) ≡ false
-unfolding is_bang means_atom is_delim is_kind kind_of and is
+unfolding is_bang means_atom is_delim is
 atom-plain (word n) e = refl
 atom-plain (string q) e = refl
 atom-plain (hash h) e = refl
@@ -394,7 +393,7 @@ atom-plain addition e = refl
 -- nor is a bracket, which is no word either
 brackets-plain : (o : Opening) → (is_delim ascii.exclamation_mark (means_opening o) ≡ false) × (is_delim ascii.exclamation_mark (means_closer o) ≡ false)
     × (is_word (text "important") (means_closer o) ≡ false)
-unfolding means_opening means_closer is_delim is_word is_kind kind_of and is
+unfolding means_opening means_closer is_delim is_word
 brackets-plain (function n d) = (refl, refl, refl)
 brackets-plain round = (refl, refl, refl)
 brackets-plain square = (refl, refl, refl)
@@ -425,7 +424,7 @@ mark_tokens = tokens.delim ascii.exclamation_mark ∷ tokens.ident (text "import
 -- behind any tokens they are the mark
 marked-is : (ks : List Token) → is_important (ks ++ mark_tokens) ≡ true
 unfolding is_important
-marked-is [] = unfold is_mark is_delim is_word is_kind kind_of text_of columns_of coded same_text and is text utf8 pick in refl
+marked-is [] = unfold is_mark is_delim is_word same_text and is text utf8 pick in refl
 marked-is (a ∷ []) = marked-is []
 marked-is (a ∷ b ∷ []) = marked-is (b ∷ [])
 marked-is (a ∷ b ∷ c ∷ ks) = marked-is (b ∷ c ∷ ks)
@@ -433,7 +432,7 @@ marked-is (a ∷ b ∷ c ∷ ks) = marked-is (b ∷ c ∷ ks)
 -- the mark behind tokens is taken off, and the tokens are left
 marked-without : (ks : List Token) → without_mark (ks ++ mark_tokens) ≡ ks
 unfolding without_mark
-marked-without [] = unfold is_mark is_delim is_word is_kind kind_of text_of columns_of coded same_text and is text utf8 pick in refl
+marked-without [] = unfold is_mark is_delim is_word same_text and is text utf8 pick in refl
 marked-without (a ∷ []) = ap (λ (l : List Token). a ∷ l) (marked-without [])
 marked-without (a ∷ b ∷ []) = ap (λ (l : List Token). a ∷ l) (marked-without (b ∷ []))
 marked-without (a ∷ b ∷ c ∷ ks) = ap (λ (l : List Token). a ∷ l) (marked-without (b ∷ c ∷ ks))

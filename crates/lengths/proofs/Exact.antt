@@ -10,10 +10,10 @@ use lib.Dec.{ltb}
 use Rattle.combinators.specs.All.{All}
 use Rattle.combinators.specs.Choice.{pick, or}
 use Rattle.combinators.proofs.Rules.{never, pick-holds, and-true, is_true}
-use Rattle.lexer.specs.Token.{Token}
+use Rattle.lexer.specs.Token.{Token, number, dimension}
 use Rattle.lexer.proofs.TokenBounds.{on-holds}
 use Rattle.lexer.specs.Whitespace.{skip_whitespace}
-use Rattle.values.specs.Words.{Entry, Found, found, missing, lookup, on_found, number_of, unit_of}
+use Rattle.values.specs.Words.{Entry, Found, found, missing, lookup, on_found}
 use Rattle.values.proofs.WordLaws.{lookup-holds}
 use Rattle.lengths.specs.Number.{numeric_token}
 use Rattle.lengths.specs.Length.{measured, ten, most_decimals, most_number, digits_number, decimals, is_too_fine, is_above, is_below, is_bad, ten_thousandths, with_unit, dimension_length, number_length, token_length, length_of}
@@ -163,9 +163,9 @@ unit_kept (known u m e o l x) = l
 -- so is the answer for any token
 token-kept : (place : ℕ) (k : Token) → Kept place (token_length place k)
 unfolding token_length number_length
-token-kept place k =
-    pick-holds (Kept place) _ _ _ (λ _. unit_kept (answered place (number_of k) (unit_of k)))
-    (λ _. pick-holds (Kept place) _ _ _ (λ _. pick-holds (Kept place) _ _ _ (λ _. omega arith) (λ _. tt)) (λ _. tt))
+token-kept place (dimension n u) = unit_kept (answered place n u)
+token-kept place (number n) = pick-holds (Kept place) _ _ _ (λ _. omega arith) (λ _. tt)
+token-kept place _ = tt
 
 -- "Exactly one of": no length, a length whose amount fits 64 bits, or refusal 12, "place at the number, its sign included"
 pub kept : (s : List ℕ) → Kept (skip_whitespace s) (length_of s)

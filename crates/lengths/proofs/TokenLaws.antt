@@ -22,7 +22,6 @@ use Rattle.lexer.proofs.IdentBounds.{ident-fits}
 use Rattle.lexer.proofs.TokenAnswers.{name-ok}
 use Rattle.lexer.proofs.NameAnswers.{unnamed-from}
 use Rattle.syntax.proofs.Streams.{held-part, sets-held}
-use Rattle.values.specs.Words.{is_kind, kind_of, number_of, unit_of}
 use Rattle.lengths.specs.Number as numbers
 use Rattle.lengths.specs.Number.{numeric_of, plus, text_start, numeric_token}
 use Rattle.lengths.specs.Length.{dimension_length, number_length, token_length, only_whitespace, length_of}
@@ -103,17 +102,17 @@ module _ (place : ℕ) (n t : List ℕ) where
 module _ (place : ℕ) (n u : List ℕ) where
   -- the length of a dimension is that of its number with its unit
   of-dimension : token_length place (dimension n u) ≡ dimension_length place n u
-  unfolding token_length is_kind kind_of number_of unit_of pick is
+  unfolding token_length
   of-dimension = refl
 
   -- the length of a number is that of a number without a unit
   of_number : token_length place (number n) ≡ number_length n
-  unfolding token_length is_kind kind_of text_of pick is
+  unfolding token_length
   of_number = refl
 
   -- a percentage is no length
   of-percentage : token_length place (percentage n) ≡ Ok None
-  unfolding token_length is_kind kind_of text_of pick is
+  unfolding token_length
   of-percentage = refl
 
 -- ---- `length_of`: the token at the start of the number's text

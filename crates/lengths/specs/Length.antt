@@ -4,11 +4,10 @@ use Rattle.combinators.specs.Ascii.{hyphen_minus}
 use Rattle.combinators.specs.Choice.{pick, or, and, is}
 use Rattle.combinators.specs.Parsed.{on_parsed}
 use Rattle.lexer.specs.Name.{hex_digit}
-use Rattle.lexer.specs.Token.{Token, text_of}
-use Rattle.lexer.specs.TokenRow.{number_kind, dimension_kind}
+use Rattle.lexer.specs.Token.{Token, number, dimension}
 use Rattle.lexer.specs.Whitespace.{skip_whitespace}
 use Rattle.values.specs.Colour.{numeral}
-use Rattle.values.specs.Words.{lookup, on_found, is_kind, number_of, unit_of}
+use Rattle.values.specs.Words.{lookup, on_found}
 use Rattle.values.proofs.HeightLaws.{integer_of, fraction_of}
 use Rattle.lengths.specs.Number.{numeric_token}
 use Rattle.lengths.specs.Unit.{units}
@@ -83,9 +82,9 @@ number_length n = pick (is (digits_number n) 0) (measured Units 0) (Ok None)
 
 -- a token that starts at a place, as `height_of` takes it apart
 unfoldable pub token_length : ℕ → Token → Result (Option Length) LengthError
-token_length place k =
-    pick (is_kind dimension_kind k) (dimension_length place (number_of k) (unit_of k))
-    (pick (is_kind number_kind k) (number_length (text_of k)) (Ok None))
+token_length place (dimension n u) = dimension_length place n u
+token_length place (number n) = number_length n
+token_length place _ = Ok None
 
 -- "anything but white space and comments"
 unfoldable pub only_whitespace : List ℕ → Bool

@@ -21,7 +21,6 @@ use Rattle.combinators.proofs.Wiped.{sets-append}
 use Rattle.lexer.specs.Name.{ident_of, name_answer, name_text}
 use Rattle.lexer.specs.Quoted.{string_end, string_text}
 use Rattle.lexer.specs.Token.{Token, string, bad_string, string_from, string_of, coded, text_of, token_answer, token_text}
-use Rattle.lexer.specs.TokenRow.{string_kind}
 use Rattle.lexer.specs.declared.Written.{Written}
 use Rattle.lexer.specs.declared.tokens.Token as declared
 use Rattle.lexer.specs.declared.tokens.Token.TheVariants as code
@@ -36,10 +35,9 @@ use Rattle.lexer.proofs.TokenBounds.{string-bounded}
 use Rattle.syntax.specs.Selector as syntax
 use Rattle.syntax.specs.Selector.{attribute, attribute_equal}
 use Rattle.syntax.specs.RuleLayout.{component_text}
-use Rattle.values.specs.Words.{is_kind, kind_of}
 use Rattle.lexer.proofs.NameAnswers.{NameRead, named-from, unnamed-from}
 use Rattle.selectors.specs.Outcome.{Outcome, reads, fails, on_outcome, parsed, or_else}
-use Rattle.selectors.specs.Selector.{closed, quoted_of, value_of, attr_of}
+use Rattle.selectors.specs.Selector.{closed, quoted_from, quoted_of, value_of, attr_of}
 use Rattle.selectors.specs.Reading.{written}
 use Rattle.selectors.specs.ComponentAnswer.{component_coded, component_answer, closed_by, closed_answer, closed_store, attr_value_of, equal_answer, equal_store}
 use Rattle.selectors.specs.Stores.{Clean}
@@ -78,21 +76,16 @@ string-like : (s : List ℕ) → StringLike (string_of s)
 unfolding string_of
 string-like s = pick-holds StringLike _ _ _ (λ _. string-from (get_or s 0 0) (drop 1 s)) (λ _. tt)
 
--- a string is of the kind of strings, a bad string is not
-string-kind : (b : List ℕ) → (is_kind string_kind (string b) ≡ true) × (is_kind string_kind (bad_string b) ≡ false)
-unfolding is_kind kind_of is
-string-kind b = (refl, refl)
-
 module _ (s : List ℕ) where
   -- a string token that is a string is a quoted string
   quoted-string : (n : ℕ) (b : List ℕ) → string_of s ≡ ok n (string b) → quoted_of s ≡ ok n b
-  unfolding quoted_of on_parsed pick text_of
-  quoted-string n b e = rw (e, (string-kind b).0)
+  unfolding quoted_of quoted_from on_parsed
+  quoted-string n b e = rw e
 
   -- a bad one is none
   quoted-bad : (n : ℕ) (b : List ℕ) → string_of s ≡ ok n (bad_string b) → quoted_of s ≡ err
-  unfolding quoted_of on_parsed pick
-  quoted-bad n b e = rw (e, (string-kind b).1)
+  unfolding quoted_of quoted_from on_parsed
+  quoted-bad n b e = rw e
 
   -- and no token is none
   quoted-none : string_of s ≡ err → quoted_of s ≡ err

@@ -7,12 +7,10 @@ use Rattle.combinators.specs.Word.{starts_with, same_text}
 use Rattle.characters.specs.Literal.{text}
 use Rattle.lexer.specs.Name.{ident_of, identstring_of, hex_digit}
 use Rattle.lexer.specs.Number.{digits}
-use Rattle.lexer.specs.Token.{string_of, text_of}
-use Rattle.lexer.specs.TokenRow.{string_kind}
+use Rattle.lexer.specs.Token.{Token, string, string_of}
 use Rattle.lexer.specs.Whitespace.{skip_whitespace}
 use Rattle.syntax.specs.Selector.{Component, star, class, element, hash, child, descendant, nth, attribute, attribute_equal, PseudoElement, none, before, after, Selector}
 use Rattle.values.specs.Colour.{numeral}
-use Rattle.values.specs.Words.{is_kind}
 use Rattle.selectors.specs.Outcome.{Outcome, reads, fails, panics, on_outcome, behind, parsed, or_else}
 
 -- ---- components
@@ -30,8 +28,12 @@ unfoldable pub closed : List ℕ → ℕ → Component → Outcome Component
 closed t j c = pick (is (get_or t j 0) ascii.right_square_bracket) (reads (j + 1) c) fails
 
 -- `parse_quoted_string`: a string that is not a bad one
+unfoldable pub quoted_from : ℕ → Token → Parsed (List ℕ)
+quoted_from n (string b) = ok n b
+quoted_from n _ = err
+
 unfoldable pub quoted_of : List ℕ → Parsed (List ℕ)
-quoted_of t = on_parsed (string_of t) (λ n k. pick (is_kind string_kind k) (ok n (text_of k)) err) err
+quoted_of t = on_parsed (string_of t) quoted_from err
 
 unfoldable pub value_of : List ℕ → ℕ → List ℕ → Outcome Component
 value_of t j name =

@@ -9,12 +9,12 @@ use lib.Dec.{ltb}
 use Rattle.combinators.specs.Choice.{pick, and}
 use Rattle.combinators.specs.Word.{same_text}
 use Rattle.combinators.proofs.Rules.{pick-holds, and-true}
-use Rattle.lexer.specs.Token.{Token, text_of}
+use Rattle.lexer.specs.Token.{Token, ident, function, hash, number, comma, close_round}
 use Rattle.syntax.specs.Declaration.{Colour}
 use Rattle.syntax.proofs.Back.{OfBytes}
 use Rattle.values.specs.Words.{Entry, Found, found, missing, lookup, on_found}
 use Rattle.lexer.specs.Number.{is_digit}
-use Rattle.values.specs.Colour.{without_plus, rgb, colours, parse_u8, parse_hex, three_digits, six_digits, hash_colour, rgb_of, three_numbers, rgb_colour, one_token, colour_of, behind_comma, background_of}
+use Rattle.values.specs.Colour.{without_plus, rgb, colours, parse_u8, parse_hex, three_digits, six_digits, hash_colour, rgb_of, three_numbers, rgb_colour, colour_of, behind_comma, background_of}
 use Rattle.values.specs.ColourAnswer.{number_answer}
 use Rattle.values.proofs.ColourLaws.{byte_le}
 use Rattle.values.proofs.WordLaws.{found-holds, or-holds}
@@ -116,28 +116,18 @@ numbers-bytes r g b =
 -- the tokens behind the name
 list-bytes : (ks : List Token) → Bytes (rgb_colour ks)
 unfolding rgb_colour
-list-bytes [] = none
-list-bytes (a ∷ []) = none
-list-bytes (a ∷ b ∷ []) = none
-list-bytes (a ∷ b ∷ c ∷ []) = none
-list-bytes (a ∷ b ∷ c ∷ d ∷ []) = none
-list-bytes (a ∷ b ∷ c ∷ d ∷ e ∷ []) = none
-list-bytes (r ∷ c ∷ g ∷ d ∷ b ∷ e ∷ []) = of_two _ _ _ (numbers-bytes (text_of r) (text_of g) (text_of b)) none
-list-bytes (a ∷ b ∷ c ∷ d ∷ e ∷ f ∷ g ∷ r) = none
+list-bytes (number r ∷ comma ∷ number g ∷ comma ∷ number b ∷ close_round ∷ []) = numbers-bytes r g b
+list-bytes _ = none
 
 -- ---- values
-
--- a colour of one token is made of bytes
-token-bytes : (k : Token) → Bytes (one_token k)
-unfolding one_token
-token-bytes k = of_two _ _ _ (table-bytes (text_of k) colours names-small) (of_two _ _ _ (hash-bytes (text_of k)) none)
 
 -- the colour that `parse_color` reads
 pub colour-bytes : (ks : List Token) (c : Colour) → colour_of ks ≡ found c → OfBytes c
 unfolding colour_of
-colour-bytes [] = none
-colour-bytes (k ∷ []) = token-bytes k
-colour-bytes (k ∷ a ∷ r) = of_two _ _ _ (list-bytes (a ∷ r)) none
+colour-bytes (ident b ∷ []) = table-bytes b colours names-small
+colour-bytes (hash b ∷ []) = hash-bytes b
+colour-bytes (function b ∷ ks) = of_two _ _ _ (list-bytes ks) none
+colour-bytes _ = none
 
 -- and the one that `parse_background_color` reads
 pub background-bytes : (ks : List Token) (c : Colour) → background_of ks ≡ found c → OfBytes c

@@ -16,12 +16,12 @@ use Rattle.combinators.specs.Word.{same_text}
 use Rattle.combinators.proofs.Lists.{rest}
 use Rattle.combinators.proofs.Rules.{pick_true, pick-false, pick-holds, and-gives, and-gives-false, and-true, told}
 use Rattle.characters.specs.Literal.{text}
-use Rattle.lexer.specs.Token.{Token, text_of}
+use Rattle.lexer.specs.Token.{Token, ident, function, hash, number, comma, close_round, text_of}
 use Rattle.lexer.specs.TokenRow.{token_width, ident_kind, function_kind, hash_kind, number_kind, comma_kind, close_round_kind}
 use Rattle.syntax.specs.Declaration.{Colour}
 use Rattle.syntax.specs.Stream.{read_many}
-use Rattle.values.specs.Words.{Found, missing, lookup, is_kind}
-use Rattle.values.specs.Colour.{colours, hash_colour, three_numbers, rgb_colour, one_token, colour_of, behind_comma, background_of}
+use Rattle.values.specs.Words.{Found, missing, lookup}
+use Rattle.values.specs.Colour.{colours, hash_colour, three_numbers, rgb_colour, colour_of, behind_comma, background_of}
 use Rattle.values.specs.ColourAnswer.{colour_answer}
 use Rattle.values.specs.ColourRows.{kind_at, rgb_count, rgb_name, number_before, rgb_kinds, rgb_here, last_part}
 use Rattle.values.specs.View.{read_token, token_here, first_text, tokens_at, token_count}
@@ -32,6 +32,7 @@ use Rattle.std.specs.Fn.{CalledAt}
 use Rattle.std.specs.Iterator.Runs.{SomeRun, Run, CallKeepsClosure, NoItemPasses, EndsAtFirstPassing, ItemsCountDown}
 use Rattle.std.proofs.lemmas.Iterator.Adapters.{option_map_id}
 use Rattle.values.proofs.ColourLaws.{no-colour}
+use Rattle.values.proofs.TokenKinds.{is_kind, rgb-told, one-told, call-told, comma-told}
 use Rattle.values.proofs.TokenViews.{Kind, ident-text, function-text, hash-text, number-text, comma-kind, close-round-kind, here-kind, kind-told, here-text, tokens-here, tokens_none, count-rest}
 
 -- ---- tokens by their number
@@ -72,31 +73,28 @@ module _ (rows store : List ℕ) where
   module _ (r : Bool) (er : r ≡ kind_at rows 0 ident_kind) where
     -- a name is the colour that the table gives it
     pub one-named : r ≡ true → (t : List ℕ) → t ≡ first_text rows store 0 → (x : Option ℕ) → x ≡ colour_answer (lookup t colours)
-        → x ≡ colour_answer (one_token (token_here rows store 0))
-    unfolding one_token
+        → x ≡ colour_answer (colour_of (token_here rows store 0 ∷ []))
     one-named h t et x ex =
         let s : t ≡ text_of (token_here rows store 0) = et ∙ sym (here-text rows store 0 ident_kind ident-text (told _ _ _ er h)) in
-        ex ∙ ap colour_answer (pick_true _ _ _ _ (kind-told rows store 0 ident_kind ident-text.kind r true er h) (ap (λ u. lookup u colours) s))
+        ex ∙ ap colour_answer (pick_true _ _ _ _ (kind-told rows store 0 ident_kind ident-text.kind r true er h) (ap (λ u. lookup u colours) s) ∙ sym (one-told _))
 
     module _ (h : r ≡ false) (l : Bool) (el : l ≡ kind_at rows 0 hash_kind) where
       -- the return where the only token is a hash: the colour of what stands behind '#'
       pub one-hash : l ≡ true → (t : List ℕ) → t ≡ first_text rows store 0 → (x : Option ℕ) → x ≡ colour_answer (hash_colour t)
-          → x ≡ colour_answer (one_token (token_here rows store 0))
-      unfolding one_token
+          → x ≡ colour_answer (colour_of (token_here rows store 0 ∷ []))
       one-hash g t et x ex =
           let s : t ≡ text_of (token_here rows store 0) = et ∙ sym (here-text rows store 0 hash_kind hash-text (told _ _ _ el g)) in
           ex
           ∙ ap colour_answer
           (pick-false _ _ _ _ (kind-told rows store 0 ident_kind ident-text.kind r false er h)
-          (pick_true _ _ _ _ (kind-told rows store 0 hash_kind hash-text.kind l true el g) (ap hash_colour s)))
+          (pick_true _ _ _ _ (kind-told rows store 0 hash_kind hash-text.kind l true el g) (ap hash_colour s)) ∙ sym (one-told _))
 
       -- a token that is neither a name nor a hash is no colour
-      pub one-other : l ≡ false → None ≡ colour_answer (one_token (token_here rows store 0))
-      unfolding one_token
+      pub one-other : l ≡ false → None ≡ colour_answer (colour_of (token_here rows store 0 ∷ []))
       one-other g =
           no-colour _
           (pick-false _ _ _ _ (kind-told rows store 0 ident_kind ident-text.kind r false er h)
-          (pick-false _ _ _ _ (kind-told rows store 0 hash_kind hash-text.kind l false el g) refl))
+          (pick-false _ _ _ _ (kind-told rows store 0 hash_kind hash-text.kind l false el g) refl) ∙ sym (one-told _))
 
 -- ---- two tests in turn
 
@@ -241,8 +239,7 @@ module _ (rows store : List ℕ) where
   -- so the colour of the seven
   seven-colour : pick (rgb_name rows store) (pick (rgb_kinds rows) (three_numbers (text_of (nth 1)) (text_of (nth 3)) (text_of (nth 5))) missing) missing
       ≡ colour_of (tokens_at rows store rgb_count)
-  unfolding colour_of rgb_colour
-  seven-colour = sym (ap colour_of seven ∙ rw (name-test, list-test))
+  seven-colour = sym (ap colour_of seven ∙ call-told _ _ _ ∙ rw (rgb-told (nth 1) (nth 2) (nth 3) (nth 4) (nth 5) (nth 6), name-test, list-test))
 
   module _ (r : Bool) (er : r ≡ rgb_name rows store) where
     -- a function of another name is no colour
@@ -266,27 +263,21 @@ module _ (rows store : List ℕ) where
 -- six tokens behind `rgb(` or none
 rgb-other : (ks : List Token) → ¬ (length ks ≡ 6) → missing ≡ rgb_colour ks
 unfolding rgb_colour
-rgb-other [] n = refl
-rgb-other (a ∷ []) n = refl
-rgb-other (a ∷ b ∷ []) n = refl
-rgb-other (a ∷ b ∷ c ∷ []) n = refl
-rgb-other (a ∷ b ∷ c ∷ d ∷ []) n = refl
-rgb-other (a ∷ b ∷ c ∷ d ∷ e ∷ []) n = refl
-rgb-other (a ∷ b ∷ c ∷ d ∷ e ∷ f ∷ []) n = absurd (n refl)
-rgb-other (a ∷ b ∷ c ∷ d ∷ e ∷ f ∷ g ∷ r) n = refl
+rgb-other (number r ∷ comma ∷ number g ∷ comma ∷ number b ∷ close_round ∷ []) n = absurd (n refl)
+rgb-other _ n = refl
 
 -- another count of tokens than 1 and 7
 colour-other : (ks : List Token) → ¬ (length ks ≡ 1) → ¬ (length ks ≡ rgb_count) → missing ≡ colour_of ks
 unfolding colour_of
-colour-other [] n m = refl
-colour-other (k ∷ []) n m = absurd (n refl)
-colour-other (k ∷ a ∷ r) n m = pick-holds (λ (f : Found Colour). missing ≡ f) _ _ _ (λ _. rgb-other (a ∷ r) (λ e. m (ap suc e))) (λ _. refl)
+colour-other (ident b ∷ []) n m = absurd (n refl)
+colour-other (hash b ∷ []) n m = absurd (n refl)
+colour-other (function b ∷ ks) n m = pick-holds (λ (f : Found Colour). missing ≡ f) _ _ _ (λ _. rgb-other ks (λ e. m (ap suc e))) (λ _. refl)
+colour-other _ n m = refl
 
 module _ (rows store : List ℕ) (n : ℕ) where
   -- a value of one token is asked as one token
-  pub count-one : n ≡ 1 → (x : Option ℕ) → x ≡ colour_answer (one_token (token_here rows store 0))
+  pub count-one : n ≡ 1 → (x : Option ℕ) → x ≡ colour_answer (colour_of (token_here rows store 0 ∷ []))
       → x ≡ colour_answer (colour_of (tokens_at rows store n))
-  unfolding colour_of
   count-one e x ex = ex ∙ ap (λ ks. colour_answer (colour_of ks)) (sym (ap (tokens_at rows store) e ∙ more rows store 0 0 [] (tokens_none _ store)))
 
   -- a value of any other count is no colour
@@ -302,13 +293,8 @@ behind-from : (i : ℕ) (acc ks x : List Token) → ((a : List Token) → behind
 unfolding behind_comma
 behind-from zero acc ks x f = f acc
 behind-from (suc i) acc [] x f = f acc
-behind-from (suc i) acc (k ∷ ks) x f =
-    pick-holds (λ (l : List Token). l ≡ x) _ _ _ (λ _. behind-from i ks ks x f) (λ _. behind-from i acc ks x f)
-
--- one token and the rest
-behind-first : (acc ks : List Token) (k : Token) → behind_comma acc (k ∷ ks) ≡ pick (is_kind comma_kind k) (behind_comma ks ks) (behind_comma acc ks)
-unfolding behind_comma
-behind-first acc ks k = refl
+behind-from (suc i) acc (comma ∷ ks) x f = behind-from i ks ks x f
+behind-from (suc i) acc (_ ∷ ks) x f = behind-from i acc ks x f
 
 module _ (rows store : List ℕ) (n : ℕ) where
   -- the tokens of the value
@@ -333,7 +319,7 @@ module _ (rows store : List ℕ) (n : ℕ) where
 
       turn : (a : List Token) → behind_comma a (drop i all)
           ≡ pick (is_kind comma_kind (token_here rows store (i * token_width))) (behind_comma (drop (suc i) all) (drop (suc i) all)) (behind_comma a (drop (suc i) all))
-      turn a = ap (behind_comma a) (token-nth rows store i n h) ∙ behind-first a (drop (suc i) all) _
+      turn a = ap (behind_comma a) (token-nth rows store i n h) ∙ comma-told a (drop (suc i) all) _
 
   -- nothing stands behind the last token
   quiet-end : Quiet n
@@ -353,29 +339,29 @@ last-next rows i r e = rw (add-one i, e)
 -- ---- `behind_comma`: the commas among n tokens, from the last on
 module _ (rows : List ℕ) (n : ℕ) where
   -- whether the i-th is one
-  abbrev comma : ℕ → Bool
-  comma i = kind_at rows (i * token_width) comma_kind
+  abbrev comma_at : ℕ → Bool
+  comma_at i = kind_at rows (i * token_width) comma_kind
 
   -- with none from the i-th on, the last part is that of the tokens before it
-  none-from : (k i : ℕ) → i + k ≡ n → ((j : ℕ) → i ≤ j → j < n → comma j ≡ false) → last_part rows n ≡ last_part rows i
+  none-from : (k i : ℕ) → i + k ≡ n → ((j : ℕ) → i ≤ j → j < n → comma_at j ≡ false) → last_part rows n ≡ last_part rows i
   none-from zero i e q = let z : n ≡ i = omega arith in ap (last_part rows) z
   none-from (suc k) i e q =
       none-from k (i + 1) (omega arith) (λ j a b. q j (omega arith) b) ∙ last-next rows i false (sym (q i (omega arith) (omega arith))) ∙ sym (pick-false _ _ _ _ refl refl)
 
   -- without one the list begins at 0
-  last-none : ((j : ℕ) → j < n → comma j ≡ false) → 0 ≡ last_part rows n
+  last-none : ((j : ℕ) → j < n → comma_at j ≡ false) → 0 ≡ last_part rows n
   unfolding last_part
   last-none q = sym (none-from n 0 (omega arith) (λ j a b. q j b))
 
   -- and else behind the last
-  last-comma : (i : ℕ) → i < n → comma i ≡ true → ((j : ℕ) → i < j → j < n → comma j ≡ false) → i + 1 ≡ last_part rows n
+  last-comma : (i : ℕ) → i < n → comma_at i ≡ true → ((j : ℕ) → i < j → j < n → comma_at j ≡ false) → i + 1 ≡ last_part rows n
   last-comma i h c q =
       sym (none-from (n - (i + 1)) (i + 1) (omega arith) (λ j a b. q j (omega arith) b) ∙ last-next rows i true (sym c) ∙ sym (pick_true _ _ _ _ refl refl))
 
   -- the token at which the calls from the last on stopped
   pub run-last : {S F : Type 0} {steps : S → Option ℕ → S → Type 0} (s : S) (g : Mut F (Bor ℕ × Unit {0}) Bool) (f : F)
       → ((p : Run steps) → p.from ≡ s → ItemsCountDown p 0 n)
-      → CallKeepsClosure g f → ((x : ℕ) (b : Bool) (q : F) → CalledAt g f x b q → b ≡ comma x)
+      → CallKeepsClosure g f → ((x : ℕ) (b : Bool) (q : F) → CalledAt g f x b q → b ≡ comma_at x)
       → (r : Option ℕ) → SomeRun steps s (λ u. MatchOption r ((u.whole ≡ true) × NoItemPasses u g f) (EndsAtFirstPassing u g f))
       → MatchOption r (0 ≡ last_part rows n) (λ i. (i + 1 ≡ last_part rows n) × (i < n))
   run-last {F = F} s g f down keeps k r (p, e, m) = go r m

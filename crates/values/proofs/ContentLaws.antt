@@ -12,10 +12,11 @@ use Rattle.combinators.proofs.Rules.{pick_true, pick-false, told}
 use Rattle.lexer.specs.Token.{Token, text_of}
 use Rattle.lexer.specs.TokenRow.{token_width, kind_column, string_kind}
 use Rattle.syntax.specs.Stream.{texts_many}
-use Rattle.values.specs.Words.{Found, found, missing, on_found, is_kind}
+use Rattle.values.specs.Words.{Found, found, missing, on_found}
 use Rattle.values.specs.View.{token_here, first_text, tokens_at}
 use Rattle.values.specs.Property.{content_of}
 use Rattle.values.specs.ValueAnswer.{ContentRoom, content_answer}
+use Rattle.values.proofs.TokenKinds.{is_kind, content-told}
 use Rattle.values.proofs.TokenViews.{string-text, kind-told, here-text, next-token, no-token}
 
 -- the answer where strings of n bytes stand before a content
@@ -73,8 +74,7 @@ module _ (rows store : List ℕ) where
 
       -- the content by this token and those behind it
       turn : whole ≡ content_behind n (pick (is_kind string_kind token) (on_found (content_of after) (λ b. found (text_of token ++ b)) missing) missing)
-      unfolding content_of
-      turn = c.same ∙ ap (λ ks. content_behind n (content_of ks)) (next-token rows store count i h)
+      turn = c.same ∙ ap (λ ks. content_behind n (content_of ks)) (next-token rows store count i h) ∙ ap (content_behind n) (content-told token after)
 
       -- a token that is no string makes the whole no content
       pub joining-stop : b ≡ false → None ≡ whole

@@ -15,9 +15,9 @@ use Rattle.characters.specs.Literal.{text}
 use Rattle.characters.specs.Utf8.{utf8, continuation}
 use Rattle.lexer.specs.Name.{is_hex_digit, hex_digit}
 use Rattle.lexer.specs.Number.{is_digit}
-use Rattle.lexer.specs.Token.{function, number, comma, close_round, text_of}
+use Rattle.lexer.specs.Token.{function, number, comma, close_round}
 use Rattle.lexer.proofs.Escapes.{digit-le}
-use Rattle.values.specs.Words.{kind_of, is_kind, Entry, found, lookup, on_found}
+use Rattle.values.specs.Words.{Entry, found, lookup, on_found}
 use Rattle.values.specs.Colour.{rgb, colours, all_of, numeral, without_plus, digits_in, parse_u8, parse_hex, three_digits, six_digits, hash_colour, rgb_of, three_numbers, rgb_colour, colour_of}
 use Rattle.values.proofs.ColourLaws.{number_read}
 
@@ -132,5 +132,5 @@ integer-read (x ∷ t) v h =
 -- three integers in brackets, parted by commas, are red, green and blue
 pub functional : (r g b : List ℕ) (x y z : ℕ) → Integer r x → Integer g y → Integer b z
     → colour_of (function (text "rgb") ∷ number r ∷ comma ∷ number g ∷ comma ∷ number b ∷ close_round ∷ []) ≡ found (rgb x y z)
-unfolding colour_of rgb_colour three_numbers rgb_of on_found is_kind kind_of text_of same_text text utf8 continuation pick choice.and choice.is
+unfolding colour_of rgb_colour three_numbers rgb_of on_found same_text text utf8 continuation pick choice.and choice.is
 functional r g b x y z hr hg hb = rw (integer-read r x hr, integer-read g y hg, integer-read b z hb)

@@ -4,14 +4,12 @@ use mathlib.Core.Path.{◌≡◌, refl, sym, ap, subst, ◌∙◌}
 use mathlib.Core.Bool.{Bool}
 use mathlib.Core.List.{List, [], ◌∷◌, ◌++◌}
 use lib.ListN.{length}
-use Rattle.combinators.proofs.Rules.{pick-holds}
-use Rattle.lexer.specs.Token.{Token, text_of}
-use Rattle.lexer.specs.TokenRow.{string_kind}
+use Rattle.lexer.specs.Token.{Token, string, text_of}
 use Rattle.syntax.specs.Declaration.{Decl, color, background_color, height, max_height, overflow, overflow_y, display, white_space, content, visibility, unknown}
 use Rattle.syntax.specs.Layout.{colour_number, decl_text}
 use Rattle.syntax.specs.Stream.{texts_many}
 use Rattle.syntax.proofs.Back.{DeclFits}
-use Rattle.values.specs.Words.{Entry, Found, found, missing, lookup, on_found, row_at, is_kind}
+use Rattle.values.specs.Words.{Entry, Found, found, missing, lookup, on_found, row_at}
 use Rattle.values.specs.Colour.{colour_of, background_of}
 use Rattle.values.specs.ColourAnswer.{colour_answer}
 use Rattle.values.specs.Property.{height_of, overflow_of, display_of, white_space_of, content_of, visibility_of, properties, decl_of}
@@ -167,12 +165,10 @@ decl-fits name ks =
 
 -- a content is the texts of all tokens of a value
 content-holds : (P : Found (List ℕ) → Type 0) (ks : List Token) → P missing → P (found (texts_many text_of ks)) → P (content_of ks)
-unfolding content_of texts_many on_found
+unfolding content_of texts_many text_of on_found
 content-holds P [] m h = h
-content-holds P (k ∷ ks) m h =
-    pick-holds P (is_kind string_kind k) _ missing
-    (λ _. content-holds (λ f. P (on_found f (λ b. found (text_of k ++ b)) missing)) ks m h)
-    (λ _. m)
+content-holds P (string b ∷ ks) m h = content-holds (λ f. P (on_found f (λ c. found (b ++ c)) missing)) ks m h
+content-holds P (_ ∷ ks) m h = m
 
 -- a declaration without a text
 pub record Textless (d : Decl) : Type 0 where

@@ -21,10 +21,11 @@ use Rattle.lexer.specs.Token.{Token, text_of}
 use Rattle.lexer.specs.TokenRow.{token_width, kind_column, number_kind, dimension_kind}
 use Rattle.std.specs.Prelude.{Option, None}
 use Rattle.std.specs.Bool.{then_some}
-use Rattle.values.specs.Words.{Found, found, missing, on_found, is_kind, unit_of}
+use Rattle.values.specs.Words.{Found, found, missing, on_found}
 use Rattle.values.specs.View.{token_here, first_text, second_text, tokens_at}
 use Rattle.values.specs.Property.{unsigned_zero, number_zero, units, any_of, height_of}
 use Rattle.values.specs.ValueAnswer.{height_answer}
+use Rattle.values.proofs.TokenKinds.{is_kind, unit_of, height_by, height-told, height-more}
 use Rattle.values.proofs.TokenViews.{number-text, dimension-kind, kind-told, here-text, here-number, here-unit, tokens-here, tokens_none}
 
 -- ---- a number without a sign, with n digits before its point
@@ -76,7 +77,7 @@ pub height-none : (rows store : List ℕ) (n : ℕ) → ¬ (n ≡ 1) → None �
 unfolding height_answer height_of on_found
 height-none rows store zero d = rw (tokens_none rows store)
 height-none rows store (suc zero) d = absurd (d refl)
-height-none rows store (suc (suc n)) d = rw (tokens-here rows store 0 (suc n), tokens-here rows store token_width n)
+height-none rows store (suc (suc n)) d = rw (tokens-here rows store 0 (suc n), tokens-here rows store token_width n, height-more (token_here rows store 0) (token_here rows store token_width) _)
 
 -- a value of one token; d that it is a dimension
 module _ (rows store : List ℕ) (n : ℕ) (e : n ≡ 1) (d : Bool) (ed : d ≡ is (get_or rows kind_column 0) dimension_kind) where
@@ -95,8 +96,8 @@ module _ (rows store : List ℕ) (n : ℕ) (e : n ≡ 1) (d : Bool) (ed : d ≡ 
   kind v p = kind-told rows store 0 dimension_kind dimension-kind d v ed p
 
   -- where the height of the token is f, the answer is that of f
-  height-as : (f : Found Bool) → f ≡ height_of (token ∷ []) → height_answer f ≡ whole
-  height-as f p = ap height_answer p ∙ sym (ap (λ ks. height_answer (height_of ks)) one)
+  height-as : (f : Found Bool) → f ≡ height_by token → height_answer f ≡ whole
+  height-as f p = ap height_answer (p ∙ sym (height-told token)) ∙ sym (ap (λ ks. height_answer (height_of ks)) one)
 
   -- a dimension; u that its unit is a length's
   module _ (p : d ≡ true) (u : Bool) (eu : u ≡ any_of (second_text rows store 0) units) where
@@ -110,7 +111,7 @@ module _ (rows store : List ℕ) (n : ℕ) (e : n ≡ 1) (d : Bool) (ed : d ≡ 
 
     -- where it is, the height is zero or not as the number z is
     pub height-length : (z : Bool) → z ≡ number_zero (first_text rows store 0) → then_some u z ≡ whole
-    unfolding height_answer on_found height_of
+    unfolding height_answer on_found
     height-length z ez = go u refl
       where
         go : (v : Bool) → u ≡ v → then_some v z ≡ whole
@@ -133,7 +134,7 @@ module _ (rows store : List ℕ) (n : ℕ) (e : n ≡ 1) (d : Bool) (ed : d ≡ 
 
       -- a number is a height without a unit where it is zero
       pub height-bare : then_some z true ≡ whole
-      unfolding height_answer on_found height_of
+      unfolding height_answer on_found
       height-bare = go z refl
         where
           go : (v : Bool) → z ≡ v → then_some v true ≡ whole
@@ -146,5 +147,5 @@ module _ (rows store : List ℕ) (n : ℕ) (e : n ≡ 1) (d : Bool) (ed : d ≡ 
 
     -- a token that is neither a dimension nor a number is no height
     pub height-neither : k ≡ false → None ≡ whole
-    unfolding height_answer on_found height_of
+    unfolding height_answer on_found
     height-neither q = height-as missing (pick-false _ _ _ _ (kind false p) (pick-false _ _ _ _ (number-kind false q) refl))

@@ -9,29 +9,30 @@ use lib.ListN.{get_or, drop}
 use denote.Param.Members.{Mut, Called}
 use Rattle.std.proofs.lemmas.Iterator.Adapters.{option_map_id}
 use Rattle.std.specs.Iterator.Runs.{SomeRun, Run, CallKeepsClosure, AllItemsGive, IsFirstToGive, ItemsCountUp}
-use Rattle.combinators.specs.Choice.{pick, is}
+use Rattle.combinators.specs.Choice.{is}
 use Rattle.combinators.proofs.Rules.{pick_true, pick-false, told}
-use Rattle.lexer.specs.Token.{Token, text_of}
+use Rattle.lexer.specs.Token.{Token, ident}
 use Rattle.lexer.specs.TokenRow.{token_width, kind_column, ident_kind}
 use Rattle.syntax.specs.Declaration.{WhiteSpace, normal}
-use Rattle.values.specs.Words.{Entry, Found, found, missing, lookup, on_found, is_kind}
+use Rattle.values.specs.Words.{Entry, Found, found, missing, lookup, on_found}
 use Rattle.values.specs.View.{token_here, first_text, tokens_at}
 use Rattle.values.specs.Property.{first_word, overflows, overflow_of, displays, display_of, white_spaces, white_space_of, visibilities, visibility_of}
 use Rattle.values.specs.KeywordAnswer.{overflow_word, white_space_word, overflow_answer}
 use Rattle.values.specs.declared.keywords.WhiteSpace as declared_white_space
+use Rattle.values.proofs.TokenKinds.{is_kind, first-told, visibility-told, visibility-more}
 use Rattle.values.proofs.TokenViews.{ident-text, kind-told, here-text, tokens-here, tokens_none, next-token, no-token}
 use Rattle.values.proofs.WordLaws.{mapped, found_as, on-found-as, lookup-mapped}
 
 module _ {A : Type 0} (table : List (Entry A)) where
   -- the first word of a value is that of its first token, or else that of the others
   first-or : (k : Token) (ks : List Token) → first_word table (k ∷ ks) ≡ on_found (first_word table (k ∷ [])) (λ a. found a) (first_word table ks)
-  unfolding first_word on_found pick
-  first-or k ks = go (is_kind ident_kind k) (lookup (text_of k) table) (first_word table ks)
+  unfolding first_word on_found
+  first-or (ident b) ks = go (lookup b table) (first_word table ks)
     where
-      go : (b : Bool) (x m : Found A) → pick b (on_found x (λ a. found a) m) m ≡ on_found (pick b (on_found x (λ a. found a) missing) missing) (λ a. found a) m
-      go true (found a) m = refl
-      go true missing m = refl
-      go false x m = refl
+      go : (x m : Found A) → on_found x (λ a. found a) m ≡ on_found (on_found x (λ a. found a) missing) (λ a. found a) m
+      go (found a) m = refl
+      go missing m = refl
+  first-or _ ks = refl
 
   module _ (rows store : List ℕ) where
     -- ---- `word_at`: the token whose row starts at `at`, and b that it is a name
@@ -43,19 +44,18 @@ module _ {A : Type 0} (table : List (Entry A)) where
       -- it is one, with the text w
       pub name-there : b ≡ true → (w : List ℕ) → w ≡ first_text rows store at → (r : Option A) → r ≡ on_found (lookup w table) Some None
           → r ≡ on_found (first_word table (token_here rows store at ∷ [])) Some None
-      unfolding first_word
       name-there p w ew r er =
           er ∙ ap (λ x. on_found (lookup x table) Some None) (ew ∙ sym (here-text rows store at ident_kind ident-text (told _ _ _ e p)))
-          ∙ ap (λ (f : Found A). on_found f Some None) (pick_true _ _ _ _ (named true p) (go (lookup _ table)))
+          ∙ ap (λ (f : Found A). on_found f Some None) (pick_true _ _ _ _ (named true p) (go (lookup _ table)) ∙ sym (first-told table _ []))
         where
-          go : (x : Found A) → x ≡ on_found x (λ a. found a) missing
+          go : (x : Found A) → x ≡ on_found x (λ a. found a) (first_word table [])
           go (found a) = unfold on_found in refl
-          go missing = unfold on_found in refl
+          go missing = unfold on_found first_word in refl
 
       -- a token that is no name stands for nothing
       pub name-none : b ≡ false → None ≡ on_found (first_word table (token_here rows store at ∷ [])) Some None
       unfolding first_word on_found
-      name-none p = ap (λ (f : Found A). on_found f Some None) (pick-false _ _ _ _ (named false p) refl)
+      name-none p = ap (λ (f : Found A). on_found f Some None) (pick-false _ _ _ _ (named false p) refl ∙ sym (first-told table _ []))
 
     -- ---- `first_word`: what the i-th token stands for
     abbrev word : ℕ → Option A
@@ -134,12 +134,12 @@ module _ {A : Type 0} (table : List (Entry A)) where
 first-mapped : {A B : Type 0} (f : A → B) (es : List (Entry A)) (ks : List Token) → first_word (mapped f es) ks ≡ found_as f (first_word es ks)
 unfolding first_word
 first-mapped f es [] = unfold found_as on_found in refl
-first-mapped f es (k ∷ ks) = rw (lookup-mapped f (text_of k) es, first-mapped f es ks) (go (is_kind ident_kind k) (lookup (text_of k) es) (first_word es ks))
+first-mapped f es (ident b ∷ ks) = rw (lookup-mapped f b es, first-mapped f es ks) (go (lookup b es) (first_word es ks))
   where
-    go : (b : Bool) (x m : Found _) → pick b (on_found (found_as f x) (λ a. found a) (found_as f m)) (found_as f m) ≡ found_as f (pick b (on_found x (λ a. found a) m) m)
-    go true (found a) m = unfold pick found_as on_found in refl
-    go true missing m = unfold pick found_as on_found in refl
-    go false x m = unfold pick in refl
+    go : (x m : Found _) → on_found (found_as f x) (λ a. found a) (found_as f m) ≡ found_as f (on_found x (λ a. found a) m)
+    go (found a) m = unfold found_as on_found in refl
+    go missing m = unfold found_as on_found in refl
+first-mapped f es (_ ∷ ks) = first-mapped f es ks
 
 -- a value names an overflow
 pub overflow-told : (ks : List Token) → on_found (first_word (mapped overflow_word overflows) ks) Some None ≡ overflow_answer (overflow_of ks)
@@ -172,12 +172,11 @@ pub visibility-none : (rows store : List ℕ) (n : ℕ) → ¬ (n ≡ 1) → Non
 unfolding visibility_of on_found
 visibility-none rows store zero d = rw (tokens_none rows store)
 visibility-none rows store (suc zero) d = absurd (d refl)
-visibility-none rows store (suc (suc n)) d = rw (tokens-here rows store 0 (suc n), tokens-here rows store token_width n)
+visibility-none rows store (suc (suc n)) d = rw (tokens-here rows store 0 (suc n), tokens-here rows store token_width n, visibility-more (token_here rows store 0) (token_here rows store token_width) _)
 
 -- one token is a visibility where it is a word of the table
 pub visibility-one : (rows store : List ℕ) (n : ℕ) → n ≡ 1
     → on_found (first_word visibilities (token_here rows store 0 ∷ [])) Some None ≡ on_found (visibility_of (tokens_at rows store n)) Some None
-unfolding visibility_of
 visibility-one rows store n e =
     let one : tokens_at rows store n ≡ token_here rows store 0 ∷ [] = ap (tokens_at rows store) e ∙ tokens-here rows store 0 0 ∙ ap (λ ks. token_here rows store 0 ∷ ks) (tokens_none (drop token_width rows) store) in
-    sym (ap (λ ks. on_found (visibility_of ks) Some None) one)
+    sym (ap (λ ks. on_found (visibility_of ks) Some None) one ∙ ap (λ f. on_found f Some None) (visibility-told _))

@@ -1,3 +1,4 @@
+pub mod TokenKinds
 pub mod HeightLaws
 pub mod WordLaws
 pub mod ColourLaws

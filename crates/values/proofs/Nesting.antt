@@ -8,11 +8,13 @@ use native.Mathlib.Omega.{arith}
 use lib.ListN.{length, get_or, set, take}
 use lib.Seq.{get_or-set_same, get_or-set_other, length-take-le}
 use Rattle.std.proofs.lemmas.List.{get_or-take}
-use Rattle.combinators.specs.Ascii.{right_curly_bracket}
+use Rattle.combinators.specs.Ascii.{right_parenthesis, greater_than_sign, right_square_bracket, right_curly_bracket}
 use Rattle.combinators.specs.Choice.{pick}
 use Rattle.combinators.proofs.Rules.{pick_true, pick-false, is-yes, is-no}
 use Rattle.lexer.specs.Token.{Token, ident, function, hash, string, bad_string, delim, number, dimension, percentage, cdo, cdc, colon, semicolon, comma, open_square, close_square, open_round, close_round, open_brace, close_brace, coded, text_of}
-use Rattle.values.specs.Value.{Bracket, opens, closes, ends, none, bracket_by, bracket_of, next, closing, ending, step_of}
+use Rattle.lexer.specs.declared.tokens.Token as lexer
+use Rattle.lexer.specs.declared.tokens.Token.TheVariants as code
+use Rattle.values.specs.Value.{Bracket, opens, closes, ends, none, bracket_of, next, closing, ending, step_of}
 use Rattle.values.specs.Layout.{meant, awaited, pushed, depth, step_to, deep, ending_by, Moved}
 use Rattle.values.specs.declared.statements.Bracket as declared-bracket
 use Rattle.values.specs.declared.statements.Bracket.TheVariants.{Opens, Closes, Ends, NoBracket}
@@ -21,11 +23,29 @@ use Rattle.values.specs.declared.statements.Step.TheVariants.{Next, Before, Behi
 
 -- ---- tokens
 
--- the code's token does to the brackets what the token does
-pub bracket-coded : (k : Token) → bracket_by (coded k) ≡ bracket_of k
+-- what a token as the code has it does to the brackets
+unfoldable pub bracket_by : lexer.Token → Bracket
+bracket_by (code.Function n) = opens right_parenthesis
+bracket_by code.CDO = opens greater_than_sign
+bracket_by code.CDC = closes greater_than_sign
+bracket_by code.Semicolon = ends
+bracket_by code.OpenSquare = opens right_square_bracket
+bracket_by code.CloseSquare = closes right_square_bracket
+bracket_by code.OpenRound = opens right_parenthesis
+bracket_by code.CloseRound = closes right_parenthesis
+bracket_by code.OpenBrace = opens right_curly_bracket
+bracket_by code.CloseBrace = closes right_curly_bracket
+bracket_by _ = none
+
+-- it does what the token does
+bracket-coded : (k : Token) → bracket_by (coded k) ≡ bracket_of k
 unfolding bracket_by bracket_of coded
 bracket-coded (ident b) = refl
 bracket-coded _ = refl
+
+-- so what is told by the code's token is what every token does that the code has so
+pub by_code : (k : lexer.Token) (x : Bracket) → x ≡ bracket_by k → (t : Token) → coded t ≡ k → x ≡ bracket_of t
+by_code k x p t e = p ∙ ap bracket_by (sym e) ∙ bracket-coded t
 
 -- a token at which the statement does not go on has no text
 pub no_text : (include : Bool) (cs : List ℕ) (k : Token) → ((ds : List ℕ) → ¬ (step_of include (bracket_of k) cs ≡ next ds)) → text_of k ≡ []
@@ -158,6 +178,10 @@ ending-deep false zero = rw (is-yes 0 0 refl)
 ending-deep include (suc d) = rw (is-no (suc d) 0 (λ e. absurd (omega arith)))
 
 -- ---- a token
+-- a step r of the code at a token k of its own, from the store b with d brackets awaited to the store b'
+abbrev pub Moves : Bool → lexer.Token → List ℕ → ℕ → List ℕ → declared-step.Step → Type 0
+Moves include k b d b' r = (t : Token) → coded t ≡ k → Moved include (bracket_of t) b d b' r
+
 -- by what the code found it to do
 module _ (include : Bool) (r : declared-bracket.Bracket) (x : Bracket) (e : meant r ≡ x) (b : List ℕ) (d : ℕ) where
   -- what the token means is what the code found it to do

@@ -17,7 +17,8 @@ use Rattle.lexer.specs.TokenRow.{token_width, kind_column, start_column, first_c
 use Rattle.lexer.specs.declared.tokens.Token as lexer
 use Rattle.lexer.specs.declared.tokens.Token.TheVariants as code
 use Rattle.syntax.specs.Stream.{read_many}
-use Rattle.values.specs.Words.{other_kind, kind_of, number_of, unit_of, is_kind, is_word, is_delim}
+use Rattle.values.specs.Words.{is_word, is_delim}
+use Rattle.values.proofs.TokenKinds.{other_kind, kind_of, number_of, unit_of, is_kind, word-told}
 use Rattle.values.proofs.WordLaws.{same_bytes}
 use Rattle.values.specs.View.{token_with, read_token, token_here, first_text, second_text, tokens_at, token_count}
 
@@ -186,15 +187,13 @@ module _ (rows store : List ℕ) (p : ℕ) where
   module _ (w : List ℕ) (i : Bool) (ei : i ≡ is kind ident_kind) where
     -- no name is not w
     pub no-word : i ≡ false → i ≡ is_word w (token_here rows store p)
-    unfolding is_word
-    no-word e = e ∙ and-gives-false _ _ (kind-told ident_kind ident-text.kind i false ei e)
+    no-word e = e ∙ and-gives-false _ _ (kind-told ident_kind ident-text.kind i false ei e) ∙ sym (word-told w _)
 
     -- a name's text decides
     pub word-by-text : i ≡ true → (t : List ℕ) → t ≡ first_text rows store p → (r : Bool) → r ≡ pointwise eqb t w → r ≡ is_word w (token_here rows store p)
-    unfolding is_word
     word-by-text e t et r er =
         and-gives _ _ _ (kind-told ident_kind ident-text.kind i true ei e)
-        (er ∙ same_bytes t w ∙ ap (λ u. same_text u w) (et ∙ sym (here-text ident_kind ident-text (told _ _ _ ei e))))
+        (er ∙ same_bytes t w ∙ ap (λ u. same_text u w) (et ∙ sym (here-text ident_kind ident-text (told _ _ _ ei e)))) ∙ sym (word-told w _)
 
   -- the code cuts its text from the store by two numbers of its row
   pub text-cut : (s n : ℕ) → s ≡ start → n ≡ first → (t : List ℕ) → t ≡ part store s n → t ≡ first_text rows store p

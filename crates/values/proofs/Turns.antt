@@ -25,15 +25,15 @@ use Rattle.lexer.proofs.Bounds.{Bound, short, lone, Fits}
 use Rattle.lexer.proofs.Comments.{skip-le}
 use Rattle.lexer.proofs.TokenBounds.{token-fits, length-coded}
 use Rattle.syntax.specs.Stream.{rows_many, texts_many}
-use Rattle.values.specs.Value.{Placed, bracket_by, bracket_of, Step, next, before, behind, wrong, step_of, Statement, stop, cons, on_step, scan, statement_of}
-use Rattle.values.specs.Layout.{awaited, pushed, depth, step_to, deep, Moved, rows_of, texts_of, brackets_after, Left, left, statement_answer, Room, taken_by, count_by, text_by, slack, Bounds}
+use Rattle.values.specs.Value.{Placed, bracket_of, Step, next, before, behind, wrong, step_of, Statement, stop, cons, on_step, scan, statement_of}
+use Rattle.values.specs.Layout.{awaited, pushed, depth, step_to, deep, rows_of, texts_of, brackets_after, Left, left, statement_answer, Room, taken_by, count_by, text_by, slack, Bounds}
 use Rattle.values.specs.declared.statements.Step as declared-step
 use Rattle.values.specs.declared.statements.Step.TheVariants.{Next, Before, Behind, Wrong}
 use Rattle.std.specs.Prelude.{Option, Some, None, Result, Ok, Err}
 use Rattle.combinators.proofs.Lists.{rest}
 use Rattle.values.specs.declared.statements.Statement as declared
 use Rattle.values.specs.declared.statements.Unbalanced.{Unbalanced}
-use Rattle.values.proofs.Nesting.{bracket-coded, no_text, unpushed, depth_le}
+use Rattle.values.proofs.Nesting.{Moves, no_text, unpushed, depth_le}
 
 -- ---- what is left of a statement leaves, where n tokens with t bytes of text were read and d brackets are awaited
 unfoldable pub leaves : Statement → Store ℕ → ℕ → List ℕ → ℕ → List ℕ → ℕ → ℕ → Left
@@ -163,7 +163,7 @@ reads_none err w e = refl
 
 -- a step that the code's answer says
 pub moved_as : (include : Bool) (k : lexer.Token) (b : List ℕ) (d : ℕ) (b' : List ℕ) (r r' : declared-step.Step)
-    → Moved include (bracket_by k) b d b' r → r ≡ r' → Moved include (bracket_by k) b d b' r'
+    → Moves include k b d b' r → r ≡ r' → Moves include k b d b' r'
 moved_as include k b d b' r r' v e = rw (← e) v
 
 -- ---- the reader, where so many bytes were taken, tokens counted and written up to a place, brackets awaited, bytes of text written
@@ -272,10 +272,6 @@ module _ {s : List ℕ} {include : Bool} {rows₀ brackets₀ store₀ : List �
     length-is : length_by k ≡ length (text_of t)
     length-is = ap length_by read.same ∙ length-coded t
 
-    -- what it does to the brackets is told by the code's token
-    bracket-is : bracket_by k ≡ bracket_of t
-    bracket-is = ap bracket_by read.same ∙ bracket-coded t
-
     -- it takes a byte or more, no more than there are, and starts before the end
     pub some : 1 ≤ m
     some = fits.some
@@ -327,12 +323,12 @@ module _ {s : List ℕ} {include : Bool} {rows₀ brackets₀ store₀ : List �
     scan-left = ap (λ l. scan l include ahead taken inner) (sym left_over.1)
 
     -- the step that the code made, and the brackets that it left
-    step_is : (b : List ℕ) (r : declared-step.Step) → Moved include (bracket_by k) brackets d b r → step_to r b ≡ step_of include (bracket_of t) inner
-    step_is b r v = v.step ∙ ap (λ x. step_of include x inner) bracket-is
+    step_is : (b : List ℕ) (r : declared-step.Step) → Moves include k brackets d b r → step_to r b ≡ step_of include (bracket_of t) inner
+    step_is b r v = (v t (sym read.same)).step
 
     -- the brackets that the code left are those that the token leaves
-    brackets-are : (b : List ℕ) (r : declared-step.Step) → Moved include (bracket_by k) brackets d b r → b ≡ pushed (bracket_of t) brackets d
-    brackets-are b r v = v.store ∙ ap (λ x. pushed x brackets d) bracket-is
+    brackets-are : (b : List ℕ) (r : declared-step.Step) → Moves include k brackets d b r → b ≡ pushed (bracket_of t) brackets d
+    brackets-are b r v = (v t (sym read.same)).store
 
     module _ {z : List ℕ} (ez : z ≡ sets store (fill + text) (token_text (token_of lent))) where
       -- its text is in the store
@@ -349,7 +345,7 @@ module _ {s : List ℕ} {include : Bool} {rows₀ brackets₀ store₀ : List �
       )
 
       -- the return at a token before which the statement ends
-      pub ends-before : {b : List ℕ} → Moved include (bracket_by k) brackets d b Before → Ends (Ok (record { taken = taken; count = count; text = text })) rows b z
+      pub ends-before : {b : List ℕ} → Moves include k brackets d b Before → Ends (Ok (record { taken = taken; count = count; text = text })) rows b z
       unfolding step_to
       ends-before {b} v =
           let h = step_is b Before v in
@@ -361,7 +357,7 @@ module _ {s : List ℕ} {include : Bool} {rows₀ brackets₀ store₀ : List �
           )
 
       -- the return at a wrong bracket: the statement ends before it, unbalanced
-      pub ends-wrong : {b : List ℕ} → Moved include (bracket_by k) brackets d b Wrong → Ends (Err (record { 0 = record { taken = taken; count = count; text = text } })) rows b z
+      pub ends-wrong : {b : List ℕ} → Moves include k brackets d b Wrong → Ends (Err (record { 0 = record { taken = taken; count = count; text = text } })) rows b z
       unfolding step_to taken_by count_by text_by
       ends-wrong {b} v =
           let h = step_is b Wrong v in
@@ -382,7 +378,7 @@ module _ {s : List ℕ} {include : Bool} {rows₀ brackets₀ store₀ : List �
             ∙ ap (λ y. emits written (row_of (taken + skip_whitespace ahead) (fill + text) y)) read.same
 
         -- what comes behind it, into the stores with it, leaves what it and what comes behind leave
-        with_row : (b : List ℕ) (r : declared-step.Step) → Moved include (bracket_by k) brackets d b r → (y : Statement)
+        with_row : (b : List ℕ) (r : declared-step.Step) → Moves include k brackets d b r → (y : Statement)
             → leaves y (record { bytes = x; fill = q }) (count + 1) b (depth (bracket_of t) d) z fill (text + l)
             ≡ leaves (cons (placed include ahead taken inner m t read.reads) y) written count brackets d store fill text
         with_row b r v y =
@@ -390,7 +386,7 @@ module _ {s : List ℕ} {include : Bool} {rows₀ brackets₀ store₀ : List �
             (sym (leaves-cons written count brackets d store fill text t (taken + skip_whitespace ahead) y))
 
         -- the return at a token behind which the statement ends
-        pub ends-behind : {b : List ℕ} → Moved include (bracket_by k) brackets d b Behind
+        pub ends-behind : {b : List ℕ} → Moves include k brackets d b Behind
             → Ends (Ok (record { taken = taken + m; count = count + 1; text = text + l })) x b z
         unfolding step_to taken_by count_by text_by
         ends-behind {b} v =
@@ -403,12 +399,12 @@ module _ {s : List ℕ} {include : Bool} {rows₀ brackets₀ store₀ : List �
             )
 
         -- at any other token the reader goes on behind it, with its row and text written
-        pub goes : {b : List ℕ} {o : ℕ} → Moved include (bracket_by k) brackets d b (Next o) → length x ≡ length rows → length b ≡ length brackets
+        pub goes : {b : List ℕ} {o : ℕ} → Moves include k brackets d b (Next o) → length x ≡ length rows → length b ≡ length brackets
             → length z ≡ length store → Running s include rows₀ brackets₀ store₀ fill x b z (taken + m) (count + 1) q o (text + l)
         unfolding step_to deep
         goes {b} {o} v lx lb lz =
             let h = step_is b (Next o) v in
-            let e : o ≡ depth (bracket_of t) d = v.deeper ∙ ap (λ p. depth p d) bracket-is in
+            let e : o ≡ depth (bracket_of t) d = (v t (sym read.same)).deeper in
             let u = left_over.0 in
             let y : List ℕ → Statement = λ p. scan u include p (taken + m) (awaited b o) in
             let f : Statement → ℕ → Left = λ p j. leaves p (record { bytes = x; fill = q }) (count + 1) b j z fill (text + l) in

@@ -6,10 +6,9 @@ use Rattle.combinators.specs.Word.{same_text}
 use Rattle.characters.specs.Literal.{text}
 use Rattle.lexer.specs.Name.{is_hex_digit, hex_digit}
 use Rattle.lexer.specs.Number.{is_digit}
-use Rattle.lexer.specs.Token.{Token, text_of}
-use Rattle.lexer.specs.TokenRow.{ident_kind, function_kind, hash_kind, number_kind, comma_kind, close_round_kind}
+use Rattle.lexer.specs.Token.{Token, ident, function, hash, number, comma, close_round}
 use Rattle.syntax.specs.Declaration.{Colour}
-use Rattle.values.specs.Words.{Entry, Found, found, missing, lookup, on_found, is_kind}
+use Rattle.values.specs.Words.{Entry, Found, found, missing, lookup, on_found}
 
 unfoldable pub rgb : ℕ → ℕ → ℕ → Colour
 rgb r g b = record { red = r; green = g; blue = b }
@@ -86,25 +85,20 @@ three_numbers r g b = rgb_of (parse_u8 r) (parse_u8 g) (parse_u8 b)
 
 -- "`rgb` takes three whole numbers up to 255", parted by commas, and `)`
 unfoldable pub rgb_colour : List Token → Found Colour
-rgb_colour (r ∷ c ∷ g ∷ d ∷ b ∷ e ∷ []) =
-    pick (and (is_kind number_kind r) (and (is_kind comma_kind c) (and (is_kind number_kind g) (and (is_kind comma_kind d) (and (is_kind number_kind b) (is_kind close_round_kind e))))))
-    (three_numbers (text_of r) (text_of g) (text_of b)) missing
+rgb_colour (number r ∷ comma ∷ number g ∷ comma ∷ number b ∷ close_round ∷ []) = three_numbers r g b
 rgb_colour _ = missing
 
-unfoldable pub one_token : Token → Found Colour
-one_token k =
-    pick (is_kind ident_kind k) (lookup (text_of k) colours)
-    (pick (is_kind hash_kind k) (hash_colour (text_of k)) missing)
-
 unfoldable pub colour_of : List Token → Found Colour
-colour_of [] = missing
-colour_of (k ∷ []) = one_token k
-colour_of (k ∷ a ∷ r) = pick (and (is_kind function_kind k) (same_text (text_of k) (text "rgb"))) (rgb_colour (a ∷ r)) missing
+colour_of (ident b ∷ []) = lookup b colours
+colour_of (hash b ∷ []) = hash_colour b
+colour_of (function b ∷ ks) = pick (same_text b (text "rgb")) (rgb_colour ks) missing
+colour_of _ = missing
 
 -- `parse_background_color`: what stands behind the last comma; "`background:rgb(1,2,3)`: no style, since commas split it"
 unfoldable pub behind_comma : List Token → List Token → List Token
 behind_comma acc [] = acc
-behind_comma acc (k ∷ ks) = pick (is_kind comma_kind k) (behind_comma ks ks) (behind_comma acc ks)
+behind_comma acc (comma ∷ ks) = behind_comma ks ks
+behind_comma acc (_ ∷ ks) = behind_comma acc ks
 
 unfoldable pub background_of : List Token → Found Colour
 background_of ks = colour_of (behind_comma ks ks)

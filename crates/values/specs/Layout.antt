@@ -7,7 +7,7 @@ use Rattle.combinators.specs.declared.lent.Stores.{Stores}
 use Rattle.lexer.specs.Token.{function, number, close_round, coded, text_of}
 use Rattle.lexer.specs.TokenRow.{token_width, function_kind, number_kind, close_round_kind, columns_of, word, row_of, token_row}
 use Rattle.syntax.specs.Stream.{rows_many, texts_many}
-use Rattle.values.specs.Value.{Placed, Bracket, opens, closes, ends, none, bracket_by, bracket_of, Step, next, before, behind, wrong, step_of, Statement, tokens_of, is_important}
+use Rattle.values.specs.Value.{Placed, Bracket, opens, closes, ends, none, bracket_of, Step, next, before, behind, wrong, step_of, Statement, tokens_of, is_important}
 use Rattle.values.specs.declared.statements.Bracket as declared-bracket
 use Rattle.values.specs.declared.statements.Bracket.TheVariants.{Opens, Closes, Ends, NoBracket}
 use Rattle.values.specs.declared.statements.Step as declared-step
@@ -155,7 +155,7 @@ case : left
       brackets = right_parenthesis ∷ 1 ∷ [];
       store = 9 ∷ 0x66 ∷ 0x37 ∷ 9 ∷ [];
     }
-unfolding left statement_answer rows_many texts_many brackets_after pushed depth bracket_of bracket_by token_row row_of columns_of coded word text_of pick
+unfolding left statement_answer rows_many texts_many brackets_after pushed depth bracket_of token_row row_of columns_of coded word text_of pick
 case = refl
 
 -- ---- room and bounds

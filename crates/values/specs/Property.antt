@@ -7,11 +7,10 @@ use Rattle.decimal.specs.Decimal.{rounds_to_zero}
 use Rattle.characters.specs.Literal.{text}
 use Rattle.characters.specs.Utf8.{utf8, continuation}
 use Rattle.lexer.specs.Number.{digits, sign}
-use Rattle.lexer.specs.Token.{Token, ident, string, comma, text_of}
-use Rattle.lexer.specs.TokenRow.{ident_kind, string_kind, number_kind, dimension_kind}
+use Rattle.lexer.specs.Token.{Token, ident, string, number, dimension, comma}
 use Rattle.lexer.specs.Whitespace.{skip_whitespace}
 use Rattle.syntax.specs.Declaration.{Overflow, visible, hidden, scroll, auto, WhiteSpace, normal, pre, pre_wrap, Decl, color, background_color, height, max_height, overflow, overflow_y, display, white_space, content, visibility, unknown}
-use Rattle.values.specs.Words.{Entry, Found, found, missing, lookup, on_found, kind_of, is_kind, number_of, unit_of}
+use Rattle.values.specs.Words.{Entry, Found, found, missing, lookup, on_found}
 use Rattle.values.specs.Colour.{colour_of, background_of}
 
 -- ---- heights: "`Height` matters only as zero or not"
@@ -34,20 +33,17 @@ any_of w (x ∷ xs) = pick (same_text w x) true (any_of w xs)
 
 -- a dimension with one of the units; or a number that is zero
 unfoldable pub height_of : List Token → Found Bool
-height_of (k ∷ []) =
-    pick (is_kind dimension_kind k) (pick (any_of (unit_of k) units) (found (number_zero (number_of k))) missing)
-    (pick (is_kind number_kind k) (pick (number_zero (text_of k)) (found true) missing) missing)
-height_of [] = missing
-height_of (k ∷ a ∷ r) = missing
+height_of (dimension n u ∷ []) = pick (any_of u units) (found (number_zero n)) missing
+height_of (number n ∷ []) = pick (number_zero n) (found true) missing
+height_of _ = missing
 
 -- ---- words
 
 -- the first name of a value that a table has
 unfoldable pub first_word : {A : Type 0} → List (Entry A) → List Token → Found A
 first_word table [] = missing
-first_word table (k ∷ ks) =
-    let more = first_word table ks in
-    pick (is_kind ident_kind k) (on_found (lookup (text_of k) table) (λ a. found a) more) more
+first_word table (ident b ∷ ks) = let more = first_word table ks in on_found (lookup b table) (λ a. found a) more
+first_word table (_ ∷ ks) = first_word table ks
 
 abbrev pub overflows : List (Entry Overflow)
 overflows =
@@ -76,9 +72,8 @@ abbrev pub visibilities : List (Entry Bool)
 visibilities = record { word = text "visible"; means = false } ∷ record { word = text "hidden"; means = true } ∷ []
 
 unfoldable pub visibility_of : List Token → Found Bool
-visibility_of [] = missing
-visibility_of (k ∷ []) = first_word visibilities (k ∷ [])
-visibility_of (k ∷ a ∷ r) = missing
+visibility_of (ident b ∷ []) = lookup b visibilities
+visibility_of _ = missing
 
 -- either word alone; another word, two words, a string, a comma behind it, nothing
 case-visibility :
@@ -89,13 +84,14 @@ case-visibility :
     × (visibility_of (string (text "hidden") ∷ []) ≡ missing)
     × (visibility_of (ident (text "hidden") ∷ comma ∷ []) ≡ missing)
     × (visibility_of [] ≡ missing)
-unfolding visibility_of first_word lookup on_found is_kind kind_of text_of same_text text utf8 continuation pick and is
+unfolding visibility_of lookup same_text text utf8 continuation pick and is
 case-visibility = (refl, refl, refl, refl, refl, refl, refl)
 
 -- strings, joined; nothing else
 unfoldable pub content_of : List Token → Found (List ℕ)
 content_of [] = found []
-content_of (k ∷ ks) = pick (is_kind string_kind k) (on_found (content_of ks) (λ b. found (text_of k ++ b)) missing) missing
+content_of (string b ∷ ks) = on_found (content_of ks) (λ c. found (b ++ c)) missing
+content_of _ = missing
 
 -- ---- properties, in the crate's order, behind them `visibility`, and how each reads a value; its name is kept where the value does not read
 abbrev pub properties : List (Entry (List ℕ → List Token → Decl))

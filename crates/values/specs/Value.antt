@@ -6,8 +6,6 @@ use Rattle.combinators.specs.Parsed.{Parsed, ok, err, on_parsed}
 use Rattle.characters.specs.Literal.{text}
 use Rattle.lexer.specs.Whitespace.{skip_whitespace}
 use Rattle.lexer.specs.Token.{Token, function, cdo, cdc, semicolon, open_square, close_square, open_round, close_round, open_brace, close_brace, token_of}
-use Rattle.lexer.specs.declared.tokens.Token as lexer
-use Rattle.lexer.specs.declared.tokens.Token.TheVariants as code
 use Rattle.values.specs.Words.{is_word, is_delim}
 
 -- a token, and the byte where it starts
@@ -124,17 +122,3 @@ value_from r =
 
 unfoldable pub value_of : List ℕ → Parsed Value
 value_of s = value_from (statement_of false s)
-
--- ---- as the code has a token, with the lengths of its texts: what it does to the brackets
-unfoldable pub bracket_by : lexer.Token → Bracket
-bracket_by (code.Function n) = opens right_parenthesis
-bracket_by code.CDO = opens greater_than_sign
-bracket_by code.CDC = closes greater_than_sign
-bracket_by code.Semicolon = ends
-bracket_by code.OpenSquare = opens right_square_bracket
-bracket_by code.CloseSquare = closes right_square_bracket
-bracket_by code.OpenRound = opens right_parenthesis
-bracket_by code.CloseRound = closes right_parenthesis
-bracket_by code.OpenBrace = opens right_curly_bracket
-bracket_by code.CloseBrace = closes right_curly_bracket
-bracket_by _ = none

@@ -1,45 +1,16 @@
 -- Words, compared as fixed byte strings, and what tokens are.
 use Rattle.std.specs.Prelude.{ℕ, zero, suc, Bool, false, List, [], ◌∷◌, map}
 use Rattle.std.specs.Borrow.{Bor}
-use Rattle.combinators.specs.Choice.{pick, and, is}
+use Rattle.combinators.specs.Choice.{pick, is}
 use Rattle.combinators.specs.Word.{same_text}
-use Rattle.lexer.specs.Token.{Token, ident, function, hash, string, delim, number, dimension, comma, close_round, text_of}
-use Rattle.lexer.specs.TokenRow.{ident_kind, function_kind, hash_kind, string_kind, delim_kind, number_kind, dimension_kind, comma_kind, close_round_kind}
+use Rattle.lexer.specs.Token.{Token, ident, delim}
 
--- ---- what a token is, by its kind
-
--- no token's row has this kind
-abbrev pub other_kind : ℕ
-other_kind = 0
-
--- the kinds that values tell apart
-unfoldable pub kind_of : Token → ℕ
-kind_of (ident b) = ident_kind
-kind_of (function b) = function_kind
-kind_of (hash b) = hash_kind
-kind_of (string b) = string_kind
-kind_of (delim c) = delim_kind
-kind_of (number b) = number_kind
-kind_of (dimension b u) = dimension_kind
-kind_of comma = comma_kind
-kind_of close_round = close_round_kind
-kind_of _ = other_kind
-
--- a dimension's number and its unit
-unfoldable pub number_of : Token → List ℕ
-number_of (dimension b u) = b
-number_of _ = []
-
-unfoldable pub unit_of : Token → List ℕ
-unit_of (dimension b u) = u
-unit_of _ = []
-
-unfoldable pub is_kind : ℕ → Token → Bool
-is_kind n k = is (kind_of k) n
+-- ---- what a token is
 
 -- the name w
 unfoldable pub is_word : List ℕ → Token → Bool
-is_word w k = and (is_kind ident_kind k) (same_text (text_of k) w)
+is_word w (ident b) = same_text b w
+is_word w _ = false
 
 -- the delimiter c
 unfoldable pub is_delim : ℕ → Token → Bool

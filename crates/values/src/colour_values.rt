@@ -1,7 +1,7 @@
 // Values read from token rows: colours.
-ghost use Rattle.std.specs.Prelude.{◌≡◌, ◌≤◌, ◌*◌};
+ghost use Rattle.std.specs.Prelude.{◌≡◌, ◌≤◌, ◌*◌, [], ◌∷◌};
 ghost use Rattle.lexer.specs.TokenRow.{token_width};
-ghost use Rattle.values.specs.Colour.{one_token, colour_of, background_of};
+ghost use Rattle.values.specs.Colour.{colour_of, background_of};
 ghost use Rattle.values.specs.ColourAnswer.{colour_answer};
 ghost use Rattle.values.specs.View.{token_here, tokens_at, token_count};
 ghost use Rattle.values.specs.Tokens.{value_tokens};
@@ -28,7 +28,7 @@ const CLOSING: usize = 6;
 
 // The colour of one token.
 fn one_token(tokens: Tokens) -> Option<u32>
-    ensures { result ≡ colour_answer (one_token (token_here tokens.entry.rows.now tokens.entry.store.now 0)) }
+    ensures { result ≡ colour_answer (colour_of (token_here tokens.entry.rows.now tokens.entry.store.now 0 ∷ [])) }
 {
     let text = tokens.text(0);
     if tokens.is_kind(0, IDENT) {

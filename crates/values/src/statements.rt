@@ -2,8 +2,9 @@
 // So does the depth, how many brackets are awaited: they are a stack at the start of a lent store, and the next one is written behind them.
 ghost use Rattle.std.specs.Prelude.{◌≡◌, false, ◌-◌, ◌*◌, ◌^◌, ◌≤◌, ◌<◌, length};
 ghost use Rattle.combinators.specs.Lent.{SameStores};
-ghost use Rattle.values.specs.Value.{is_important, bracket_by, closing, statement_of};
-ghost use Rattle.lexer.specs.Token.{length_by};
+ghost use Rattle.values.specs.Value.{is_important, bracket_of, closing, statement_of};
+ghost use Rattle.lexer.specs.Token as lexer;
+ghost use Rattle.lexer.specs.Token.{coded, length_by};
 ghost use Rattle.lexer.specs.TokenRow.{token_width};
 ghost use Rattle.values.specs.Layout.{meant, awaited, step_to, deep, ending_by, Moved, Room, left, leaving, Bounds, unmarked, value_left, leaving_value};
 ghost use Rattle.values.specs.View.{tokens_at};
@@ -77,9 +78,9 @@ pub enum Step {
     Wrong,
 }
 
-#[tactic(auto, unfolding(crate::specs::Layout::meant, crate::specs::Value::bracket_by))]
+#[tactic(auto, using(crate::proofs::Nesting::by_code), unfolding(crate::specs::Layout::meant, crate::proofs::Nesting::bracket_by))]
 fn bracket_of(k: Token) -> Bracket
-    ensures { meant result ≡ bracket_by k }
+    ensures { (t : lexer.Token) → coded t ≡ k → meant result ≡ bracket_of t }
 {
     match k {
         Token::Function(_) => Bracket::Opens(b')'),
@@ -126,7 +127,7 @@ fn ending_step(include_semicolon: bool, d: usize) -> Step
 // The token `k`, where `d` brackets are awaited.
 fn step_at(k: Token, include_semicolon: bool, brackets: &mut [u8], d: usize) -> Step
     requires { d < length brackets.old }
-    ensures { Moved include_semicolon (bracket_by k) brackets.old d brackets.new result }
+    ensures { (t : lexer.Token) → coded t ≡ k → Moved include_semicolon (bracket_of t) brackets.old d brackets.new result }
 {
     match bracket_of(k) {
         Bracket::Opens(c) => {
