@@ -17,6 +17,8 @@ import os
 import re
 import sys
 
+TURNED = "tools/port/spelling.tsv"
+
 WORD = re.compile(r"[^\s(){}.;,@\"«»`\[\]|]+")
 DECLARED = re.compile(r"(?m)^ *(?:(?:pub|abbrev|unfoldable|data|record|constructor|pattern) +)*([^\s:(){}]+)(?: +(?:\([^()]*\)|\{[^{}]*\}|\w+))* +:(?!=)")
 LOCAL = re.compile(r"(?m)^ *let ([a-z]\w*) ?[:=]|\blet ([a-z]\w*) (?::|=)")
@@ -186,6 +188,8 @@ def main(argv):
         print("\n".join(taken(rows, found)))
         print(f"{len(rows)} names")
         return 0
+    if os.path.exists(TURNED):
+        sys.exit(f"spelling.py: {TURNED} is there, so the names were turned already")
     for path in files(".antt", ".rt", ".edit"):
         text = read(path)
         new = rename_crates(text)
@@ -212,7 +216,7 @@ def main(argv):
     for old, new in CRATES.items():
         if os.path.isdir(f"crates/{old}"):
             os.rename(f"crates/{old}", f"crates/{new}")
-    with open("tools/port/spelling.tsv", "w", encoding="utf-8") as f:
+    with open(TURNED, "w", encoding="utf-8") as f:
         f.write("".join(f"{o}\t{n}\n" for o, n in sorted(rows.items())))
     print(f"{len(rows)} names")
     return 0
