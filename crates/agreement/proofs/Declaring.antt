@@ -20,21 +20,21 @@ use Rattle.compiled.specs.Sheet.{CompiledSelector}
 use Rattle.compiler.specs.Selectors.{compiled_selector, styled_selectors, rule_selectors, sheet_selectors, selectors_of}
 use Rattle.styles.specs.Said.{rule_styles, rule_style, selector_says, selectors_say, rules_say, meant, meant_rule}
 use Rattle.styles.proofs.Placed.{rule-style-same}
-use Rattle.segments.specs.Down.{matching_by}
-use Rattle.runner.specs.Walked.{WalkedSelector, meant_selector, matching_at}
+use Rattle.segments.specs.Down.{matching_of}
+use Rattle.runner.specs.Walked.{meant_selector}
 use Rattle.runner.specs.PageRows.{selectors_declare}
 use Rattle.runner.proofs.FoundLaws.{declared-append}
 
 -- ---- selectors one after the other: which of them match
 -- of selectors one after the other, those that match are those of the first that do, then those of the second
-matching-append : {A : Type 0} (p : Path) (a b : List (WalkedSelector A)) → matching_at p (a ++ b) ≡ matching_at p a ++ matching_at p b
-unfolding matching_by
+matching-append : {A : Type 0} (p : Path) (a b : List (CompiledSelector (Styled A))) → matching_of p (a ++ b) ≡ matching_of p a ++ matching_of p b
+unfolding matching_of
 matching-append p [] b = refl
-matching-append p (s ∷ a) b = rw (matching-append p a b) (sym (append_assoc (pick (matches s.components p) (s ∷ []) []) (matching_at p a) (matching_at p b)))
+matching-append p (s ∷ a) b = rw (matching-append p a b) (sym (append_assoc (pick (matches s.components p) (s ∷ []) []) (matching_of p a) (matching_of p b)))
 
 -- ---- selectors that are the same but for the form of their styles' values
 module _ {A B : Type 0} (R : A → B → Type 0) where
-  pub record SameSelector (x : WalkedSelector A) (y : WalkedSelector B) : Type 0 where
+  pub record SameSelector (x : CompiledSelector (Styled A)) (y : CompiledSelector (Styled B)) : Type 0 where
     pub origins : x.origin ≡ y.origin
     pub pseudos : x.pseudo ≡ y.pseudo
     pub components-same : x.components ≡ y.components
@@ -46,19 +46,19 @@ module _ {A B : Type 0} (R : A → B → Type 0) where
   style-declared o o' n n' c c' e f g x y h = rw (e, f, g) (rule-declared R o' (rule_style n' c' x) (rule_style n' c' y) (rule-style-same R n' c' x y h))
 
   -- declare what is the same
-  pub declared-alike : {xs : List (WalkedSelector A)} {ys : List (WalkedSelector B)} → Each SameSelector xs ys → Each (SameDeclared R) (selectors_declare xs) (selectors_declare ys)
+  pub declared-alike : {xs : List (CompiledSelector (Styled A))} {ys : List (CompiledSelector (Styled B))} → Each SameSelector xs ys → Each (SameDeclared R) (selectors_declare xs) (selectors_declare ys)
   unfolding selectors_declare
   declared-alike none = none
   declared-alike (next {a = x} {b = y} h hs) =
       each_append (SameDeclared R)
       (each_map (SameStyled R) (SameDeclared R) _ _
-      (style-declared x.origin y.origin x.pseudo y.pseudo (specificity x.components) (specificity y.components) h.origins h.pseudos (ap specificity h.components-same))
+      (style-declared x.origin y.origin (pseudo_number x.pseudo) (pseudo_number y.pseudo) (specificity x.components) (specificity y.components) h.origins (ap pseudo_number h.pseudos) (ap specificity h.components-same))
       h.styles-same)
       (declared-alike hs)
 
   -- of two such lists, the selectors that match a path are again the same one by one
-  pub matching-alike : (p : Path) {xs : List (WalkedSelector A)} {ys : List (WalkedSelector B)} → Each SameSelector xs ys → Each SameSelector (matching_at p xs) (matching_at p ys)
-  unfolding matching_by
+  pub matching-alike : (p : Path) {xs : List (CompiledSelector (Styled A))} {ys : List (CompiledSelector (Styled B))} → Each SameSelector xs ys → Each SameSelector (matching_of p xs) (matching_of p ys)
+  unfolding matching_of
   matching-alike p none = none
   matching-alike p (next {a = x} {b = y} h hs) =
       each_append SameSelector
@@ -68,13 +68,13 @@ module _ {A B : Type 0} (R : A → B → Type 0) where
 -- ---- what the selectors of the sheets declare
 module _ (p : Path) where
   -- what compiled selectors declare, with the texts themselves
-  abbrev said : List CompiledSelector → List (Declared StyleValue)
-  said ss = selectors_declare (matching_at p (map meant_selector ss))
+  abbrev said : List (CompiledSelector StyleDecl) → List (Declared StyleValue)
+  said ss = selectors_declare (matching_of p (map meant_selector ss))
 
   -- what two lists of selectors say when joined is what the first says, then what the second says
-  said-append : (a b : List CompiledSelector) → said (a ++ b) ≡ said a ++ said b
+  said-append : (a b : List (CompiledSelector StyleDecl)) → said (a ++ b) ≡ said a ++ said b
   said-append a b =
-      rw (map-append meant_selector a b, matching-append p (map meant_selector a) (map meant_selector b), declared-append (matching_at p (map meant_selector a)) (matching_at p (map meant_selector b)))
+      rw (map-append meant_selector a b, matching-append p (map meant_selector a) (map meant_selector b), declared-append (matching_of p (map meant_selector a)) (matching_of p (map meant_selector b)))
 
   -- a selector of a rule declares what it says
   one-said : (m : Bool) (o : ℕ) (ds : List StyleDecl) (s : Selector) → selectors_declare (pick m (meant_selector (compiled_selector o ds s) ∷ []) [])
@@ -85,14 +85,14 @@ module _ (p : Path) where
 
   -- it declares that where it matches
   first_said : (o : ℕ) (ds : List StyleDecl) (s : Selector) → said (compiled_selector o ds s ∷ []) ≡ map (from_rule o) (selector_says p (map meant ds) s)
-  unfolding matching_by selector_says meant_selector compiled_selector
+  unfolding matching_of selector_says meant_selector compiled_selector
   first_said o ds s =
       ap selectors_declare (append-nil (pick (matches s.components p) (meant_selector (compiled_selector o ds s) ∷ []) [])) ∙ one-said (matches s.components p) o ds s
 
   -- the selectors of a rule with these styles, compiled, say what the rule's selectors say
   selectors-said : (o : ℕ) (ds : List StyleDecl) (ss : List Selector) → said (map (compiled_selector o ds) ss) ≡ map (from_rule o) (selectors_say p (map meant ds) ss)
   unfolding selectors_say
-  selectors-said o ds [] = unfold matching_by selectors_declare in refl
+  selectors-said o ds [] = unfold matching_of selectors_declare in refl
   selectors-said o ds (s ∷ ss) =
       said-append (compiled_selector o ds s ∷ []) (map (compiled_selector o ds) ss)
       ∙ ap₂ ◌++◌ (first_said o ds s) (selectors-said o ds ss)
@@ -113,20 +113,20 @@ module _ (p : Path) where
   -- the selectors of a rule that are compiled: all, or none where it has no style
   styled-said : (o : ℕ) (ds : List StyleDecl) (ss : List Selector) → said (styled_selectors o ds ss) ≡ map (from_rule o) (selectors_say p (map meant ds) ss)
   unfolding styled_selectors
-  styled-said o [] ss = unfold matching_by selectors_declare in rw (nothing_said ss)
+  styled-said o [] ss = unfold matching_of selectors_declare in rw (nothing_said ss)
   styled-said o (d ∷ ds) ss = selectors-said o (d ∷ ds) ss
 
   -- the compiled selectors of a sheet say what its rules say
   sheet-said : (o : ℕ) (rs : List RuleSet) → said (sheet_selectors o rs) ≡ map (from_rule o) (rules_say p (map meant_rule rs))
   unfolding sheet_selectors rule_selectors rules_say meant_rule rule_styles
-  sheet-said o [] = unfold matching_by selectors_declare in refl
+  sheet-said o [] = unfold matching_of selectors_declare in refl
   sheet-said o (r ∷ rs) =
       said-append (styled_selectors o (styles_of r.declarations) r.selectors) (sheet_selectors o rs)
       ∙ ap₂ ◌++◌ (styled-said o (styles_of r.declarations) r.selectors) (sheet-said o rs)
       ∙ sym (map-append (from_rule o) (selectors_say p (map meant (rule_styles r)) r.selectors) (rules_say p (map meant_rule rs)))
 
   -- what the matching selectors of three sheets declare is what the agent's rules say, then the user's, then the author's
-  pub selectors-declare : (agent user author : List RuleSet) → selectors_declare (matching_at p (map meant_selector (selectors_of agent user author)))
+  pub selectors-declare : (agent user author : List RuleSet) → selectors_declare (matching_of p (map meant_selector (selectors_of agent user author)))
       ≡ map (from_rule agent_origin) (rules_say p (map meant_rule agent)) ++ (map (from_rule user_origin) (rules_say p (map meant_rule user)) ++ map (from_rule author_origin) (rules_say p (map meant_rule author)))
   unfolding selectors_of
   selectors-declare agent user author =

@@ -14,6 +14,7 @@ use Rattle.combinators.proofs.LeastLaws.{least}
 use Rattle.combinators.specs.Refusal.{no_refusal, refused, refused_at, too_long, short_store, bad_row, bad_text, bad_bytes}
 use Rattle.combinators.specs.declared.refusals.Refusal.{Refusal}
 use Rattle.combinators.proofs.Rules.{pick-holds, pick_true, pick-false, and-true, is_true, is_false, is-yes}
+use Rattle.syntax.specs.Style.{StyleDecl}
 use Rattle.page.specs.Accepted.{first_bad_row, first_bad_text, refused_row, page_refusal}
 use Rattle.compiled.specs.Answer.{bytes_refusal}
 use Rattle.compiled.specs.Decoded.{Decoded, read, fault, on_decoded}
@@ -27,7 +28,7 @@ use Rattle.agreement.specs.Calls.{RunBuffers, run_with, SameLengths}
 
 -- ---- bytes that are a sheet
 -- bytes that are refused with the number 0, by what reading them says, are not refused
-quiet-bytes : (d : Decoded (List CompiledSelector)) → (on_decoded d (λ _ _. no_refusal) (λ p. refused_at bad_bytes p)).number ≡ 0 → on_decoded d (λ _ _. no_refusal) (λ p. refused_at bad_bytes p) ≡ no_refusal
+quiet-bytes : (d : Decoded (List (CompiledSelector StyleDecl))) → (on_decoded d (λ _ _. no_refusal) (λ p. refused_at bad_bytes p)).number ≡ 0 → on_decoded d (λ _ _. no_refusal) (λ p. refused_at bad_bytes p) ≡ no_refusal
 unfolding on_decoded
 quiet-bytes (read n ss) e = refl
 quiet-bytes (fault p) e = absurd (omega (arith, e))

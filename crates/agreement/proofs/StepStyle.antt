@@ -25,7 +25,8 @@ use Rattle.styles.specs.StyleCall.{inline_contents, placed_attributes}
 use Rattle.styles.specs.Says.{Says}
 use Rattle.styles.proofs.Lying.{Lies}
 use Rattle.styles.proofs.Placed.{attributes-placed}
-use Rattle.runner.specs.Walked.{walked, meant_selector, matching_at}
+use Rattle.segments.specs.Down.{matching_of}
+use Rattle.runner.specs.Walked.{walked, meant_selector}
 use Rattle.runner.specs.PageRows.{selectors_declare, style_below}
 use Rattle.agreement.specs.Demand.{sheets_selectors}
 use Rattle.runner.proofs.RowBelow.{declared_below}
@@ -72,10 +73,10 @@ module _ (rules : Rules RuleSet) (settings : Settings) where
 
     -- what is declared for the element, its inline contents there
     abbrev declared : List (Declared Value)
-    declared = declared_below (matching_at (e ∷ up) (walked code)) settings counts e
+    declared = declared_below (matching_of (e ∷ up) (walked code)) settings counts e
 
     -- the same with the styles themselves is what the sheets and the attributes say
-    meant-declared : selectors_declare (matching_at (e ∷ up) (map meant_selector (sheets_selectors rules))) ++ map (from_attribute false inline_specificity) (attributes_say (counted_attributes settings e))
+    meant-declared : selectors_declare (matching_of (e ∷ up) (map meant_selector (sheets_selectors rules))) ++ map (from_attribute false inline_specificity) (attributes_say (counted_attributes settings e))
         ≡ declared_by Crate (sources_from (meant_rules rules) (attributes_say (counted_attributes settings e)) (e ∷ up))
     unfolding declared_by crate_declared sources_from meant_rules
     meant-declared =
@@ -101,7 +102,7 @@ module _ (rules : Rules RuleSet) (settings : Settings) where
         by-contents t h = attributes-placed t (counted_attributes settings e) counts (unfold inline_contents in h)
 
     -- the style of the element below one that is right
-    pub styled-below : (s : ComputedStyle Value) → SaysComputed filled s up → SaysComputed (filled ++ new) (style_below s (matching_at (e ∷ up) (walked code)) settings counts e) (e ∷ up)
+    pub styled-below : (s : ComputedStyle Value) → SaysComputed filled s up → SaysComputed (filled ++ new) (style_below s (matching_of (e ∷ up) (walked code)) settings counts e) (e ∷ up)
     unfolding style_below computed_style sources_along cascaded cascade_by inherit_by finish_by
     styled-below s h more =
         let t : List ℕ = code ++ ((filled ++ new) ++ more) in

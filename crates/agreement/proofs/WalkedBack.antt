@@ -7,21 +7,23 @@ use native.Mathlib.Omega.{arith}
 use lib.ListN.{length, length-append}
 use Rattle.combinators.specs.All.{All}
 use Rattle.syntax.specs.Layout.{flag, style_slot_of, style_text_of, style_text, numbers_from}
-use Rattle.syntax.specs.RuleLayout.{pseudo_number}
+use Rattle.syntax.specs.RuleLayout.{pseudo_number, pseudo_from}
 use Rattle.syntax.specs.Stream.{texts_many}
 use Rattle.syntax.specs.Style as style
 use Rattle.syntax.specs.Style.{agent_origin, Style, StyleDecl}
 use Rattle.syntax.proofs.Streams.{Held, held-left, held-right}
 use Rattle.syntax.specs.declared.styles.Value.{Value}
+use Rattle.syntax.proofs.RuleRows.{pseudo-back}
 use Rattle.cascade.specs.Related.{Each, none, next}
+use Rattle.cascade.specs.Record.{Styled}
 use Rattle.cascade.proofs.Relating.{SameStyled}
-use Rattle.compiled.specs.Decoded.{Decoded, read, on_decoded, and_then, mapped, counted}
+use Rattle.compiled.specs.Decoded.{Decoded, read, on_decoded, mapped, counted}
 use Rattle.compiled.specs.Number.{number_limit, number_bytes, number_at}
 use Rattle.compiled.specs.Component.{component_bytes, component_at}
 use Rattle.compiled.specs.Style.{style_body, style_bytes, style_numbers_at}
-use Rattle.compiled.specs.Sheet.{CompiledSelector, head_bytes, styles_bytes, selector_bytes, encode, head_at}
+use Rattle.compiled.specs.Sheet.{CompiledSelector, head_bytes, styles_bytes, selector_bytes, encode, selector_at, selectors_at, styles_at}
 use Rattle.compiled.proofs.Fits.{ComponentFits, StyleFits, SelectorFits, NotFalling, SheetFits}
-use Rattle.compiled.proofs.Following.{held-within, then-read, mapped-read, ends_at, counted_back}
+use Rattle.compiled.proofs.Following.{held-within, then-read, mapped-read, ends_at, counted_back, selector-made, sheet-made}
 use Rattle.compiled.proofs.NumberBack.{number-back}
 use Rattle.compiled.proofs.ComponentBack.{component-back}
 use Rattle.compiled.proofs.StyleBack.{style-some, place, text-there, numbers-back}
@@ -32,7 +34,7 @@ use Rattle.styles.specs.StyleCall.{in_numbers}
 use Rattle.styles.specs.Says.{Says}
 use Rattle.styles.proofs.Lying.{Lies, lies_more}
 use Rattle.styles.proofs.Placed.{style-says}
-use Rattle.runner.specs.Walked.{WalkedSelector, walked_styles_at, walked_parts_at, walked_selector_at, walked_selectors_at, walked, meant_selector}
+use Rattle.runner.specs.Walked.{walked, meant_selector, walked_style_at}
 use Rattle.agreement.proofs.Declaring.{SameSelector}
 
 module _ (t : List ℕ) where
@@ -64,7 +66,7 @@ module _ (t : List ℕ) where
 
   -- where the bytes of a style lie, the pass reads it whole, with the same slot and importance, and its value says the style's
   style-walked : (d : StyleDecl) (i : ℕ) → StyleFits d → Held t i (style_bytes d)
-      → Reads (mapped in_numbers (style_numbers_at t i)) (i + length (style_bytes d)) (λ u x. SameStyled (Says u) x (meant d))
+      → Reads (walked_style_at t i) (i + length (style_bytes d)) (λ u x. SameStyled (Says u) x (meant d))
   style-walked d i f h = (
     in_numbers (numbers_from (place t d i h) d),
     mapped-read in_numbers (style_numbers_at t i) _ _ (numbers-back t d i h f),
@@ -73,7 +75,7 @@ module _ (t : List ℕ) where
 
   -- many, one behind the other
   styles-walked : (ds : List StyleDecl) (i : ℕ) → All StyleFits ds → Held t i (texts_many style_bytes ds)
-      → Reads (counted (λ m. mapped in_numbers (style_numbers_at t m)) (length ds) i) (i + length (texts_many style_bytes ds)) (λ u xs. Each (SameStyled (Says u)) xs (map meant ds))
+      → Reads (counted (walked_style_at t) (length ds) i) (i + length (texts_many style_bytes ds)) (λ u xs. Each (SameStyled (Says u)) xs (map meant ds))
   unfolding counted texts_many
   styles-walked [] i f h = ([], ends_at [] i (i + 0) (sym (add-zero i)), λ more. none)
   styles-walked (d ∷ ds) i f h =
@@ -83,7 +85,7 @@ module _ (t : List ℕ) where
       let rest = styles-walked ds (i + length a) f.1 (held-right t i a b h) in
       let e : i + length a + length b ≡ i + length (a ++ b) = omega (arith, length-append a b) in (
         one.0 ∷ rest.0,
-        then-read (mapped in_numbers (style_numbers_at t i)) (λ n x. mapped (λ r. x ∷ r) (counted (λ m. mapped in_numbers (style_numbers_at t m)) (length ds) n)) _ one.0 one.1
+        then-read (walked_style_at t i) (λ n x. mapped (λ r. x ∷ r) (counted (walked_style_at t) (length ds) n)) _ one.0 one.1
             ∙ mapped-read (λ r. one.0 ∷ r) _ _ rest.0 rest.1
             ∙ ends_at _ _ _ e,
         λ more. next (one.2 more) (rest.2 more),
@@ -91,25 +93,25 @@ module _ (t : List ℕ) where
 
   -- the same with their count before them: where the bytes of a list of styles lie, they are read whole and say those styles
   counted-walked : (ds : List StyleDecl) (i : ℕ) → length ds < number_limit → All StyleFits ds → Held t i (styles_bytes ds)
-      → Reads (walked_styles_at t i) (i + length (styles_bytes ds)) (λ u xs. Each (SameStyled (Says u)) xs (map meant ds))
-  unfolding walked_styles_at styles_bytes
+      → Reads (styles_at (walked_style_at t) t i) (i + length (styles_bytes ds)) (λ u xs. Each (SameStyled (Says u)) xs (map meant ds))
+  unfolding styles_at styles_bytes
   counted-walked ds i l f h =
       let a : List ℕ = number_bytes (length ds) in
       let b : List ℕ = texts_many style_bytes ds in
       let all = styles-walked ds (i + length a) f (held-right t i a b h) in
       let e : i + length a + length b ≡ i + length (a ++ b) = omega (arith, length-append a b) in (
         all.0,
-        then-read (number_at t i) (λ n count. counted (λ m. mapped in_numbers (style_numbers_at t m)) count n) _ (length ds) (number-back t i (length ds) l (held-left t i a b h))
+        then-read (number_at t i) (λ n count. counted (walked_style_at t) count n) _ (length ds) (number-back t i (length ds) l (held-left t i a b h))
             ∙ all.1
             ∙ ends_at _ _ _ e,
         all.2,
       )
 
   -- a selector, behind one of an origin that is not above its own
-  selector-walked : (s : CompiledSelector) (least i : ℕ) → SelectorFits s → least ≤ s.origin → Held t i (selector_bytes s)
-      → (w : WalkedSelector Value) × (walked_selector_at t least i ≡ read (i + length (selector_bytes s)) w) × (w.origin ≡ s.origin)
+  selector-walked : (s : CompiledSelector StyleDecl) (least i : ℕ) → SelectorFits s → least ≤ s.origin → Held t i (selector_bytes s)
+      → (w : CompiledSelector (Styled Value)) × (selector_at (walked_style_at t) t least i ≡ read (i + length (selector_bytes s)) w) × (w.origin ≡ s.origin)
       × ((more : List ℕ) → SameSelector (Says (t ++ more)) w (meant_selector s))
-  unfolding walked_selector_at walked_parts_at selector_bytes meant_selector
+  unfolding selector_bytes meant_selector
   selector-walked s least i f l h =
       let a : List ℕ = head_bytes s.origin (pseudo_number s.pseudo) (length s.components) in
       let b : List ℕ = texts_many component_bytes s.components in
@@ -117,21 +119,20 @@ module _ (t : List ℕ) where
       let r = held-right t i a (b ++ c) h in
       let e : i + length a + length b + length c ≡ i + length (a ++ (b ++ c)) = omega (arith, length-append a (b ++ c), length-append b c) in
       let all = counted-walked s.styles (i + length a + length b) f.style-count f.styles (held-right t (i + length a) b c r) in (
-        record { origin = s.origin; pseudo = pseudo_number s.pseudo; components = s.components; styles = all.0 },
-        then-read (head_at t least i) _ _ _
+        record { origin = s.origin; pseudo = pseudo_from (pseudo_number s.pseudo); components = s.components; styles = all.0 },
+        selector-made (walked_style_at t) t least i _ _ _ _ s.components all.0
             (head-back t s.origin s.pseudo (length s.components) least i l f.author f.component-count (held-left t i a (b ++ c) h))
-            ∙ then-read (counted (component_at t) (length s.components) (i + length a)) _ _ s.components
             (counted_back t component_bytes (component_at t) ComponentFits (component-back t) s.components (i + length a) f.components (held-left t (i + length a) b c r))
-            ∙ mapped-read _ (walked_styles_at t (i + length a + length b)) _ all.0 all.1
+            all.1
             ∙ ends_at _ _ _ e,
         refl,
-        λ more. record { origins = refl; pseudos = refl; components-same = refl; styles-same = all.2 more },
+        λ more. record { origins = refl; pseudos = pseudo-back s.pseudo; components-same = refl; styles-same = all.2 more },
       )
 
   -- selectors whose origins do not fall
-  selectors-walked : (ss : List CompiledSelector) (least i : ℕ) → All SelectorFits ss → NotFalling least ss → Held t i (texts_many selector_bytes ss)
-      → Reads (walked_selectors_at (length ss) t least i) (i + length (texts_many selector_bytes ss)) (λ u ws. Each (SameSelector (Says u)) ws (map meant_selector ss))
-  unfolding walked_selectors_at texts_many
+  selectors-walked : (ss : List (CompiledSelector StyleDecl)) (least i : ℕ) → All SelectorFits ss → NotFalling least ss → Held t i (texts_many selector_bytes ss)
+      → Reads (selectors_at (walked_style_at t) t (length ss) least i) (i + length (texts_many selector_bytes ss)) (λ u ws. Each (SameSelector (Says u)) ws (map meant_selector ss))
+  unfolding selectors_at texts_many
   selectors-walked [] least i f o h = ([], ends_at [] i (i + 0) (sym (add-zero i)), λ more. none)
   selectors-walked (s ∷ ss) least i f o h =
       let a : List ℕ = selector_bytes s in
@@ -140,21 +141,19 @@ module _ (t : List ℕ) where
       let rest = selectors-walked ss s.origin (i + length a) f.1 o.1 (held-right t i a b h) in
       let e : i + length a + length b ≡ i + length (a ++ b) = omega (arith, length-append a b) in (
         one.0 ∷ rest.0,
-        then-read (walked_selector_at t least i) (λ n w. mapped (λ r. w ∷ r) (walked_selectors_at (length ss) t w.origin n)) _ one.0 one.1
+        then-read (selector_at (walked_style_at t) t least i) (λ n w. mapped (λ r. w ∷ r) (selectors_at (walked_style_at t) t (length ss) w.origin n)) _ one.0 one.1
             ∙ mapped-read (λ r. one.0 ∷ r) _ _ rest.0 (rw one.2 rest.1)
             ∙ ends_at _ _ _ e,
         λ more. next (one.3 more) (rest.2 more),
       )
 
 -- the selectors that are met in the bytes of a sheet say, in these bytes and whatever follows them, what the sheet's selectors say
-pub walked-said : (ss : List CompiledSelector) → SheetFits ss → (more : List ℕ) → Each (SameSelector (Says (encode ss ++ more))) (walked (encode ss)) (map meant_selector ss)
+pub walked-said : (ss : List (CompiledSelector StyleDecl)) → SheetFits ss → (more : List ℕ) → Each (SameSelector (Says (encode ss ++ more))) (walked (encode ss)) (map meant_selector ss)
 unfolding walked encode on_decoded
 walked-said ss f more =
     let a : List ℕ = number_bytes (length ss) in
     let b : List ℕ = texts_many selector_bytes ss in
     let t : List ℕ = a ++ b in
     let all = selectors-walked t ss agent_origin (0 + length a) f.selectors f.origins (held-right t 0 a b (whole t)) in
-    let e : and_then (number_at t 0) (λ n count. walked_selectors_at count t agent_origin n) ≡ read (0 + length a + length b) all.0 =
-    then-read (number_at t 0) (λ n count. walked_selectors_at count t agent_origin n) _ (length ss) (number-back t 0 (length ss) f.count (held-left t 0 a b (whole t)))
-    ∙ all.1 in
-    rw e (all.2 more)
+    let e : 0 + length a + length b ≡ length t = omega (arith, length-append a b) in
+    rw (sheet-made (walked_style_at t) t (0 + length a) (length ss) (0 + length a + length b) all.0 (number-back t 0 (length ss) f.count (held-left t 0 a b (whole t))) all.1 e) (all.2 more)

@@ -2,6 +2,7 @@
 -- sheets, pages, settings and buffers.
 use Rattle.std.specs.Prelude.{ℕ, ◌≤◌, ◌<◌, ◌≡◌, List, ◌++◌, length}
 use Rattle.syntax.specs.Selector.{RuleSet}
+use Rattle.syntax.specs.Style.{StyleDecl}
 use Rattle.cascade.specs.declared.slots.Cascade.TheVariants.{Crate}
 use Rattle.page.specs.PathOf.{path_of}
 use Rattle.page.specs.Rows.{node_count, node_at, element_kind}
@@ -22,7 +23,7 @@ use Rattle.agreement.specs.ComputedRows.{RowComputed, ComputedRows}
 use Rattle.agreement.specs.SameRow.{SameRow}
 
 -- the selectors that three sheets are compiled to
-abbrev pub sheets_selectors : Rules RuleSet → List CompiledSelector
+abbrev pub sheets_selectors : Rules RuleSet → List (CompiledSelector StyleDecl)
 sheets_selectors rules = selectors_of rules.agent rules.user rules.author
 
 -- the style row of each element says its computed style, by the sheets, the settings and its path, where a content is the text that it names "in the

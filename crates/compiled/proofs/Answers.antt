@@ -3,6 +3,7 @@ use mathlib.Core.Path.{◌≡◌, refl, sym, ap, ◌∙◌}
 use Prim.Native.Nat.{ℕ, ◌+◌, ◌≤◌}
 use Rattle.std.proofs.Common.{Result, Ok, Err}
 use Rattle.std.specs.Result.{IsErrAnd}
+use Rattle.syntax.specs.Style.{StyleDecl}
 use Rattle.compiled.specs.Decoded.{Decoded, read, fault, and_then, mapped}
 use Rattle.compiled.specs.Answer.{read_answer, read_within, text_within, place_answer, selector_answer}
 use Rattle.compiled.specs.Sheet.{CompiledSelector}
@@ -138,13 +139,13 @@ module _ {A : Type 0} (d : Decoded A) (r : Result ℕ Fault) (e : r ≡ place_an
       go (fault p) q = cc
 
 -- ---- what an answer with a selector says
-module _ (d : Decoded CompiledSelector) (r : Result (Read ℕ) Fault) (e : r ≡ selector_answer d) where
+module _ (d : Decoded (CompiledSelector StyleDecl)) (r : Result (Read ℕ) Fault) (e : r ≡ selector_answer d) where
   -- one was read, of this origin
-  pub selector-read : (x : Read ℕ) → r ≡ Ok x → (s : CompiledSelector) × (d ≡ read x.next s) × (s.origin ≡ x.value)
+  pub selector-read : (x : Read ℕ) → r ≡ Ok x → (s : CompiledSelector StyleDecl) × (d ≡ read x.next s) × (s.origin ≡ x.value)
   unfolding selector_answer read_answer mapped
   selector-read x p = go d (sym p ∙ e)
     where
-      go : (d : Decoded CompiledSelector) → ◌≡◌ {A = Result (Read ℕ) Fault} (Ok x) (selector_answer d) → (s : CompiledSelector) × (d ≡ read x.next s) × (s.origin ≡ x.value)
+      go : (d : Decoded (CompiledSelector StyleDecl)) → ◌≡◌ {A = Result (Read ℕ) Fault} (Ok x) (selector_answer d) → (s : CompiledSelector StyleDecl) × (d ≡ read x.next s) × (s.origin ≡ x.value)
       go (read m s) q = let a : x.next ≡ m = cc in (s, rw a, cc)
       go (fault p) q = absurd (cc)
 
@@ -153,6 +154,6 @@ module _ (d : Decoded CompiledSelector) (r : Result (Read ℕ) Fault) (e : r ≡
   unfolding selector_answer read_answer mapped
   selector-fault f p = go d (sym p ∙ e)
     where
-      go : (d : Decoded CompiledSelector) → ◌≡◌ {A = Result (Read ℕ) Fault} (Err f) (selector_answer d) → d ≡ fault f.place
+      go : (d : Decoded (CompiledSelector StyleDecl)) → ◌≡◌ {A = Result (Read ℕ) Fault} (Err f) (selector_answer d) → d ≡ fault f.place
       go (read m s) q = absurd (cc)
       go (fault p) q = cc

@@ -9,17 +9,18 @@ use lib.Dec.{leb, ltb}
 use lib.ListN.{length, get_or}
 use Rattle.combinators.specs.Choice.{pick, is, within}
 use Rattle.combinators.proofs.Rules.{pick-holds}
-use Rattle.syntax.specs.Layout.{colour_slot, display_slot, white_space_slot, content_slot, visibility_slot, last_slot, style_in}
+use Rattle.syntax.specs.Layout.{colour_slot, display_slot, white_space_slot, content_slot, visibility_slot, last_slot, style_in, flag, white_space_number}
 use Rattle.syntax.specs.RuleLayout.{star_kind, nth_kind, attribute_equal_kind, pseudo_number}
 use Rattle.syntax.specs.Selector.{none, after}
-use Rattle.syntax.specs.Style.{agent_origin, author_origin}
+use Rattle.syntax.specs.Style.{agent_origin, author_origin, StyleDecl}
+use Rattle.syntax.specs.Declaration.{pre_wrap}
 use Rattle.compiled.specs.Decoded.{Decoded, read, fault, and_then, mapped, counted}
 use Rattle.compiled.specs.Number.{group_values, most_groups, number_limit, limited, groups_at, number_at, ranged_at}
 use Rattle.compiled.specs.Text.{span_at}
 use Rattle.compiled.specs.declared.texts.Span.{Span}
 use Rattle.compiled.specs.Component.{is_mark, name_at, second_number_at, numbers_at, second_name_at, names_at, body_at, written_at, component_at, component_in}
-use Rattle.compiled.specs.Style.{greatest_colour, greatest_white_space, greatest_visibility, content_at, number_up_to, value_at, valued_at, slot_at, started_at, style_numbers_at, style_at}
-use Rattle.compiled.specs.Sheet.{CompiledSelector, count_at, pseudo_at, head_at, styles_at, parts_at, selector_of, selector_at, selectors_at, ending, whole_at, decode}
+use Rattle.compiled.specs.Style.{greatest_colour, content_at, number_up_to, value_at, valued_at, slot_at, started_at, style_numbers_at, style_at}
+use Rattle.compiled.specs.Sheet.{CompiledSelector, count_at, pseudo_at, head_at, styles_at, selector_at, selectors_at, whole_at, decode, decode_by}
 
 -- what was read from i on takes at least `least` bytes and ends within the `len` bytes that there are; a fault lies within them or at their end
 unfoldable pub Reaches : {A : Type 0} → ℕ → ℕ → ℕ → Decoded A → Type 0
@@ -163,9 +164,9 @@ module _ (t : List ℕ) where
       (λ _. pick-holds (Reaches 0 (length t) n) (is slot content_slot) _ _
       (λ _. weaker 1 n _ (reaches-mapped (length t) _ (span_at t n) 1 n (span-reaches n)))
       (λ _. pick-holds (Reaches 0 (length t) n) (is slot white_space_slot) _ _
-      (λ _. up-to-reaches greatest_white_space from n)
+      (λ _. up-to-reaches (white_space_number pre_wrap) from n)
       (λ _. pick-holds (Reaches 0 (length t) n) (is slot visibility_slot) _ _
-      (λ _. up-to-reaches greatest_visibility from n)
+      (λ _. up-to-reaches (flag true) from n)
       (λ _. up-to-reaches greatest_colour from n))))
 
   -- what the bytes of a style say
@@ -192,7 +193,7 @@ module _ (t : List ℕ) where
       (λ m pseudo _. reaches-mapped (length t) _ (number_at t m) 1 m (number-reaches m)))
 
   -- the styles with their count
-  pub styles-reach : (i : ℕ) → Reaches 1 (length t) i (styles_at t i)
+  pub styles-reach : (i : ℕ) → Reaches 1 (length t) i (styles_at (style_at t) t i)
   unfolding styles_at
   styles-reach i =
       reaches_then (length t) (number_at t i) (λ n count. counted (style_at t) count n) 1 0 i (number-reaches i)
@@ -202,36 +203,30 @@ module _ (t : List ℕ) where
   pub components-reach : (k i : ℕ) → i ≤ length t → Reaches 0 (length t) i (counted (component_at t) k i)
   components-reach k i l = reaches-counted (length t) (component_at t) (λ m _. weaker 1 m _ (component-reaches m)) k i l
 
-  -- what stands behind these numbers
-  pub parts-reach : (count i : ℕ) → i ≤ length t → Reaches 1 (length t) i (parts_at t count i)
-  unfolding parts_at
-  parts-reach count i l =
-      reaches_then (length t) (counted (component_at t) count i) _ 0 1 i (components-reach count i l)
-      (λ m cs _. reaches-mapped (length t) _ (styles_at t m) 1 m (styles-reach m))
-
   -- a selector takes at least four bytes and ends within the bytes
-  pub selector-reaches : (least i : ℕ) → Reaches 4 (length t) i (selector_at t least i)
+  pub selector-reaches : (least i : ℕ) → Reaches 4 (length t) i (selector_at (style_at t) t least i)
   unfolding selector_at
   selector-reaches least i =
       reaches_then (length t) (head_at t least i) _ 3 1 i (head-reaches least i)
-      (λ n h l. reaches-mapped (length t) (selector_of h) (parts_at t h.count n) 1 n (parts-reach h.count n l))
+      (λ n h l. reaches_then (length t) (counted (component_at t) h.count n) _ 0 1 n (components-reach h.count n l)
+      (λ m cs _. reaches-mapped (length t) _ (styles_at (style_at t) t m) 1 m (styles-reach m)))
 
   -- selectors one behind the other end within the bytes
-  selectors-reach : (k least i : ℕ) → i ≤ length t → Reaches 0 (length t) i (selectors_at k t least i)
+  selectors-reach : (k least i : ℕ) → i ≤ length t → Reaches 0 (length t) i (selectors_at (style_at t) t k least i)
   unfolding selectors_at
   selectors-reach zero least i l = reaches-read (length t) i 0 i [] (omega arith) l
   selectors-reach (suc k) least i l =
-      reaches_then (length t) (selector_at t least i) _ 0 0 i (weaker 4 i _ (selector-reaches least i))
-      (λ n s m. reaches-mapped (length t) (λ r. s ∷ r) (selectors_at k t s.origin n) 0 n (selectors-reach k s.origin n m))
+      reaches_then (length t) (selector_at (style_at t) t least i) _ 0 0 i (weaker 4 i _ (selector-reaches least i))
+      (λ n s m. reaches-mapped (length t) (λ r. s ∷ r) (selectors_at (style_at t) t k s.origin n) 0 n (selectors-reach k s.origin n m))
 
   -- a sheet takes at least a byte and ends within the bytes
   pub sheet-reaches : Reaches 1 (length t) 0 (decode t)
-  unfolding decode whole_at ending
+  unfolding decode decode_by whole_at
   sheet-reaches =
-      reaches_then (length t) (number_at t 0) (λ n count. whole_at t count n) 1 0 0 (number-reaches 0)
-      (λ n count l. reaches_then (length t) (selectors_at count t agent_origin n) _ 0 0 n (selectors-reach count agent_origin n l)
+      reaches_then (length t) (number_at t 0) (λ n count. whole_at (style_at t) t count n) 1 0 0 (number-reaches 0)
+      (λ n count l. reaches_then (length t) (selectors_at (style_at t) t count agent_origin n) _ 0 0 n (selectors-reach count agent_origin n l)
       (λ m ss k. pick-holds (Reaches 0 (length t) m) (is m (length t)) (read m ss) (fault m) (λ _. reaches-read (length t) m 0 m ss (omega arith) k)
-      (λ _. reaches-fault (List CompiledSelector) (length t) m 0)))
+      (λ _. reaches-fault (List (CompiledSelector StyleDecl)) (length t) m 0)))
 
 -- ---- what holds of every value that is read
 unfoldable pub Holds : {A : Type 0} → (ℕ → A → Type 0) → Decoded A → Type 0

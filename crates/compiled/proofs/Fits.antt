@@ -39,7 +39,7 @@ pub record StyleFits (d : StyleDecl) : Type 0 where
   pub start : d.value.start < number_limit
   pub text : TextFits (style_text d)
 
-pub record SelectorFits (s : CompiledSelector) : Type 0 where
+pub record SelectorFits (s : CompiledSelector StyleDecl) : Type 0 where
   pub author : s.origin ≤ author_origin
   pub component-count : length s.components < number_limit
   pub components : All ComponentFits s.components
@@ -47,11 +47,11 @@ pub record SelectorFits (s : CompiledSelector) : Type 0 where
   pub styles : All StyleFits s.styles
 
 -- no origin is below the one before it
-abbrev pub NotFalling : ℕ → List CompiledSelector → Type 0
+abbrev pub NotFalling : ℕ → List (CompiledSelector StyleDecl) → Type 0
 NotFalling least [] = Unit
 NotFalling least (s ∷ ss) = (least ≤ s.origin) × NotFalling s.origin ss
 
-pub record SheetFits (ss : List CompiledSelector) : Type 0 where
+pub record SheetFits (ss : List (CompiledSelector StyleDecl)) : Type 0 where
   pub count : length ss < number_limit
   pub selectors : All SelectorFits ss
   pub origins : NotFalling agent_origin ss

@@ -1,5 +1,5 @@
 -- Bytes that lie at a place of a sheet, and values read one behind the other.
-use mathlib.Core.Path.{◌≡◌, ap, sym, ◌∙◌}
+use mathlib.Core.Path.{◌≡◌, ap, sym, ◌∙◌, refl}
 use mathlib.Core.List.{List, [], ◌∷◌, ◌++◌}
 use Prim.Native.Nat.{ℕ, suc, ◌+◌, ◌-◌, ◌≤◌, ◌<◌}
 use native.Mathlib.Nat.{add-zero}
@@ -8,9 +8,17 @@ use lib.ListN.{length, get_or, length-drop, length-append}
 use Rattle.combinators.specs.All.{All}
 use Rattle.combinators.proofs.Lists.{first}
 use Rattle.combinators.proofs.AllLaws.{all_append}
+use Rattle.combinators.proofs.Rules.{pick_true, is-yes}
+use Rattle.syntax.specs.RuleLayout.{pseudo_from}
+use Rattle.syntax.specs.Selector.{Component}
 use Rattle.syntax.specs.Stream.{texts_many}
+use Rattle.syntax.specs.Style.{agent_origin}
 use Rattle.syntax.proofs.Streams.{Held, held-left, held-right}
 use Rattle.compiled.specs.Decoded.{Decoded, read, fault, and_then, mapped, counted}
+use Rattle.compiled.specs.Component.{component_at}
+use Rattle.compiled.specs.Sheet.{styles_at, head_at, selector_at, CompiledSelector, selectors_at, whole_at, decode_by}
+use Rattle.compiled.specs.declared.sheets.Head.{Head}
+use Rattle.compiled.specs.Number.{number_at}
 
 -- ---- bytes at a place
 module _ (t : List ℕ) (n : ℕ) (xs : List ℕ) (h : Held t n xs) where
@@ -61,6 +69,21 @@ module _ {A B : Type 0} (f : A → B) (d : Decoded A) where
 -- a value read at i whose bytes end at one of two names for the same place
 pub ends_at : {A : Type 0} (a : A) (m n : ℕ) → m ≡ n → read m a ≡ read n a
 ends_at a m n e = rw e
+
+-- where the head of a selector, its components and its styles are read one behind the other, the selector is
+pub selector-made : {A : Type 0} (style : ℕ → Decoded A) (t : List ℕ) (least i n m k : ℕ) (h : Head) (cs : List Component) (ds : List A) → head_at t least i ≡ read n h
+    → counted (component_at t) h.count n ≡ read m cs → styles_at style t m ≡ read k ds
+    → selector_at style t least i ≡ read k (record { origin = h.origin; pseudo = pseudo_from h.pseudo; components = cs; styles = ds })
+unfolding selector_at
+selector-made style t least i n m k h cs ds e f g =
+    then-read (head_at t least i) _ n h e ∙ then-read (counted (component_at t) h.count n) _ m cs f ∙ mapped-read _ (styles_at style t m) k ds g
+
+-- where the count of a sheet and so many selectors are read, and the bytes end behind them, the sheet is
+pub sheet-made : {A : Type 0} (style : ℕ → Decoded A) (t : List ℕ) (n k m : ℕ) (ss : List (CompiledSelector A)) → number_at t 0 ≡ read n k
+    → selectors_at style t k agent_origin n ≡ read m ss → m ≡ length t → decode_by style t ≡ read m ss
+unfolding decode_by whole_at
+sheet-made style t n k m ss e f l =
+    then-read (number_at t 0) _ n k e ∙ then-read (selectors_at style t k agent_origin n) _ m ss f ∙ sym (pick_true _ _ _ _ (is-yes m (length t) l) refl)
 
 -- where a value that P holds of is read back from its bytes, so is a list of them
 module _ {A : Type 0} (t : List ℕ) (w : A → List ℕ) (u : ℕ → Decoded A) (P : A → Type 0)

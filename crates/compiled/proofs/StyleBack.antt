@@ -17,7 +17,7 @@ use Rattle.syntax.proofs.Streams.{Held, held-left, held-right}
 use Rattle.compiled.specs.Decoded.{read}
 use Rattle.compiled.specs.Number.{number_bytes, number_at, ranged_at}
 use Rattle.compiled.specs.Text.{span_at}
-use Rattle.compiled.specs.Style.{greatest_colour, greatest_white_space, greatest_visibility, style_body, style_bytes, content_at, number_up_to, value_at, valued_at, slot_at, started_at, style_numbers_at, style_at}
+use Rattle.compiled.specs.Style.{greatest_colour, style_body, style_bytes, content_at, number_up_to, value_at, valued_at, slot_at, started_at, style_numbers_at, style_at}
 use Rattle.compiled.proofs.Fits.{TextFits, StyleFits}
 use Rattle.compiled.proofs.Following.{then-read, mapped-read, ends_at}
 use Rattle.compiled.proofs.NumberBack.{number-some, number-back, ranged-back}
@@ -40,6 +40,11 @@ unfolding flag
 flag-le true = omega arith
 flag-le false = omega arith
 
+-- nor more than that of what is so
+flag-true : (b : Bool) → flag b ≤ flag true
+unfolding flag
+flag-true b = flag-le b
+
 -- the number of a colour of bytes is at most the greatest of colours
 colour-le : (c : Colour) → OfBytes c → colour_number c ≤ greatest_colour
 unfolding colour_number
@@ -49,11 +54,16 @@ colour-le c h = sum c.red c.green c.blue h.red h.green h.blue
     sum r g b hr hg hb = omega arith
 
 -- the number of a word of `white-space` is at most the greatest of them
-white-space-le : (w : WhiteSpace) → white_space_number w ≤ greatest_white_space
+white-space-le : (w : WhiteSpace) → white_space_number w ≤ white_space_number pre_wrap
 unfolding white_space_number
 white-space-le normal = omega arith
 white-space-le pre = omega arith
 white-space-le pre_wrap = omega arith
+
+-- which is 2
+white-space-two : (w : WhiteSpace) → white_space_number w ≤ 2
+unfolding white_space_number
+white-space-two w = white-space-le w
 
 -- a style takes a byte
 pub style-some : (d : StyleDecl) → 1 ≤ length (style_bytes d)
@@ -86,10 +96,10 @@ module _ (t : List ℕ) where
       mapped-read _ (ranged_at t n 0 greatest_colour) _ _ (ranged-back t n 0 greatest_colour (colour_number c) (omega (arith, colour-le c u)) (omega arith) (colour-le c u) h)
   body-value style.display_none from n u f h = ends_at _ _ _ (sym (add-zero n))
   body-value (style.white_space w) from n u f h =
-      mapped-read _ (ranged_at t n 0 greatest_white_space) _ _ (ranged-back t n 0 greatest_white_space (white_space_number w) (omega (arith, white-space-le w)) (omega arith) (white-space-le w) h)
+      mapped-read _ (ranged_at t n 0 (white_space_number pre_wrap)) _ _ (ranged-back t n 0 (white_space_number pre_wrap) (white_space_number w) (omega (arith, white-space-two w)) (omega arith) (white-space-le w) h)
   body-value (style.content x) from n u f h = mapped-read _ (span_at t n) _ (span t n x h) (span-back t n x h f.short)
   body-value (style.visibility z) from n u f h =
-      mapped-read _ (ranged_at t n 0 greatest_visibility) _ _ (ranged-back t n 0 greatest_visibility (flag z) (omega (arith, flag-le z)) (omega arith) (flag-le z) h)
+      mapped-read _ (ranged_at t n 0 (flag true)) _ _ (ranged-back t n 0 (flag true) (flag z) (omega (arith, flag-le z)) (omega arith) (flag-true z) h)
 
   -- its text lies behind its length
   body-text : (s : Style) (n : ℕ) → Held t n (style_body s) → Held t (text_place n s) (style_text_of s)

@@ -1,17 +1,18 @@
 -- The returns of the readers of styles.
 use mathlib.Core.Path.{◌≡◌, refl, sym, ap, ◌∙◌}
-use mathlib.Core.Bool.{Bool}
+use mathlib.Core.Bool.{Bool, true}
 use mathlib.Core.List.{List}
 use Prim.Native.Nat.{ℕ, ◌+◌, ◌≤◌, ◌<◌}
 use native.Mathlib.Omega.{arith}
 use lib.ListN.{length}
 use Rattle.combinators.proofs.Rules.{pick_true, pick-false, is-yes, is-no}
-use Rattle.syntax.specs.Layout.{flag_of, colour_slot, display_slot, white_space_slot, content_slot, visibility_slot, last_slot, style_in}
+use Rattle.syntax.specs.Layout.{flag_of, colour_slot, display_slot, white_space_slot, content_slot, visibility_slot, last_slot, style_in, flag, white_space_number}
 use Rattle.syntax.specs.declared.styles.Value.{Value}
 use Rattle.syntax.specs.declared.styles.StyleNumbers.{StyleNumbers}
+use Rattle.syntax.specs.Declaration.{pre_wrap}
 use Rattle.compiled.specs.Decoded.{counted}
 use Rattle.compiled.specs.Number.{number_limit, number_at, ranged_at}
-use Rattle.compiled.specs.Style.{greatest_colour, greatest_white_space, greatest_visibility, content_at, number_up_to, value_at, valued_at, slot_at, started_at, style_numbers_at, style_at}
+use Rattle.compiled.specs.Style.{greatest_colour, content_at, number_up_to, value_at, valued_at, slot_at, started_at, style_numbers_at, style_at}
 use Rattle.compiled.specs.Sheet.{styles_at}
 use Rattle.std.proofs.Common.{Result, Ok, Err}
 use Rattle.compiled.specs.Answer.{read_answer, read_within, text_within, place_answer}
@@ -42,14 +43,14 @@ module _ (s : List ℕ) (at from slot : ℕ) where
 
     module _ (k : ¬ (slot ≡ content_slot)) where
       -- the white space slot has a number of a word
-      pub value-white-space : slot ≡ white_space_slot → r ≡ read_answer (number_up_to greatest_white_space s from at) → r ≡ read_answer (value_at s from slot at)
+      pub value-white-space : slot ≡ white_space_slot → r ≡ read_answer (number_up_to (white_space_number pre_wrap) s from at) → r ≡ read_answer (value_at s from slot at)
       unfolding value_at
       value-white-space l e =
           e ∙ ap read_answer (pick-false _ _ _ _ (is-no _ _ h) (pick-false _ _ _ _ (is-no _ _ k) (pick_true _ _ _ _ (is-yes _ _ l) refl)))
 
       module _ (l : ¬ (slot ≡ white_space_slot)) where
         -- the visibility slot has a flag
-        pub value-visibility : slot ≡ visibility_slot → r ≡ read_answer (number_up_to greatest_visibility s from at) → r ≡ read_answer (value_at s from slot at)
+        pub value-visibility : slot ≡ visibility_slot → r ≡ read_answer (number_up_to (flag true) s from at) → r ≡ read_answer (value_at s from slot at)
         unfolding value_at
         value-visibility m e =
             e ∙ ap read_answer (pick-false _ _ _ _ (is-no _ _ h) (pick-false _ _ _ _ (is-no _ _ k) (pick-false _ _ _ _ (is-no _ _ l) (pick_true _ _ _ _ (is-yes _ _ m) refl))))
@@ -110,11 +111,11 @@ module _ (s : List ℕ) (at : ℕ) (r : Result (Read StyleNumbers) Fault) (e : r
 -- ---- `skip_styles`: a count, then as many styles
 module _ (s : List ℕ) (at : ℕ) (r : Result (Read ℕ) Fault) (e : r ≡ read_answer (number_at s at)) where
   -- with their count read, the styles are passed one behind the other
-  pub counted_styles : (x : Read ℕ) → r ≡ Ok x → place_answer (counted (style_at s) x.value x.next) ≡ place_answer (styles_at s at)
+  pub counted_styles : (x : Read ℕ) → r ≡ Ok x → place_answer (counted (style_at s) x.value x.next) ≡ place_answer (styles_at (style_at s) s at)
   unfolding styles_at
   counted_styles x p = then_place (number_at s at) _ r e x p _ refl
 
   -- where no count was read, the fault is that of the count
-  pub styles-fault : (f : Fault) → r ≡ Err f → Err f ≡ place_answer (styles_at s at)
+  pub styles-fault : (f : Fault) → r ≡ Err f → Err f ≡ place_answer (styles_at (style_at s) s at)
   unfolding styles_at
   styles-fault f p = then-place (number_at s at) _ r e f p

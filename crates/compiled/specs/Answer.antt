@@ -2,6 +2,7 @@
 use Rattle.std.specs.Prelude.{ℕ, ◌+◌, ◌-◌, ◌≤◌, ◌<◌, ◌≡◌, List, length, get_or, Result, Ok, Err}
 use Rattle.combinators.specs.Refusal.{no_refusal, refused_at, bad_bytes}
 use Rattle.combinators.specs.declared.refusals.Refusal.{Refusal}
+use Rattle.syntax.specs.Style.{StyleDecl}
 use Rattle.compiled.specs.Decoded.{Decoded, read, fault, on_decoded, mapped}
 use Rattle.compiled.specs.Component.{written_at}
 use Rattle.compiled.specs.Sheet.{CompiledSelector, decode}
@@ -52,11 +53,11 @@ pub record ShortSize (t : List ℕ) (i r : ℕ) : Type 0 where
   pub there : r ≤ length t - i
 
 -- ---- a selector that is passed over, with its origin
-unfoldable pub selector_answer : Decoded CompiledSelector → Result (Read ℕ) Fault
+unfoldable pub selector_answer : Decoded (CompiledSelector StyleDecl) → Result (Read ℕ) Fault
 selector_answer d = read_answer (mapped (λ s. s.origin) d)
 
 -- ---- a sheet: that the bytes are one, or the place of the fault
-unfoldable pub check_answer : Decoded (List CompiledSelector) → Result Unit Fault
+unfoldable pub check_answer : Decoded (List (CompiledSelector StyleDecl)) → Result Unit Fault
 check_answer (read n ss) = Ok tt
 check_answer (fault p) = Err (record { place = p })
 

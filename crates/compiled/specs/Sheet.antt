@@ -20,12 +20,12 @@ use Rattle.compiled.specs.Style.{style_body, style_bytes, number_up_to, value_at
 abbrev pub compiled_limit : ℕ
 compiled_limit = 65536
 
--- a selector with the styles of its rule; components rightmost first
-pub record CompiledSelector : Type 0 where
+-- a selector with the styles of its rule, each an A; components rightmost first
+pub record CompiledSelector (A : Type 0) : Type 0 where
   pub origin : ℕ
   pub pseudo : PseudoElement
   pub components : List Component
-  pub styles : List StyleDecl
+  pub styles : List A
 
 -- ---- written
 
@@ -36,13 +36,13 @@ head_bytes origin pseudo count = number_bytes origin ++ (number_bytes pseudo ++ 
 unfoldable pub styles_bytes : List StyleDecl → List ℕ
 styles_bytes ds = number_bytes (length ds) ++ texts_many style_bytes ds
 
-unfoldable pub selector_bytes : CompiledSelector → List ℕ
+unfoldable pub selector_bytes : CompiledSelector StyleDecl → List ℕ
 selector_bytes s =
     head_bytes s.origin (pseudo_number s.pseudo) (length s.components) ++ (texts_many component_bytes s.components ++ styles_bytes s.styles)
 
 -- "Sheet: selector count; for each, origin 1 to 3 (agent, user, author), pseudo 0 to 2 (none, before, after), component count, components rightmost first,
 -- style count, styles."
-unfoldable pub encode : List CompiledSelector → List ℕ
+unfoldable pub encode : List (CompiledSelector StyleDecl) → List ℕ
 encode ss = number_bytes (length ss) ++ texts_many selector_bytes ss
 
 -- ---- read
@@ -57,43 +57,38 @@ pseudo_at t origin n = and_then (ranged_at t n (pseudo_number none) (pseudo_numb
 unfoldable pub head_at : List ℕ → ℕ → ℕ → Decoded Head
 head_at t least i = and_then (ranged_at t i least author_origin) (λ n origin. pseudo_at t origin n)
 
-unfoldable pub styles_at : List ℕ → ℕ → Decoded (List StyleDecl)
-styles_at t i = and_then (number_at t i) (λ n count. counted (style_at t) count n)
+-- "style count, styles", by what reads a style at a place of t
+module _ {A : Type 0} (style : ℕ → Decoded A) (t : List ℕ) where
+  unfoldable pub styles_at : ℕ → Decoded (List A)
+  styles_at i = and_then (number_at t i) (λ n count. counted style count n)
 
--- what stands behind these numbers
-pub record Parts : Type 0 where
-  pub components : List Component
-  pub styles : List StyleDecl
+  -- a selector, where the one before is of the origin `least`
+  unfoldable pub selector_at : ℕ → ℕ → Decoded (CompiledSelector A)
+  selector_at least i =
+      and_then (head_at t least i) (λ n h. and_then (counted (component_at t) h.count n)
+      (λ m cs. mapped (λ ds. record { origin = h.origin; pseudo = pseudo_from h.pseudo; components = cs; styles = ds }) (styles_at m)))
 
-unfoldable pub parts_at : List ℕ → ℕ → ℕ → Decoded Parts
-parts_at t count n = and_then (counted (component_at t) count n) (λ m cs. mapped (λ ds. record { components = cs; styles = ds }) (styles_at t m))
+  -- k selectors, none of an origin below that of the one before it
+  unfoldable pub selectors_at : ℕ → ℕ → ℕ → Decoded (List (CompiledSelector A))
+  selectors_at zero least i = read i []
+  selectors_at (suc k) least i = and_then (selector_at least i) (λ n s. mapped (λ r. s ∷ r) (selectors_at k s.origin n))
 
-unfoldable pub selector_of : Head → Parts → CompiledSelector
-selector_of h p = record { origin = h.origin; pseudo = pseudo_from h.pseudo; components = p.components; styles = p.styles }
+  -- and the bytes end there, or the first left over is a fault
+  unfoldable pub whole_at : ℕ → ℕ → Decoded (List (CompiledSelector A))
+  whole_at count n = and_then (selectors_at count agent_origin n) (λ m ss. pick (is m (length t)) (read m ss) (fault m))
 
-unfoldable pub selector_at : List ℕ → ℕ → ℕ → Decoded CompiledSelector
-selector_at t least i = and_then (head_at t least i) (λ n h. mapped (selector_of h) (parts_at t h.count n))
+  unfoldable pub decode_by : Decoded (List (CompiledSelector A))
+  decode_by = and_then (number_at t 0) (λ n count. whole_at count n)
 
--- k selectors, none of an origin below that of the one before it
-unfoldable pub selectors_at : ℕ → List ℕ → ℕ → ℕ → Decoded (List CompiledSelector)
-selectors_at zero t least i = read i []
-selectors_at (suc k) t least i = and_then (selector_at t least i) (λ n s. mapped (λ r. s ∷ r) (selectors_at k t s.origin n))
-
--- the bytes end at n, or the first left over is a fault
-unfoldable pub ending : {A : Type 0} → List ℕ → ℕ → A → Decoded A
-ending t n a = pick (is n (length t)) (read n a) (fault n)
-
-unfoldable pub whole_at : List ℕ → ℕ → ℕ → Decoded (List CompiledSelector)
-whole_at t count n = and_then (selectors_at count t agent_origin n) (λ m ss. ending t m ss)
-
-unfoldable pub decode : List ℕ → Decoded (List CompiledSelector)
-decode t = and_then (number_at t 0) (λ n count. whole_at t count n)
+-- with the styles themselves
+unfoldable pub decode : List ℕ → Decoded (List (CompiledSelector StyleDecl))
+decode t = decode_by (style_at t) t
 
 -- ---- cases
 
 -- the author's `p{color:red}`: "For the first case: `01 03 00 01 02 01 70 01 00 00 80 80 fc 07`", which with the start of its declaration "gains `02`" behind the
 -- important mark (S-3)
-abbrev pub red_selector : CompiledSelector
+abbrev pub red_selector : CompiledSelector StyleDecl
 red_selector =
     record {
       origin = author_origin;
@@ -110,29 +105,29 @@ unfolding encode selector_bytes head_bytes styles_bytes texts_many pseudo_number
 case-encode = refl
 
 pub case-decode : decode red_bytes ≡ read 15 (red_selector ∷ [])
-unfolding decode whole_at ending selectors_at selector_at selector_of head_at pseudo_at pseudo_number count_at parts_at styles_at pseudo_from counted component_at component_in written_at body_at name_at is_mark mark_of named_of text_in span_at part style_at style_in value_in style_numbers_at started_at slot_at valued_at value_at number_up_to style_of flag_of colour_of ranged_at number_at groups_at limited and_then mapped pick or and is within
+unfolding decode decode_by whole_at selectors_at selector_at head_at pseudo_at pseudo_number count_at styles_at pseudo_from counted component_at component_in written_at body_at name_at is_mark mark_of named_of text_in span_at part style_at style_in value_in style_numbers_at started_at slot_at valued_at value_at number_up_to style_of flag_of colour_of ranged_at number_at groups_at limited and_then mapped pick or and is within
 case-decode = refl
 
 -- no selector; of the program that compiles one sheet "The other two sheets are empty; empty input prints `00`."
 pub case-empty : decode (0x00 ∷ []) ≡ read 1 []
-unfolding decode whole_at ending selectors_at number_at groups_at limited and_then pick is
+unfolding decode decode_by whole_at selectors_at number_at groups_at limited and_then pick is
 case-empty = refl
 
 -- an origin that goes back: a user selector behind an author one, neither with components or styles
 pub case-origin : decode (0x02 ∷ 0x03 ∷ 0x00 ∷ 0x00 ∷ 0x00 ∷ 0x02 ∷ 0x00 ∷ 0x00 ∷ 0x00 ∷ []) ≡ fault 5
-unfolding decode whole_at ending selectors_at selector_at selector_of head_at pseudo_at pseudo_number count_at parts_at styles_at counted ranged_at number_at groups_at limited and_then mapped pick and is within
+unfolding decode decode_by whole_at selectors_at selector_at head_at pseudo_at pseudo_number count_at styles_at counted ranged_at number_at groups_at limited and_then mapped pick and is within
 case-origin = refl
 
 -- a class whose name runs out
 pub case-text : decode (0x01 ∷ 0x01 ∷ 0x00 ∷ 0x01 ∷ 0x01 ∷ 0x05 ∷ 0x61 ∷ 0x00 ∷ []) ≡ fault 5
-unfolding decode whole_at ending selectors_at selector_at selector_of head_at pseudo_at pseudo_number count_at parts_at styles_at counted component_at component_in written_at body_at name_at is_mark span_at ranged_at number_at groups_at limited and_then mapped pick or and is within
+unfolding decode decode_by whole_at selectors_at selector_at head_at pseudo_at pseudo_number count_at styles_at counted component_at component_in written_at body_at name_at is_mark span_at ranged_at number_at groups_at limited and_then mapped pick or and is within
 case-text = refl
 
 -- a byte left over, and no byte at all
 pub case-left : decode (0x00 ∷ 0x00 ∷ []) ≡ fault 1
-unfolding decode whole_at ending selectors_at number_at groups_at limited and_then pick is
+unfolding decode decode_by whole_at selectors_at number_at groups_at limited and_then pick is
 case-left = refl
 
 pub case-none : decode [] ≡ fault 0
-unfolding decode whole_at ending selectors_at number_at groups_at limited and_then pick is
+unfolding decode decode_by whole_at selectors_at number_at groups_at limited and_then pick is
 case-none = refl

@@ -1,6 +1,7 @@
 -- Styles of a compiled sheet: whether it is important, the slot, and the slot's value.
 use Rattle.std.specs.Prelude.{ℕ, ◌≡◌, refl, Bool, true, false, List, [], ◌∷◌, ◌++◌}
 use Rattle.combinators.specs.Choice.{pick, and, is, within}
+use Rattle.syntax.specs.Declaration.{pre_wrap}
 use Rattle.syntax.specs.Layout.{flag, flag_of, colour_number, white_space_number, colour_slot, display_slot, white_space_slot, content_slot, visibility_slot, last_slot, style_slot_of, style_of, value_in, style_in}
 use Rattle.syntax.specs.Style as style
 use Rattle.syntax.specs.Style.{Style, StyleDecl}
@@ -13,14 +14,6 @@ use Rattle.compiled.specs.Text.{text_bytes, span_at}
 -- "Colours are below 16,777,216."
 abbrev pub greatest_colour : ℕ
 greatest_colour = 16777215
-
--- the number of pre-wrap
-abbrev pub greatest_white_space : ℕ
-greatest_white_space = 2
-
--- S-9: "value 0 or 1", 1 being hidden
-abbrev pub greatest_visibility : ℕ
-greatest_visibility = 1
 
 -- ---- written
 
@@ -51,8 +44,8 @@ unfoldable pub value_at : List ℕ → ℕ → ℕ → ℕ → Decoded Value
 value_at t start slot n =
     pick (is slot display_slot) (read n (record { number = 0; second = 0; start = start }))
     (pick (is slot content_slot) (content_at t start n)
-    (pick (is slot white_space_slot) (number_up_to greatest_white_space t start n)
-    (pick (is slot visibility_slot) (number_up_to greatest_visibility t start n)
+    (pick (is slot white_space_slot) (number_up_to (white_space_number pre_wrap) t start n)
+    (pick (is slot visibility_slot) (number_up_to (flag true) t start n)
     (number_up_to greatest_colour t start n))))
 
 unfoldable pub valued_at : List ℕ → Bool → ℕ → ℕ → ℕ → Decoded StyleNumbers
@@ -89,12 +82,12 @@ case-colour = refl
 
 -- `visibility: hidden`, from byte 2 on
 pub case-hidden : style_at (0x00 ∷ 0x02 ∷ 0x05 ∷ 0x01 ∷ []) 0 ≡ read 4 (record { value = record { style = style.visibility true; start = 2 }; important = false })
-unfolding style_at style_in value_in style_numbers_at started_at slot_at valued_at value_at content_at number_up_to style_of flag_of ranged_at number_at groups_at limited and_then mapped pick and is within
+unfolding style_at style_in value_in style_numbers_at started_at slot_at valued_at value_at content_at number_up_to style_of flag flag_of ranged_at number_at groups_at limited and_then mapped pick and is within
 case-hidden = refl
 
 -- a visibility of 2
 pub case-visibility : style_at (0x00 ∷ 0x02 ∷ 0x05 ∷ 0x02 ∷ []) 0 ≡ fault 3
-unfolding style_at style_in value_in style_numbers_at started_at slot_at valued_at value_at content_at number_up_to style_of flag_of ranged_at number_at groups_at limited and_then mapped pick and is within
+unfolding style_at style_in value_in style_numbers_at started_at slot_at valued_at value_at content_at number_up_to style_of flag flag_of ranged_at number_at groups_at limited and_then mapped pick and is within
 case-visibility = refl
 
 -- slot 6, which there is not

@@ -1,6 +1,9 @@
 // Selectors of a compiled sheet, and the check that bytes are a sheet.
 ghost use Rattle.std.specs.Prelude.{◌≡◌, length};
-ghost use Rattle.compiled.specs.Sheet.{head_bytes, head_at, parts_at, selector_at, selectors_at, whole_at};
+ghost use Rattle.compiled.specs.Decoded.{and_then, counted};
+ghost use Rattle.compiled.specs.Component.{component_at};
+ghost use Rattle.compiled.specs.Style.{style_at};
+ghost use Rattle.compiled.specs.Sheet.{head_bytes, head_at, styles_at, selector_at, selectors_at, whole_at};
 ghost use Rattle.compiled.specs.Answer.{read_answer, read_within, place_answer, selector_answer, check_answer, refusal_of, bytes_refusal, check_within};
 ghost use Rattle.compiled.specs.Wrote.{Wrote};
 
@@ -72,7 +75,7 @@ pub fn read_head(s: &[u8], at: usize, least: u32) -> Result<Read<Head>, Fault>
 impl SheetBytes<'_> {
     // The place behind `count` components at `at` and the styles behind them.
     pub fn skip_parts(self, at: usize, count: u32) -> Result<usize, Fault>
-        ensures { result ≡ place_answer (parts_at self.entry.bytes.now count at) }
+        ensures { result ≡ place_answer (and_then (counted (component_at self.entry.bytes.now) count at) (λ n cs. styles_at (style_at self.entry.bytes.now) self.entry.bytes.now n)) }
     {
         let styles = skip_components(self.bytes, at, count)?;
         self.skip_styles(styles)
@@ -80,7 +83,7 @@ impl SheetBytes<'_> {
 
     // The place behind the selector at `at`, where the one before is of the origin `least`; and its origin.
     pub fn skip_selector(self, at: usize, least: u32) -> Result<Read<u32>, Fault>
-        ensures { result ≡ selector_answer (selector_at self.entry.bytes.now least at) }
+        ensures { result ≡ selector_answer (selector_at (style_at self.entry.bytes.now) self.entry.bytes.now least at) }
     {
         let head = read_head(self.bytes, at, least)?;
         let next = self.skip_parts(head.next, head.value.count)?;
@@ -92,7 +95,7 @@ impl SheetBytes<'_> {
 
     // The place behind `count` selectors from `at` on, whose origins do not fall from `least` on.
     fn skip_selectors(self, at: usize, count: u32, least: u32) -> Result<usize, Fault>
-        ensures { result ≡ place_answer (selectors_at count self.entry.bytes.now least at) }
+        ensures { result ≡ place_answer (selectors_at (style_at self.entry.bytes.now) self.entry.bytes.now count least at) }
     {
         let mut last = Read {
             next: at,
@@ -106,7 +109,7 @@ impl SheetBytes<'_> {
 
     // Whether the bytes are `count` selectors from `at` on and nothing behind them.
     fn check_selectors(self, at: usize, count: u32) -> Result<(), Fault>
-        ensures { result ≡ check_answer (whole_at self.entry.bytes.now count at) }
+        ensures { result ≡ check_answer (whole_at (style_at self.entry.bytes.now) self.entry.bytes.now count at) }
     {
         let end = self.skip_selectors(at, count, AGENT_ORIGIN)?;
         if end == self.bytes.len() {

@@ -91,7 +91,7 @@ impl SheetBytes<'_> {
 
     // The place behind the styles at `at`, which start with their count.
     pub fn skip_styles(self, at: usize) -> Result<usize, Fault>
-        ensures { result ≡ place_answer (styles_at self.entry.bytes.now at) }
+        ensures { result ≡ place_answer (styles_at (style_at self.entry.bytes.now) self.entry.bytes.now at) }
     {
         let Read {
             mut next,

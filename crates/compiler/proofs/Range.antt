@@ -275,7 +275,7 @@ sheet-origin : (origin : ℕ) (rs : List RuleSet) → All (λ s. s.origin ≡ or
 unfolding sheet_selectors rule_selectors
 sheet-origin origin [] = tt
 sheet-origin origin (r ∷ rs) =
-    all_append (λ (s : CompiledSelector). s.origin ≡ origin) (styled_selectors origin (styles_of r.declarations) r.selectors) (sheet_selectors origin rs)
+    all_append (λ (s : CompiledSelector StyleDecl). s.origin ≡ origin) (styled_selectors origin (styles_of r.declarations) r.selectors) (sheet_selectors origin rs)
     (styled-origin origin (styles_of r.declarations) r.selectors) (sheet-origin origin rs)
 
 -- are no more than half the numbers of its rows
@@ -345,12 +345,12 @@ module _ (s : List ℕ) (stop : ℕ) (rs : List RuleSet) (e : sheet_of s ≡ rea
 
 -- ---- origins
 -- selectors that follow an origin follow a lower one
-from-lower : (least origin : ℕ) (ss : List CompiledSelector) → least ≤ origin → NotFalling origin ss → NotFalling least ss
+from-lower : (least origin : ℕ) (ss : List (CompiledSelector StyleDecl)) → least ≤ origin → NotFalling origin ss → NotFalling least ss
 from-lower least origin [] h f = tt
 from-lower least origin (s ∷ ss) h f = (omega (arith, f.0), f.1)
 
 -- selectors of one origin, and behind them others that follow it
-of-origin : (least origin : ℕ) (ss ts : List CompiledSelector) → least ≤ origin → All (λ s. s.origin ≡ origin) ss → NotFalling origin ts → NotFalling least (ss ++ ts)
+of-origin : (least origin : ℕ) (ss ts : List (CompiledSelector StyleDecl)) → least ≤ origin → All (λ s. s.origin ≡ origin) ss → NotFalling origin ts → NotFalling least (ss ++ ts)
 of-origin least origin [] ts h a f = from-lower least origin ts h f
 of-origin least origin (s ∷ ss) ts h a f = (omega (arith, a.0), of-origin s.origin origin ss ts (omega (arith, a.0)) a.1 f)
 

@@ -14,7 +14,7 @@ use Rattle.combinators.proofs.Lists.{rest}
 use Rattle.combinators.proofs.Rules.{pick_true, pick-false, lt-or-ge}
 use Rattle.syntax.specs.RuleLayout.{read_rule, rules_at}
 use Rattle.syntax.specs.Stream.{read_many, texts_many}
-use Rattle.syntax.specs.Style.{agent_origin, user_origin, author_origin}
+use Rattle.syntax.specs.Style.{agent_origin, user_origin, author_origin, StyleDecl}
 use Rattle.origins.specs.Reading.{rules_from}
 use Rattle.origins.specs.declared.reading.SheetRules.{SheetRules}
 use Rattle.origins.specs.Reading.{SheetsRules}
@@ -48,7 +48,7 @@ room_within n =
     ⊎_elim (λ (h : compiled_limit < n). omega (arith, room-limit n h)) (λ (h : n ≤ compiled_limit). omega (arith, room_whole n h)) (lt-or-ge compiled_limit n)
 
 -- the bytes of two lists of selectors
-texts-both : (xs ys : List CompiledSelector) → texts_many selector_bytes (xs ++ ys) ≡ texts_many selector_bytes xs ++ texts_many selector_bytes ys
+texts-both : (xs ys : List (CompiledSelector StyleDecl)) → texts_many selector_bytes (xs ++ ys) ≡ texts_many selector_bytes xs ++ texts_many selector_bytes ys
 unfolding texts_many
 texts-both [] ys = refl
 texts-both (x ∷ xs) ys =
@@ -66,18 +66,18 @@ sheet-written rows texts s origin o₀ o₁ e =
 -- ---- three sheets: the count of their selectors, then the agent's, the user's and the author's
 module _ (rows texts : List ℕ) (s : SheetsRules) where
   -- the compiled selectors of the agent's rules
-  a : List CompiledSelector
+  a : List (CompiledSelector StyleDecl)
   a = sheet_selectors agent_origin (rules_from rows texts s.agent)
 
   -- the compiled selectors of the user's rules
-  u : List CompiledSelector
+  u : List (CompiledSelector StyleDecl)
   u = sheet_selectors user_origin (rules_from rows texts s.user)
 
   -- the compiled selectors of the author's rules
-  w : List CompiledSelector
+  w : List (CompiledSelector StyleDecl)
   w = sheet_selectors author_origin (rules_from rows texts s.author)
 
-  abbrev all : List CompiledSelector
+  abbrev all : List (CompiledSelector StyleDecl)
   all = selectors_from rows texts s
 
   -- all selectors are as many as those of the three sheets together

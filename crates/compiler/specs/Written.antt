@@ -5,13 +5,14 @@ use Rattle.combinators.specs.Choice.{pick}
 use Rattle.origins.specs.Reading.{rules_from}
 use Rattle.origins.specs.declared.reading.SheetRules.{SheetRules}
 use Rattle.origins.specs.Reading.{SheetsRules}
+use Rattle.syntax.specs.Style.{StyleDecl}
 use Rattle.compiled.specs.Number.{number_limit}
 use Rattle.compiled.specs.Sheet.{CompiledSelector}
 use Rattle.compiler.specs.Selectors.{selectors_of}
 use Rattle.compiler.specs.Writing.{RulesLent}
 
 -- the selectors of three sheets that lie there
-unfoldable pub selectors_from : List ℕ → List ℕ → SheetsRules → List CompiledSelector
+unfoldable pub selectors_from : List ℕ → List ℕ → SheetsRules → List (CompiledSelector StyleDecl)
 selectors_from rows texts s = selectors_of (rules_from rows texts s.agent) (rules_from rows texts s.user) (rules_from rows texts s.author)
 
 -- the texts of a sheet lie in the text store, and its rules can be asked for their styles

@@ -10,7 +10,7 @@ use lib.Seq.{take_at, drop_at}
 use Rattle.combinators.specs.Choice.{is}
 use Rattle.combinators.proofs.Rules.{pick-holds, pick_true, pick-false, is-yes, is-no, lt-or-ge}
 use Rattle.syntax.specs.declared.styles.Value.{Value}
-use Rattle.cascade.specs.Record.{ComputedStyle, Formed, empty_style}
+use Rattle.cascade.specs.Record.{ComputedStyle, Formed, empty_style, Styled}
 use Rattle.cascade.specs.Row.{style_row_width, row_of}
 use Rattle.cascade.proofs.RowBack.{row-long, empty-formed}
 use Rattle.page.specs.Ancestors.{line_of}
@@ -21,7 +21,9 @@ use Rattle.page.proofs.AcceptedPages.{Accepted}
 use Rattle.styles.specs.declared.settings.Settings.{Settings}
 use Rattle.page.specs.Lent.{Page}
 use Rattle.styles.proofs.Called.{empty-row}
-use Rattle.runner.specs.Walked.{WalkedSelector, walked, matching_at}
+use Rattle.compiled.specs.Sheet.{CompiledSelector}
+use Rattle.segments.specs.Down.{matching_of}
+use Rattle.runner.specs.Walked.{walked}
 use Rattle.runner.specs.PageRows.{style_below, contents_before, line_style, page_row, rows_before, style_row_at, no_style}
 use Rattle.runner.specs.Run.{row_below}
 use Rattle.runner.proofs.OpenRows.{line-next}
@@ -33,8 +35,8 @@ module _ (code : List ℕ) (settings : Settings) (g : Page) where
   element_of i = element_at g.nodes g.attributes g.text i
 
   -- the selectors that match at a row
-  abbrev pub matching_here : ℕ → List (WalkedSelector Value)
-  matching_here i = matching_at (path_of g.nodes g.attributes g.text i) (walked code)
+  abbrev pub matching_here : ℕ → List (CompiledSelector (Styled Value))
+  matching_here i = matching_of (path_of g.nodes g.attributes g.text i) (walked code)
 
   -- where the contents of its attributes begin
   abbrev pub contents_place : ℕ → ℕ

@@ -5,7 +5,7 @@ use mathlib.Core.Bool.{false}
 use mathlib.Core.List.{List, ◌++◌, map}
 use Rattle.syntax.specs.declared.styles.Value.{Value}
 use Rattle.cascade.specs.declared.slots.Cascade.TheVariants.{Crate}
-use Rattle.cascade.specs.Record.{ComputedStyle, Formed, Declared, from_attribute, inherit_by}
+use Rattle.cascade.specs.Record.{ComputedStyle, Formed, Declared, from_attribute, inherit_by, Styled}
 use Rattle.cascade.specs.Row.{row_of, inherited_row}
 use Rattle.cascade.specs.Slot.{update_by}
 use Rattle.cascade.specs.Specificity.{inline_specificity}
@@ -18,11 +18,11 @@ use Rattle.styles.specs.Merged.{merged_row, late_declared}
 use Rattle.styles.specs.Said.{counted_attributes}
 use Rattle.styles.specs.StyleCall.{placed_attributes}
 use Rattle.styles.proofs.Merging.{merged-append}
-use Rattle.runner.specs.Walked.{WalkedSelector}
+use Rattle.compiled.specs.Sheet.{CompiledSelector}
 use Rattle.runner.specs.PageRows.{selectors_declare, style_below}
 use Rattle.runner.specs.Run.{row_below}
 
-module _ (ss : List (WalkedSelector Value)) (settings : Settings) (place : ℕ) (e : Element) where
+module _ (ss : List (CompiledSelector (Styled Value))) (settings : Settings) (place : ℕ) (e : Element) where
   -- what is declared for the element: by the selectors, then by its attributes
   abbrev pub declared_below : List (Declared Value)
   declared_below = selectors_declare ss ++ map (from_attribute false inline_specificity) (placed_attributes place (counted_attributes settings e))
@@ -41,7 +41,7 @@ module _ (ss : List (WalkedSelector Value)) (settings : Settings) (place : ℕ) 
       ∙ merges-layout (update_by Crate) declared_below (inherit_by Crate s) (inherit-formed s f)
 
 -- selectors that declare the same give the same row
-pub row-declared : (ss others : List (WalkedSelector Value)) (settings : Settings) (place : ℕ) (e : Element) (parent : List ℕ) → selectors_declare ss ≡ selectors_declare others
+pub row-declared : (ss others : List (CompiledSelector (Styled Value))) (settings : Settings) (place : ℕ) (e : Element) (parent : List ℕ) → selectors_declare ss ≡ selectors_declare others
     → row_below parent ss settings place e ≡ row_below parent others settings place e
 unfolding row_below
 row-declared ss others settings place e parent same =

@@ -7,21 +7,20 @@ use lib.ListN.{length}
 use Rattle.syntax.specs.Layout.{style_in}
 use Rattle.syntax.specs.Style.{agent_origin, StyleDecl}
 use Rattle.syntax.specs.declared.styles.Value.{Value}
+use Rattle.syntax.specs.RuleLayout.{pseudo_from}
 use Rattle.cascade.specs.Record.{Styled}
 use Rattle.styles.specs.StyleCall.{in_numbers}
 use Rattle.compiled.specs.Decoded.{Decoded, read, fault, and_then, mapped, counted}
 use Rattle.compiled.specs.Number.{number_at}
-use Rattle.compiled.specs.Component.{component_at}
 use Rattle.compiled.specs.Style.{style_numbers_at, style_at}
 use Rattle.compiled.specs.Sheet.{CompiledSelector, styles_at, selector_at, head_at}
 use Rattle.compiled.specs.Answer.{place_answer}
-use Rattle.std.proofs.Common.{Result, Ok}
-use Rattle.compiled.specs.declared.places.Fault.{Fault}
+use Rattle.std.proofs.Common.{Ok}
 use Rattle.compiled.proofs.Answers.{place-mapped, place_read}
-use Rattle.compiled.proofs.Following.{then-read, mapped-read}
+use Rattle.compiled.proofs.Following.{then-read, mapped-read, selector-made}
 use Rattle.compiled.proofs.Walking.{steps, counted-length, selector-steps}
 use Rattle.segments.proofs.SheetLaws.{head-lower}
-use Rattle.runner.specs.Walked.{WalkedSelector, walked_styles_at, walked_parts_at, walked_selector_at}
+use Rattle.runner.specs.Walked.{walked_style_at}
 
 -- ---- styles in numbers take the bytes of the styles that they say
 module _ {A B : Type 0} (f : A → B) (u : ℕ → Decoded A) where
@@ -50,55 +49,54 @@ counted-behind (read n k) f g h = h n k
 counted-behind (fault p) f g h = refl
 
 -- styles in numbers and styles end at the same place
-pub styles-place : (t : List ℕ) (i : ℕ) → place_answer (styles_at t i) ≡ place_answer (walked_styles_at t i)
-unfolding styles_at walked_styles_at style_at
+pub styles-place : (t : List ℕ) (i : ℕ) → place_answer (styles_at (style_at t) t i) ≡ place_answer (styles_at (walked_style_at t) t i)
+unfolding styles_at style_at
 styles-place t i =
     counted-behind (number_at t i) _ _
     (λ n k. counted-place (style_in t) (style_numbers_at t) k n ∙ sym (counted-place in_numbers (style_numbers_at t) k n))
 
 -- where styles are read, their numbers are
-styles-walked : (t : List ℕ) (i m : ℕ) → place_answer (styles_at t i) ≡ Ok m → (xs : List (Styled Value)) × (walked_styles_at t i ≡ read m xs)
-styles-walked t i m e = place_read (walked_styles_at t i) (place_answer (styles_at t i)) (styles-place t i) m e
+styles-walked : (t : List ℕ) (i m : ℕ) → place_answer (styles_at (style_at t) t i) ≡ Ok m → (xs : List (Styled Value)) × (styles_at (walked_style_at t) t i ≡ read m xs)
+styles-walked t i m e = place_read (styles_at (walked_style_at t) t i) (place_answer (styles_at (style_at t) t i)) (styles-place t i) m e
 
 -- styles in numbers are as many as the styles
-styles-as-many : (t : List ℕ) (i m : ℕ) (ds : List StyleDecl) (xs : List (Styled Value)) → styles_at t i ≡ read m ds → walked_styles_at t i ≡ read m xs → length xs ≡ length ds
-unfolding styles_at walked_styles_at
+styles-as-many : (t : List ℕ) (i m : ℕ) (ds : List StyleDecl) (xs : List (Styled Value)) → styles_at (style_at t) t i ≡ read m ds → styles_at (walked_style_at t) t i ≡ read m xs → length xs ≡ length ds
+unfolding styles_at
 styles-as-many t i m ds xs e f =
     let a = steps (number_at t i) (λ n count. counted (style_at t) count n) m ds e in
-    let b = steps (number_at t i) (λ n count. counted (λ m. mapped in_numbers (style_numbers_at t m)) count n) m xs f in
+    let b = steps (number_at t i) (λ n count. counted (walked_style_at t) count n) m xs f in
     let same : read b.place b.value ≡ read a.place a.value = sym b.first ∙ a.first in
     let count : b.value ≡ a.value = cc in
-    counted-length (λ m. mapped in_numbers (style_numbers_at t m)) b.value b.place m xs b.rest ∙ count ∙ sym (counted-length (style_at t) a.value a.place m ds a.rest)
+    counted-length (walked_style_at t) b.value b.place m xs b.rest ∙ count ∙ sym (counted-length (style_at t) a.value a.place m ds a.rest)
 
 -- ---- a selector
 
 -- one that is walked, with the components, the origin and as many styles as the one that is read; it is walked as well where less is asked of its origin
-pub record SelectorWalked (t : List ℕ) (least i m : ℕ) (s : CompiledSelector) : Type 0 where
-  pub met : WalkedSelector Value
-  pub told : walked_selector_at t least i ≡ read m met
-  pub told-alone : walked_selector_at t agent_origin i ≡ read m met
+pub record SelectorWalked (t : List ℕ) (least i m : ℕ) (s : CompiledSelector StyleDecl) : Type 0 where
+  pub met : CompiledSelector (Styled Value)
+  pub told : selector_at (walked_style_at t) t least i ≡ read m met
+  pub told-alone : selector_at (walked_style_at t) t agent_origin i ≡ read m met
   pub origin : met.origin ≡ s.origin
   pub origin-high : agent_origin ≤ s.origin
   pub components : met.components ≡ s.components
   pub as_many : length met.styles ≡ length s.styles
 
 -- a selector that is read is walked
-pub selector-walked : (t : List ℕ) (least i m : ℕ) (s : CompiledSelector) → agent_origin ≤ least → selector_at t least i ≡ read m s → SelectorWalked t least i m s
-unfolding walked_selector_at walked_parts_at place_answer
+pub selector-walked : (t : List ℕ) (least i m : ℕ) (s : CompiledSelector StyleDecl) → agent_origin ≤ least → selector_at (style_at t) t least i ≡ read m s → SelectorWalked t least i m s
+unfolding place_answer
 selector-walked t least i m s l e =
     let w = selector-steps t least i m s e in
     let d = styles-walked t w.behind-components m (ap place_answer w.styles-read) in
     let h = head-lower t least i w.behind-head w.head l w.head_read in
     let o = w.origin in
     let a = h.1 in
-    let met : WalkedSelector Value = record { origin = w.head.origin; pseudo = w.head.pseudo; components = s.components; styles = d.0 } in
-    let parts : walked_parts_at t w.head w.behind-head ≡ read m met =
-    then-read (counted (component_at t) w.head.count w.behind-head) _ w.behind-components s.components w.components-read
-    ∙ mapped-read _ (walked_styles_at t w.behind-components) m d.0 d.1 in
+    let met : CompiledSelector (Styled Value) = record { origin = w.head.origin; pseudo = pseudo_from w.head.pseudo; components = s.components; styles = d.0 } in
+    let made = λ (o : ℕ). λ (e : head_at t o i ≡ read w.behind-head w.head).
+    selector-made (walked_style_at t) t o i w.behind-head w.behind-components m w.head s.components d.0 e w.components-read d.1 in
     record {
       met = met;
-      told = then-read (head_at t least i) _ w.behind-head w.head w.head_read ∙ parts;
-      told-alone = then-read (head_at t agent_origin i) _ w.behind-head w.head h.0 ∙ parts;
+      told = made least w.head_read;
+      told-alone = made agent_origin h.0;
       origin = sym o;
       origin-high = omega arith;
       components = refl;

@@ -4,8 +4,9 @@ use Rattle.std.specs.Prelude.{ℕ, zero, suc, ◌+◌, ◌*◌, false, length, t
 use mathlib.Core.List.{List, [], ◌∷◌, ◌++◌, map, foldl}
 use Rattle.combinators.specs.Choice.{pick, is}
 use Rattle.syntax.specs.declared.styles.Value.{Value}
+use Rattle.syntax.specs.RuleLayout.{pseudo_number}
 use Rattle.cascade.specs.declared.slots.Cascade.TheVariants.{Crate}
-use Rattle.cascade.specs.Record.{ComputedStyle, empty_style, Declared, merge_by, inherit_by, from_rule, from_attribute}
+use Rattle.cascade.specs.Record.{ComputedStyle, empty_style, Declared, merge_by, inherit_by, from_rule, from_attribute, Styled}
 use Rattle.cascade.specs.Row.{style_row_width, row_of}
 use Rattle.cascade.specs.Slot.{update_by}
 use Rattle.cascade.specs.Specificity.{inline_specificity}
@@ -18,17 +19,19 @@ use Rattle.styles.specs.declared.settings.Settings.{Settings}
 use Rattle.page.specs.Lent.{Page}
 use Rattle.styles.specs.Said.{rule_style, counted_attributes}
 use Rattle.styles.specs.StyleCall.{inline_contents, placed_attributes}
-use Rattle.runner.specs.Walked.{WalkedSelector, walked, matching_at}
+use Rattle.compiled.specs.Sheet.{CompiledSelector}
+use Rattle.segments.specs.Down.{matching_of}
+use Rattle.runner.specs.Walked.{walked}
 
 -- ---- the style of an element
 
 -- what the selectors that match declare, in reading order
-unfoldable pub selectors_declare : {A : Type 0} → List (WalkedSelector A) → List (Declared A)
+unfoldable pub selectors_declare : {A : Type 0} → List (CompiledSelector (Styled A)) → List (Declared A)
 selectors_declare [] = []
-selectors_declare (s ∷ ss) = map (λ x. from_rule s.origin (rule_style s.pseudo (specificity s.components) x)) s.styles ++ selectors_declare ss
+selectors_declare (s ∷ ss) = map (λ x. from_rule s.origin (rule_style (pseudo_number s.pseudo) (specificity s.components) x)) s.styles ++ selectors_declare ss
 
 -- the style of an element: its parent's, into which the selectors are merged, then its attributes, whose contents count from a place on
-unfoldable pub style_below : ComputedStyle Value → List (WalkedSelector Value) → Settings → ℕ → Element → ComputedStyle Value
+unfoldable pub style_below : ComputedStyle Value → List (CompiledSelector (Styled Value)) → Settings → ℕ → Element → ComputedStyle Value
 style_below parent ss settings place e =
     let attributes = map (from_attribute false inline_specificity) (placed_attributes place (counted_attributes settings e)) in
     foldl (merge_by (update_by Crate)) (inherit_by Crate parent) (selectors_declare ss ++ attributes)
@@ -56,7 +59,7 @@ module _ (code : List ℕ) (settings : Settings) (g : Page) where
   line_style [] = empty_style
   line_style (i ∷ above) =
       let parent = line_style above in
-      let matching = matching_at (path_of g.nodes g.attributes g.text i) (walked code) in
+      let matching = matching_of (path_of g.nodes g.attributes g.text i) (walked code) in
       let place = length code + length (contents_before settings g i) in
       pick (is (node_at g.nodes i).kind element_kind) (style_below parent matching settings place (element_at g.nodes g.attributes g.text i)) empty_style
 

@@ -8,6 +8,7 @@ use Rattle.syntax.specs.Style.{agent_origin}
 use Rattle.syntax.specs.declared.styles.Value.{Value}
 use Rattle.cascade.specs.declared.slots.Cascade.TheVariants.{Crate}
 use Rattle.cascade.specs.Row.{style_row_width, inherited_row}
+use Rattle.cascade.specs.Record.{Styled}
 use Rattle.page.specs.Ancestors.{depth_of}
 use Rattle.page.specs.Path.{Attribute, Element}
 use Rattle.page.specs.PathOf.{attributes_from}
@@ -17,12 +18,13 @@ use Rattle.page.specs.Lent.{Page}
 use Rattle.styles.specs.Merged.{merged_row, late_declared}
 use Rattle.styles.specs.Said.{counted_attributes}
 use Rattle.styles.specs.StyleCall.{inline_contents, placed_attributes}
+use Rattle.compiled.specs.Sheet.{CompiledSelector, selector_at}
 use Rattle.segments.specs.Sweep.{pair_at}
 use Rattle.segments.specs.Pass.{Passed}
 use Rattle.segments.specs.Down.{pass_at, fresh_in, read_in}
-use Rattle.runner.specs.Walked.{WalkedSelector, walked_selector_at}
 use Rattle.runner.specs.PageRows.{selectors_declare, style_row_at, no_style}
 use Rattle.runner.specs.State.{part_place, part_of, raised, opened}
+use Rattle.runner.specs.Walked.{walked_style_at}
 
 -- ---- a step
 
@@ -44,13 +46,13 @@ pub record Stepped : Type 0 where
   pub texts : List ℕ
 
 -- the style row that an element's step writes: its parent's, into which the selectors are merged, then its attributes, whose contents count from a place on
-unfoldable pub row_below : List ℕ → List (WalkedSelector Value) → Settings → ℕ → Element → List ℕ
+unfoldable pub row_below : List ℕ → List (CompiledSelector (Styled Value)) → Settings → ℕ → Element → List ℕ
 row_below parent ss settings place e =
     merged_row Crate (merged_row Crate (inherited_row Crate parent) (selectors_declare ss)) (late_declared Crate (placed_attributes place (counted_attributes settings e)))
 
 -- the selectors at places of compiled bytes
-abbrev pub found_at : List ℕ → List ℕ → List (WalkedSelector Value)
-found_at code places = read_in (walked_selector_at code agent_origin) places
+abbrev pub found_at : List ℕ → List ℕ → List (CompiledSelector (Styled Value))
+found_at code places = read_in (selector_at (walked_style_at code) code agent_origin) places
 
 -- the document's step opens its part, and has no style. What stands above all selectors is kept in the part of the next depth, which is not open yet
 unfoldable pub document_step : List ℕ → List ℕ → List ℕ → Stepped

@@ -7,9 +7,10 @@ use native.Mathlib.Omega.{arith}
 use lib.ListN.{length, get_or}
 use Rattle.combinators.proofs.Rules.{pick_true, pick-false}
 use Rattle.combinators.proofs.Wiped.{sets-low}
-use Rattle.syntax.specs.Style.{agent_origin}
+use Rattle.syntax.specs.Style.{agent_origin, StyleDecl}
 use Rattle.compiled.specs.Decoded.{Decoded, read, fault, on_decoded}
 use Rattle.compiled.specs.Sheet.{CompiledSelector, selector_at}
+use Rattle.compiled.specs.Style.{style_at}
 use Rattle.compiled.proofs.Bounds.{reaches_end, selector-reaches}
 use Rattle.segments.specs.Before.{no_place}
 use Rattle.segments.specs.Placed.{Placed, pieces_of, has_style, placed_at, placed_from}
@@ -26,7 +27,7 @@ use Rattle.segments.proofs.PlacedLaws.{selector-lies, laid_from}
 -- ---- the walk over the selectors
 module _ (code : List ℕ) (k i : ℕ) where
   -- it ends at a fault
-  module _ (q : ℕ) (e : selector_at code agent_origin i ≡ fault q) where
+  module _ (q : ℕ) (e : selector_at (style_at code) code agent_origin i ≡ fault q) where
     -- no selector is placed
     pub placed-fault : placed_from code (suc k) i ≡ []
     unfolding placed_from on_decoded
@@ -42,10 +43,10 @@ module _ (code : List ℕ) (k i : ℕ) where
     unfolding fresh_from on_decoded
     fresh-fault part = rw e
 
-  module _ (n : ℕ) (s : CompiledSelector) (e : selector_at code agent_origin i ≡ read n s) where
+  module _ (n : ℕ) (s : CompiledSelector StyleDecl) (e : selector_at (style_at code) code agent_origin i ≡ read n s) where
     -- a selector takes a byte
     selector-ends : i < n
-    selector-ends = let a = (reaches_end (length code) i 4 n s (selector_at code agent_origin i) (selector-reaches code agent_origin i) e).0 in omega arith
+    selector-ends = let a = (reaches_end (length code) i 4 n s (selector_at (style_at code) code agent_origin i) (selector-reaches code agent_origin i) e).0 in omega arith
 
     -- one that has a style
     module _ (h : has_style s.styles ≡ true) where
@@ -82,16 +83,16 @@ module _ (code : List ℕ) (k i : ℕ) where
       fresh-bare part = rw e (ap (fresh_from code k n) (sym (pick-false _ _ _ _ h refl)))
 
   -- what holds at a fault, at a selector with a style and at one without holds at every place
-  by-selector : (P : Type 0) → ((q : ℕ) → selector_at code agent_origin i ≡ fault q → P)
-      → ((n : ℕ) (s : CompiledSelector) → selector_at code agent_origin i ≡ read n s → has_style s.styles ≡ true → P)
-      → ((n : ℕ) (s : CompiledSelector) → selector_at code agent_origin i ≡ read n s → has_style s.styles ≡ false → P) → P
-  by-selector P f g h = at (selector_at code agent_origin i) refl
+  by-selector : (P : Type 0) → ((q : ℕ) → selector_at (style_at code) code agent_origin i ≡ fault q → P)
+      → ((n : ℕ) (s : CompiledSelector StyleDecl) → selector_at (style_at code) code agent_origin i ≡ read n s → has_style s.styles ≡ true → P)
+      → ((n : ℕ) (s : CompiledSelector StyleDecl) → selector_at (style_at code) code agent_origin i ≡ read n s → has_style s.styles ≡ false → P) → P
+  by-selector P f g h = at (selector_at (style_at code) code agent_origin i) refl
     where
-      styles : (n : ℕ) (s : CompiledSelector) (b : Bool) → selector_at code agent_origin i ≡ read n s → has_style s.styles ≡ b → P
+      styles : (n : ℕ) (s : CompiledSelector StyleDecl) (b : Bool) → selector_at (style_at code) code agent_origin i ≡ read n s → has_style s.styles ≡ b → P
       styles n s true e c = g n s e c
       styles n s false e c = h n s e c
 
-      at : (d : Decoded CompiledSelector) → selector_at code agent_origin i ≡ d → P
+      at : (d : Decoded (CompiledSelector StyleDecl)) → selector_at (style_at code) code agent_origin i ≡ d → P
       at (read n s) e = styles n s (has_style s.styles) e refl
       at (fault q) e = f q e
 
@@ -128,11 +129,11 @@ record Fresh (code : List ℕ) (k i : ℕ) (part left : List ℕ) : Type 0 where
 
 module _ (code : List ℕ) (c : length code ≤ pair_values) (k i : ℕ) (part : List ℕ) where
   -- where the walk ends
-  fresh-at-fault : (q : ℕ) → selector_at code agent_origin i ≡ fault q → Fresh code (suc k) i part (fresh_from code (suc k) i part)
+  fresh-at-fault : (q : ℕ) → selector_at (style_at code) code agent_origin i ≡ fault q → Fresh code (suc k) i part (fresh_from code (suc k) i part)
   fresh-at-fault q e =
       rw (fresh-fault code k i q e part) (record { told = rw (placed-fault code k i q e) (styled-fault code k i q e); before = λ m h. refl; long = refl })
 
-  module _ (n : ℕ) (s : CompiledSelector) (e : selector_at code agent_origin i ≡ read n s) where
+  module _ (n : ℕ) (s : CompiledSelector StyleDecl) (e : selector_at (style_at code) code agent_origin i ≡ read n s) where
     -- a selector without styles is passed over: the document is told of those behind it
     fresh-at-bare : has_style s.styles ≡ false → Fresh code k n part (fresh_from code k n part) → Fresh code (suc k) i part (fresh_from code (suc k) i part)
     fresh-at-bare h r =

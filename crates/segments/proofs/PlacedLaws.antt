@@ -42,7 +42,7 @@ module _ (t : List ℕ) where
       (λ m slot l. reaches-mapped (length t) _ (value_at t from slot m) 0 m (value-reaches t from slot m l))))))
 
   -- styles, one or more, with their count take three
-  styles-long : (i m : ℕ) (ds : List StyleDecl) → styles_at t i ≡ read m ds → has_style ds ≡ true → i + 3 ≤ m
+  styles-long : (i m : ℕ) (ds : List StyleDecl) → styles_at (style_at t) t i ≡ read m ds → has_style ds ≡ true → i + 3 ≤ m
   unfolding styles_at
   styles-long i m ds e h =
       let w = steps (number_at t i) (λ n count. counted (style_at t) count n) m ds e in
@@ -86,7 +86,7 @@ module _ (code : List ℕ) where
   first-is i n h e = rw e
 
   -- a selector that has a style
-  pub selector-lies : (i n : ℕ) (s : CompiledSelector) → selector_at code agent_origin i ≡ read n s → has_style s.styles ≡ true → Lying code i (placed_at code i n s)
+  pub selector-lies : (i n : ℕ) (s : CompiledSelector StyleDecl) → selector_at (style_at code) code agent_origin i ≡ read n s → has_style s.styles ≡ true → Lying code i (placed_at code i n s)
   unfolding placed_at
   selector-lies i n s e h =
       let w = selector-steps code agent_origin i n s e in
@@ -95,7 +95,7 @@ module _ (code : List ℕ) where
       let a = (reaches_end (length code) i 3 w.behind-head w.head (head_at code agent_origin i) (head-reaches code agent_origin i) w.head_read).0 in
       let b = components-long code w.head.count w.behind-head w.behind-components s.components w.components-read in
       let c = styles-long code w.behind-components n s.styles w.styles-read h in
-      let d = (reaches_end (length code) w.behind-components 1 n s.styles (styles_at code w.behind-components) (styles-reach code w.behind-components) w.styles-read).1 in
+      let d = (reaches_end (length code) w.behind-components 1 n s.styles (styles_at (style_at code) code w.behind-components) (styles-reach code w.behind-components) w.styles-read).1 in
       let z = length-pieces s.components in
       let b2 = l.1 in
       record {

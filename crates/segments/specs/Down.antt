@@ -1,13 +1,13 @@
 -- All selectors of a sheet at each node of a path, from part to part. Nothing is asked of what the parts held, nor of the bytes.
 use Rattle.std.specs.Prelude.{ℕ, List, [], ◌∷◌, ◌++◌}
 use Rattle.combinators.specs.Choice.{pick}
-use Rattle.syntax.specs.Selector.{Component}
-use Rattle.syntax.specs.Style.{agent_origin}
+use Rattle.syntax.specs.Style.{agent_origin, StyleDecl}
 use Rattle.page.specs.Path.{Path}
 use Rattle.matching.specs.Matches.{matches}
 use Rattle.compiled.specs.Decoded.{Decoded, on_decoded}
 use Rattle.compiled.specs.Number.{number_at}
 use Rattle.compiled.specs.Sheet.{CompiledSelector, selector_at}
+use Rattle.compiled.specs.Style.{style_at}
 use Rattle.segments.specs.Placed.{Placed, has_style, placed_from}
 use Rattle.segments.specs.Pass.{Passed, pass_from}
 use Rattle.segments.specs.Document.{styled_from, fresh_from}
@@ -36,22 +36,19 @@ passed_down code own spare (e ∷ up) = pass_at code (e ∷ []) (passed_down cod
 -- ---- the selectors themselves
 
 -- that have a style
-unfoldable pub with_style : List CompiledSelector → List CompiledSelector
+unfoldable pub with_style : List (CompiledSelector StyleDecl) → List (CompiledSelector StyleDecl)
 with_style [] = []
 with_style (s ∷ ss) = pick (has_style s.styles) (s ∷ []) [] ++ with_style ss
 
--- that match, by their components
-unfoldable pub matching_by : {A : Type 0} → (A → List Component) → Path → List A → List A
-matching_by f path [] = []
-matching_by f path (s ∷ ss) = pick (matches (f s) path) (s ∷ []) [] ++ matching_by f path ss
-
-abbrev pub matching_of : Path → List CompiledSelector → List CompiledSelector
-matching_of path ss = matching_by (λ s. s.components) path ss
+-- that match, in reading order
+unfoldable pub matching_of : {A : Type 0} → Path → List (CompiledSelector A) → List (CompiledSelector A)
+matching_of path [] = []
+matching_of path (s ∷ ss) = pick (matches s.components path) (s ∷ []) [] ++ matching_of path ss
 
 -- that are read at places
 unfoldable pub read_in : {A : Type 0} → (ℕ → Decoded A) → List ℕ → List A
 read_in u [] = []
 read_in u (p ∷ ps) = on_decoded (u p) (λ _ s. s ∷ []) (λ _. []) ++ read_in u ps
 
-abbrev pub selectors_in : List ℕ → List ℕ → List CompiledSelector
-selectors_in code ps = read_in (selector_at code agent_origin) ps
+abbrev pub selectors_in : List ℕ → List ℕ → List (CompiledSelector StyleDecl)
+selectors_in code ps = read_in (selector_at (style_at code) code agent_origin) ps

@@ -7,6 +7,7 @@ use Rattle.page.specs.Path.{Path}
 use Rattle.matching.specs.Matches.{matches}
 use Rattle.compiled.specs.Decoded.{on_decoded}
 use Rattle.compiled.specs.Sheet.{CompiledSelector, head_at, selector_at}
+use Rattle.compiled.specs.Style.{style_at}
 use Rattle.segments.specs.Segments.{Piece, piece}
 
 -- the place of a selector, that of its first component, that behind it, and its components
@@ -30,14 +31,14 @@ unfoldable pub first_at : List ℕ → ℕ → ℕ
 first_at code i = on_decoded (head_at code agent_origin i) (λ first _. first) (λ _. i)
 
 -- the selector s, which was read from i to n
-unfoldable pub placed_at : List ℕ → ℕ → ℕ → CompiledSelector → Placed
+unfoldable pub placed_at : List ℕ → ℕ → ℕ → CompiledSelector StyleDecl → Placed
 placed_at code i n s = record { place = i; first = first_at code i; end = n; components = s.components }
 
 -- those of k selectors from i on
 unfoldable pub placed_from : List ℕ → ℕ → ℕ → List Placed
 placed_from code zero i = []
 placed_from code (suc k) i =
-    on_decoded (selector_at code agent_origin i) (λ n s. pick (has_style s.styles) (placed_at code i n s ∷ placed_from code k n) (placed_from code k n)) (λ _. [])
+    on_decoded (selector_at (style_at code) code agent_origin i) (λ n s. pick (has_style s.styles) (placed_at code i n s ∷ placed_from code k n) (placed_from code k n)) (λ _. [])
 
 -- the places of those that match, in reading order
 unfoldable pub matching_places : Path → List Placed → List ℕ

@@ -10,14 +10,14 @@ use Rattle.combinators.specs.Refusal.{no_refusal}
 use Rattle.syntax.specs.Style.{agent_origin}
 use Rattle.syntax.specs.declared.styles.Value.{Value}
 use Rattle.cascade.specs.declared.slots.Cascade.TheVariants.{Crate}
-use Rattle.cascade.specs.Record.{Declared}
+use Rattle.cascade.specs.Record.{Declared, Styled}
 use Rattle.page.specs.Path.{Element, Path}
 use Rattle.styles.specs.Merged.{merged_row}
 use Rattle.styles.proofs.Merging.{merged-none, Merging, merging-begin, merging-more, merging-done}
 use Rattle.compiled.specs.Answer.{read_answer, bytes_refusal}
 use Rattle.compiled.specs.Decoded.{on_decoded}
 use Rattle.compiled.specs.Number.{number_at}
-use Rattle.compiled.specs.Sheet.{compiled_limit}
+use Rattle.compiled.specs.Sheet.{compiled_limit, CompiledSelector, selector_at}
 use Rattle.std.proofs.Common.{Option, Some, None, Result, Ok, Err}
 use Rattle.compiled.specs.declared.places.Fault.{Fault}
 use Rattle.compiled.specs.declared.places.Read.{Read}
@@ -38,7 +38,7 @@ use Rattle.visits.proofs.CodeStyledLaws.{sheet-selectors}
 use Rattle.segments.proofs.PassLaws.{pass-none}
 use Rattle.runner.specs.PageRows.{selectors_declare}
 use Rattle.runner.specs.Run.{found_at}
-use Rattle.runner.specs.Walked.{WalkedSelector, walked_selector_at}
+use Rattle.runner.specs.Walked.{walked_style_at}
 use Rattle.runner.proofs.FoundLaws.{declared-append, decoded}
 use Rattle.stepping.proofs.ReadingLaws.{no-fault}
 
@@ -51,8 +51,8 @@ module _ (code : List ℕ) where
   first-declared : (p : ℕ) (ps : List ℕ) → declared_at (p ∷ ps) ≡ declared_at (p ∷ []) ++ declared_at ps
   unfolding read_in
   first-declared p ps =
-      let one : List (WalkedSelector Value) = on_decoded (walked_selector_at code agent_origin p) (λ _ s. s ∷ []) (λ _. []) in
-      declared-append one (found_at code ps) ∙ ap (λ (x : List (WalkedSelector Value)). selectors_declare x ++ declared_at ps) (sym (append-nil one))
+      let one : List (CompiledSelector (Styled Value)) = on_decoded (selector_at (walked_style_at code) code agent_origin p) (λ _ s. s ∷ []) (λ _. []) in
+      declared-append one (found_at code ps) ∙ ap (λ (x : List (CompiledSelector (Styled Value))). selectors_declare x ++ declared_at ps) (sym (append-nil one))
 
   -- one that may match, then the others
   here-declared : (v : Visited) (p : ℕ) (ps : List ℕ) → declared_at (matched_here v p ++ ps) ≡ declared_at (matched_here v p) ++ declared_at ps

@@ -17,7 +17,7 @@ use Rattle.styles.specs.StyleCall.{in_numbers}
 use Rattle.styles.proofs.Merging.{merged-none, merged-more, Merging, merging-begin, merging-more, merging-done}
 use Rattle.compiled.specs.Decoded.{read, fault, on_decoded, counted}
 use Rattle.compiled.specs.Number.{number_at}
-use Rattle.compiled.specs.Style.{style_numbers_at}
+use Rattle.compiled.specs.Style.{style_numbers_at, style_at}
 use Rattle.compiled.specs.Sheet.{styles_at}
 use Rattle.compiled.specs.Answer.{read_answer, place_answer}
 use Rattle.std.proofs.Common.{Result, Ok, Err}
@@ -27,10 +27,10 @@ use Rattle.std.specs.Result.{is_ok}
 use Rattle.combinators.proofs.Rules.{never}
 use Rattle.compiled.proofs.Answers.{answer_read, answer-fault, place_read, place-fault}
 use Rattle.compiled.proofs.Following.{then-read, then-fault, mapped-read, mapped-fault}
-use Rattle.runner.specs.Walked.{walked_styles_at}
+use Rattle.runner.specs.Walked.{walked_style_at}
 use Rattle.runner.proofs.WalkedReads.{styles-place}
 use Rattle.stepping.specs.Reading.{listed}
-use Rattle.stepping.specs.Merging.{walked_style_at, styles_declare, CountedLent}
+use Rattle.stepping.specs.Merging.{styles_declare, CountedLent}
 use Rattle.stepping.proofs.ReadingLaws.{listed-is, listed-none, one-read, one_none, counted_next, counted-there}
 
 -- ---- turns of `merge_counted`
@@ -127,41 +127,41 @@ unmerged origin pseudo spec row xs e = rw e (sym (merged-none Crate row))
 module _ (code : List ℕ) (at : ℕ) (r : Result (Read ℕ) Fault) (e : r ≡ read_answer (number_at code at)) where
   -- there is no count
   pub count_none : (f : Fault) → r ≡ Err f → (origin pseudo : ℕ) (spec : Specificity) (row : List ℕ)
-      → row ≡ merged_row Crate row (styles_declare origin pseudo spec (listed (walked_styles_at code at)))
-  unfolding walked_styles_at
+      → row ≡ merged_row Crate row (styles_declare origin pseudo spec (listed (styles_at (walked_style_at code) code at)))
+  unfolding styles_at
   count_none f q origin pseudo spec row = unmerged origin pseudo spec row _ (listed-none _ f.place (then-fault (number_at code at) _ f.place (answer-fault (number_at code at) r e f q)))
 
   module _ (x : Read ℕ) (p : r ≡ Ok x) where
     -- behind the count that was read, as many styles are read
-    styles-behind : walked_styles_at code at ≡ counted (walked_style_at code) x.value x.next
-    unfolding walked_styles_at
+    styles-behind : styles_at (walked_style_at code) code at ≡ counted (walked_style_at code) x.value x.next
+    unfolding styles_at
     styles-behind = then-read (number_at code at) (λ n count. counted (walked_style_at code) count n) x.next x.value (answer_read (number_at code at) r e x p)
 
     -- what merging those styles leaves is what merging the styles at the place leaves, their count read with them
     pub styles-merged : (origin pseudo : ℕ) (spec : Specificity) (row z : List ℕ)
-        → z ≡ merged_row Crate row (styles_declare origin pseudo spec (listed (counted (walked_style_at code) x.value x.next))) → z ≡ merged_row Crate row (styles_declare origin pseudo spec (listed (walked_styles_at code at)))
+        → z ≡ merged_row Crate row (styles_declare origin pseudo spec (listed (counted (walked_style_at code) x.value x.next))) → z ≡ merged_row Crate row (styles_declare origin pseudo spec (listed (styles_at (walked_style_at code) code at)))
     styles-merged origin pseudo spec row z h = rw styles-behind h
 
     -- of one there is no more than one
     pub one-lent : x.value ≡ 1 → CountedLent code x.next x.value
     one-lent one = inl (omega arith)
 
-    module _ (d : Result ℕ Fault) (ed : d ≡ place_answer (styles_at code at)) where
+    module _ (d : Result ℕ Fault) (ed : d ≡ place_answer (styles_at (style_at code) code at)) where
       -- all of them read
       pub counted-lent : is_ok d ≡ true → CountedLent code x.next x.value
       counted-lent hd = go d refl hd
         where
           go : (b : Result ℕ Fault) → d ≡ b → is_ok b ≡ true → CountedLent code x.next x.value
           go (Ok m) k h =
-              let w = place_read (walked_styles_at code at) d (ed ∙ styles-place code at) m k in
+              let w = place_read (styles_at (walked_style_at code) code at) d (ed ∙ styles-place code at) m k in
               inr (record { end = m; value = w.0; told = sym styles-behind ∙ w.1 })
           go (Err f) k h = never h
 
       -- where one of the styles does not read, the row stays: none is declared
       pub styles-none : is_ok d ≡ false → (origin pseudo : ℕ) (spec : Specificity) (row : List ℕ)
-          → row ≡ merged_row Crate row (styles_declare origin pseudo spec (listed (walked_styles_at code at)))
+          → row ≡ merged_row Crate row (styles_declare origin pseudo spec (listed (styles_at (walked_style_at code) code at)))
       styles-none hd origin pseudo spec row = go d refl hd
         where
-          go : (b : Result ℕ Fault) → d ≡ b → is_ok b ≡ false → row ≡ merged_row Crate row (styles_declare origin pseudo spec (listed (walked_styles_at code at)))
+          go : (b : Result ℕ Fault) → d ≡ b → is_ok b ≡ false → row ≡ merged_row Crate row (styles_declare origin pseudo spec (listed (styles_at (walked_style_at code) code at)))
           go (Ok m) k h = never (sym h)
-          go (Err f) k h = unmerged origin pseudo spec row _ (listed-none _ f.place (place-fault (walked_styles_at code at) d (ed ∙ styles-place code at) f k))
+          go (Err f) k h = unmerged origin pseudo spec row _ (listed-none _ f.place (place-fault (styles_at (walked_style_at code) code at) d (ed ∙ styles-place code at) f k))

@@ -4,14 +4,9 @@ use Rattle.syntax.specs.declared.styles.Value.{Value}
 use Rattle.cascade.specs.declared.specificity.Specificity.{Specificity}
 use Rattle.cascade.specs.Record.{Styled, Declared, from_rule}
 use Rattle.styles.specs.Said.{rule_style}
-use Rattle.styles.specs.StyleCall.{in_numbers}
-use Rattle.compiled.specs.Decoded.{Decoded, mapped, counted}
-use Rattle.compiled.specs.Style.{style_numbers_at}
+use Rattle.compiled.specs.Decoded.{counted}
 use Rattle.stepping.specs.Reading.{Reads}
-
--- a style as a style row has it
-abbrev pub walked_style_at : List ℕ → ℕ → Decoded (Styled Value)
-walked_style_at t m = mapped in_numbers (style_numbers_at t m)
+use Rattle.runner.specs.Walked.{walked_style_at}
 
 -- what styles declare, as those of a selector
 unfoldable pub styles_declare : ℕ → ℕ → Specificity → List (Styled Value) → List (Declared Value)

@@ -3,11 +3,12 @@ ghost use Rattle.std.specs.Prelude.{◌≡◌, [], ◌∷◌};
 ghost use Rattle.cascade.specs.declared.slots.Cascade.TheVariants.{Crate};
 ghost use Rattle.styles.specs.Merged.{merged_row};
 ghost use Rattle.compiled.specs.Decoded.{counted};
+ghost use Rattle.compiled.specs.Sheet.{styles_at};
 ghost use Rattle.runner.specs.PageRows.{selectors_declare};
 ghost use Rattle.runner.specs.Run.{found_at};
-ghost use Rattle.runner.specs.Walked.{walked_styles_at};
+ghost use Rattle.runner.specs.Walked.{walked_style_at};
 ghost use Rattle.stepping.specs.Reading.{listed};
-ghost use Rattle.stepping.specs.Merging.{walked_style_at, styles_declare, CountedLent};
+ghost use Rattle.stepping.specs.Merging.{styles_declare, CountedLent};
 
 use crate::specificity::read_weights;
 use cascade::rows::{StyleRow, merge_computed_style};
@@ -59,7 +60,7 @@ fn merge_styles(
     spec: Specificity,
     out: &mut StyleRow,
 )
-    ensures { out.new ≡ merged_row Crate out.old (styles_declare origin pseudo spec (listed (walked_styles_at sheet.entry.bytes.now at))) }
+    ensures { out.new ≡ merged_row Crate out.old (styles_declare origin pseudo spec (listed (styles_at (walked_style_at sheet.entry.bytes.now) sheet.entry.bytes.now at))) }
 {
     let Ok(count) = read_number(sheet.bytes, at) else {
         return;

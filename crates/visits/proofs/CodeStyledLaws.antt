@@ -6,7 +6,7 @@ use native.Mathlib.Omega.{arith}
 use lib.ListN.{length}
 use Rattle.combinators.specs.Choice.{pick, is}
 use Rattle.combinators.proofs.Rules.{is-yes, is-no}
-use Rattle.syntax.specs.Style.{agent_origin}
+use Rattle.syntax.specs.Style.{agent_origin, StyleDecl}
 use Rattle.compiled.specs.Answer.{read_answer, place_answer}
 use Rattle.compiled.specs.Component.{component_at}
 use Rattle.compiled.specs.Decoded.{read, on_decoded, counted}
@@ -17,6 +17,7 @@ use Rattle.std.proofs.Common.{Option, Some, None, Result, Ok, Err}
 use Rattle.compiled.specs.declared.places.Fault.{Fault}
 use Rattle.compiled.specs.declared.places.Read.{Read}
 use Rattle.compiled.specs.declared.sheets.Head.{Head}
+use Rattle.compiled.specs.Style.{style_at}
 use Rattle.compiled.proofs.Answers.{answer_read, answer-fault, then_answer, then-answer, place_read, place-fault}
 use Rattle.compiled.proofs.Bounds.{Reaches, reaches_end, reaches_then, number-reaches, components-reach, head-reaches}
 use Rattle.compiled.proofs.Following.{then-read, then-fault}
@@ -118,7 +119,7 @@ module _ (code : List ℕ) (count at left i : ℕ) (v : Finding code count at le
 
 -- ---- the selectors of a sheet are read behind their count
 -- where a sheet is decoded, its selectors are read from behind the count, as many as it says
-pub sheet-selectors : (code : List ℕ) (m : ℕ) (ss : List CompiledSelector) → decode code ≡ read m ss → (n k : ℕ) → number_at code 0 ≡ read n k → SelectorsRead code k n
+pub sheet-selectors : (code : List ℕ) (m : ℕ) (ss : List (CompiledSelector StyleDecl)) → decode code ≡ read m ss → (n k : ℕ) → number_at code 0 ≡ read n k → SelectorsRead code k n
 sheet-selectors code m ss e n k q =
     let w = sheet-steps code m ss e in
     let r : read n k ≡ read w.behind-count w.count = sym q ∙ w.count-read in
@@ -127,7 +128,7 @@ sheet-selectors code m ss e n k q =
     record { least = agent_origin; end = m; selectors = ss; origin = omega arith; told = rw (a, b) w.selectors-read }
 
 -- and those behind one of them
-pub selectors-behind : (code : List ℕ) (k i : ℕ) → SelectorsRead code (suc k) i → (n : ℕ) (s : CompiledSelector) → selector_at code agent_origin i ≡ read n s → SelectorsRead code k n
+pub selectors-behind : (code : List ℕ) (k i : ℕ) → SelectorsRead code (suc k) i → (n : ℕ) (s : CompiledSelector StyleDecl) → selector_at (style_at code) code agent_origin i ≡ read n s → SelectorsRead code k n
 selectors-behind code k i v n s e =
     let w = selectors-first code k v.least i v.end v.selectors v.told in
     let a = selector-lower code v.least i w.place w.selector v.origin w.first in

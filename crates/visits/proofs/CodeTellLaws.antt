@@ -9,7 +9,7 @@ use lib.Dec.{ltb}
 use lib.ListN.{length}
 use Rattle.combinators.specs.Choice.{pick, is}
 use Rattle.combinators.proofs.Rules.{pick_true, pick-false, is-yes, is-no}
-use Rattle.syntax.specs.Style.{agent_origin}
+use Rattle.syntax.specs.Style.{agent_origin, StyleDecl}
 use Rattle.compiled.specs.Answer.{read_answer, selector_answer}
 use Rattle.compiled.specs.Decoded.{Decoded, read, on_decoded}
 use Rattle.compiled.specs.Sheet.{compiled_limit, CompiledSelector, selector_at}
@@ -17,6 +17,7 @@ use Rattle.std.specs.Prelude.{MatchResult}
 use Rattle.std.proofs.Common.{Result, Ok, Err}
 use Rattle.compiled.specs.declared.places.Fault.{Fault}
 use Rattle.compiled.specs.declared.places.Read.{Read}
+use Rattle.compiled.specs.Style.{style_at}
 use Rattle.compiled.proofs.Answers.{answer_read, answer-fault, selector-read, selector-fault}
 use Rattle.compiled.proofs.Bounds.{reaches_end, selector-reaches}
 use Rattle.segments.specs.Placed.{has_style}
@@ -73,7 +74,7 @@ pub record Telling (code part₀ : List ℕ) (count at : ℕ) (part : List ℕ) 
   pub lent : TellLent code left i
 
 -- whether a selector that is read has a style
-has-style-at : (code : List ℕ) (i n : ℕ) (s : CompiledSelector) → selector_at code agent_origin i ≡ read n s → has_style_at code i ≡ has_style s.styles
+has-style-at : (code : List ℕ) (i n : ℕ) (s : CompiledSelector StyleDecl) → selector_at (style_at code) code agent_origin i ≡ read n s → has_style_at code i ≡ has_style s.styles
 unfolding has_style_at on_decoded
 has-style-at code i n s e = let c = style-count code i n s e in rw c.told (sym (has-style s.styles))
 
@@ -85,37 +86,37 @@ module _ (code part₀ : List ℕ) (count at : ℕ) (part : List ℕ) (left i : 
       let e : part ≡ fresh_from code 0 i part = unfold fresh_from in refl in
       e ∙ ap (λ (k : ℕ). fresh_from code k i part) d ∙ v.whole
 
-  module _ (h : 0 < left) (r : Result (Read ℕ) Fault) (er : r ≡ selector_answer (selector_at code agent_origin i)) where
+  module _ (h : 0 < left) (r : Result (Read ℕ) Fault) (er : r ≡ selector_answer (selector_at (style_at code) code agent_origin i)) where
     -- those behind one of them
-    others : ℕ → CompiledSelector → List ℕ
+    others : ℕ → CompiledSelector StyleDecl → List ℕ
     others n s = fresh_from code (left - 1) n (pick (has_style s.styles) (block_set (leftmost_at code i) (styled_from code (left - 1) n) i part) part)
 
     -- what the selectors that are left come to, by the first of them
-    tell-step : on_decoded (selector_at code agent_origin i) others (λ _. part) ≡ fresh_from code count at part₀
+    tell-step : on_decoded (selector_at (style_at code) code agent_origin i) others (λ _. part) ≡ fresh_from code count at part₀
     unfolding others
     tell-step =
         let d : suc (left - 1) ≡ left = omega arith in
-        let e : on_decoded (selector_at code agent_origin i) others (λ _. part) ≡ fresh_from code (suc (left - 1)) i part = unfold fresh_from in refl in
+        let e : on_decoded (selector_at (style_at code) code agent_origin i) others (λ _. part) ≡ fresh_from code (suc (left - 1)) i part = unfold fresh_from in refl in
         e ∙ ap (λ (k : ℕ). fresh_from code k i part) d ∙ v.whole
 
     -- where no selector reads, the rest is told nothing and the part is as it has to be
     pub tell-fault : (f : Fault) → r ≡ Err f → part ≡ fresh_from code count at part₀
     tell-fault f q =
-        let e : part ≡ on_decoded (selector_at code agent_origin i) others (λ _. part) = unfold on_decoded in rw (selector-fault (selector_at code agent_origin i) r er f q) in
+        let e : part ≡ on_decoded (selector_at (style_at code) code agent_origin i) others (λ _. part) = unfold on_decoded in rw (selector-fault (selector_at (style_at code) code agent_origin i) r er f q) in
         e ∙ tell-step
 
     -- one that was read
-    tell-read : (n : ℕ) (s : CompiledSelector) → selector_at code agent_origin i ≡ read n s → others n s ≡ fresh_from code count at part₀
+    tell-read : (n : ℕ) (s : CompiledSelector StyleDecl) → selector_at (style_at code) code agent_origin i ≡ read n s → others n s ≡ fresh_from code count at part₀
     unfolding on_decoded
-    tell-read n s e = ap (λ (d : Decoded CompiledSelector). on_decoded d others (λ _. part)) (sym e) ∙ tell-step
+    tell-read n s e = ap (λ (d : Decoded (CompiledSelector StyleDecl)). on_decoded d others (λ _. part)) (sym e) ∙ tell-step
 
     module _ (x : Read ℕ) (q : r ≡ Ok x) where
       -- what is asked for to store its block
       pub tell-lent : (i ≤ compiled_limit) × SelectorsRead code (left - 1) x.next
       tell-lent =
-          let w = selector-read (selector_at code agent_origin i) r er x q in
+          let w = selector-read (selector_at (style_at code) code agent_origin i) r er x q in
           let d : left ≡ suc (left - 1) = omega arith in
-          let l = reaches_end (length code) i 4 x.next w.0 (selector_at code agent_origin i) (selector-reaches code agent_origin i) w.1 in (
+          let l = reaches_end (length code) i 4 x.next w.0 (selector_at (style_at code) code agent_origin i) (selector-reaches code agent_origin i) w.1 in (
             omega (arith, l.0, l.1, v.lent.few_bytes),
             selectors-behind code (left - 1) i (subst (λ (k : ℕ). SelectorsRead code k i) d v.lent.reads) x.next w.0 w.1,
           )
@@ -124,7 +125,7 @@ module _ (code part₀ : List ℕ) (count at : ℕ) (part : List ℕ) (left i : 
       pub tell-more : (part₁ : List ℕ) → part₁ ≡ pick (has_style_at code i) (block_set (leftmost_at code i) (styled_from code (left - 1) x.next) i part) part
           → Telling code part₀ count at part₁ (left - 1) x.next
       tell-more part₁ e₁ =
-          let w = selector-read (selector_at code agent_origin i) r er x q in
+          let w = selector-read (selector_at (style_at code) code agent_origin i) r er x q in
           let block = block_set (leftmost_at code i) (styled_from code (left - 1) x.next) i part in
           let o : fresh_from code (left - 1) x.next part₁ ≡ others x.next w.0 =
           unfold others in ap (fresh_from code (left - 1) x.next) (e₁ ∙ ap (λ (b : Bool). pick b block part) (has-style-at code i x.next w.0 w.1)) in
