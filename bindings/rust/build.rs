@@ -40,12 +40,15 @@ fn find() -> PathBuf {
         .unwrap_or_else(|| panic!("the engine's library is not there: name it in {VARIABLE}, or run `bash tools/staticlib.sh engine` in the repository"))
 }
 
-/// Runs `bash tools/staticlib.sh engine`, if this is the repository and `rt` is there. What it prints stands in the build's output.
+/// Runs `bash tools/staticlib.sh engine`, if this is the repository and `rt` is there. What it prints stands in the build's output. Cargo shows the warning once this
+/// script has ended, `cargo -vv` shows it before, and what `rt` prints.
 fn build(repository: &Path) -> bool {
     if !repository.join(CRATES).is_file() {
         return false;
     }
-    println!("cargo:warning=the engine's library is not there: `bash tools/staticlib.sh engine` proves and builds it, which takes minutes");
+    println!(
+        "cargo:warning=the engine's library is not there: `bash tools/staticlib.sh engine` proves and builds it, in minutes; {VARIABLE}=PATH takes another"
+    );
     Command::new("bash").args(["tools/staticlib.sh", "engine"]).current_dir(repository).status().is_ok_and(|status| status.success())
 }
 

@@ -775,23 +775,27 @@ def top_level(ts, mark):
     raise Trouble(f"line {ts[0].line}: no `{mark}`")
 
 
-def names_of(d, statement_only=False):
-    """The names (as paths, with lines) that a declaration's text has and does not bind. Of a law its statement alone is wanted."""
-    reader = Reader(scope_of(d.file))
-    outer = []
+def module_parameters(d):
+    """What the modules around a declaration take, outermost first: names, and the tokens of their type."""
     for first, last in d.outer:
-        ts = tokens(d.file.lines[first - 1 : last], first)
-        groups = ts[2:-1]  # module _ .. where
-        i = 0
+        groups, i = tokens(d.file.lines[first - 1 : last], first)[2:-1], 0  # module _ .. where
         while i < len(groups):
             close = matching(groups, i)
             group = binder_group(groups[i + 1 : close])
             if not group:
                 raise Trouble(f"{shown(d.file.path)}:{first}: a module's parameter of another form")
-            reader.bound = list(outer)
-            reader.term(group[1])
-            outer += group[0]
+            yield group
             i = close + 1
+
+
+def names_of(d, statement_only=False):
+    """The names (as paths, with lines) that a declaration's text has and does not bind. Of a law its statement alone is wanted."""
+    reader = Reader(scope_of(d.file))
+    outer = []
+    for names, typ in module_parameters(d):
+        reader.bound = list(outer)
+        reader.term(typ)
+        outer += names
     reader.bound = list(outer)
     if d.kind in ("record", "data"):
         _declared_type(d, reader)

@@ -311,11 +311,57 @@ class Paths(unittest.TestCase):
         ])
 
 
+# Laws within modules within modules, which take what the laws speak of and more.
+NESTED = """use mathlib.Core.Path.{◌≡◌}
+use mathlib.Core.List.{List}
+use lib.ListN.{length}
+
+module _ {A : Type 0} (k : ℕ) where
+  module _ (s t : List A) (fits : length s ≡ k) (same : s ≡ t) where
+    pub begin : length t ≡ length s
+    begin = by same
+
+    module _ (more : k ≡ length t) where
+      pub held : Held s k
+      held = kept fits
+
+      again : length t ≡ length s
+      again = begin
+
+  module _ (s : List A) (h : length s ≡ k) where
+    pub room : Held s k
+    room = kept h
+
+    other : Held s k
+    other = kept-always
+
+    words : List A
+    words = s
+
+    places : List A
+    places = s
+
+plain : {B : Type 0} → {x : List B} (y : List B) → x ≡ y → length y ≡ length x
+plain y e = by e
+
+pub turned : {B : Type 0} → {x : List B} (y : List B) → x ≡ y → length x ≡ length y
+turned y e = by e
+"""
+
+
 class Twice(unittest.TestCase):
+    def setUp(self):
+        self.twice = tool("twice")
+
     def test_variables_are_left_aside_and_other_names_are_not(self):
-        twice = tool("twice")
-        groups = [{d.name for d in g} for g in twice.definitions().values() if len(g) > 1]
+        groups = [{d.name for d in g} for g in self.twice.definitions().values() if len(g) > 1]
         self.assertNotIn({"SheetTexts", "Page"}, groups)
+
+    def test_what_modules_take_is_read_as_the_own_premises_of_a_law(self):
+        laws = {}
+        for d in filter(self.twice.is_law, AnttFile("crates/x/proofs/Nested.antt", NESTED).declarations):
+            laws.setdefault(self.twice.normal(d, self.twice.statement(d)), []).append(d.name)
+        self.assertEqual(list(laws.values()), [["begin", "again", "plain"], ["held", "room"], ["other"], ["turned"]])
 
 
 class Uncited(unittest.TestCase):

@@ -1,10 +1,9 @@
 -- Demand 3 over the calls: where sheets compile, their bytes are run down a page with all that a run needs, and the style call styles some row of that page, the run
 -- agrees with every style call.
-use Prim.Native.Nat.{ℕ, suc, ◌-◌, ◌≤◌, ◌<◌}
+use Prim.Native.Nat.{ℕ, suc, ◌<◌}
 use mathlib.Core.Path.{◌≡◌, refl, ap, ap₂, sym, subst, ◌∙◌}
 use mathlib.Core.List.{List, ◌++◌}
-use native.Mathlib.Omega.{arith}
-use lib.ListN.{length, replicate, length-append, length-replicate}
+use lib.ListN.{length}
 use Rattle.combinators.specs.Refusal.{no_refusal, bad_bytes}
 use Rattle.syntax.specs.Selector.{RuleSet}
 use Rattle.sheets.specs.SheetAnswer.{padded}
@@ -30,8 +29,7 @@ use Rattle.styling.specs.Claim.{row_left, texts_left, RowSays}
 use Rattle.styling.proofs.Claiming as claims
 use Rattle.styling.proofs.Claiming.{padded-long}
 use Rattle.runner.specs.PageRows.{style_row_at, page_contents, page_row, page_rows}
-use Rattle.runner.proofs.PageContents.{contents-short}
-use Rattle.runner.proofs.PageRowLaws.{rows_long, row-there}
+use Rattle.runner.proofs.PageRowLaws.{row-there}
 use Rattle.running.specs.RunAnswer.{RunLeft, ran}
 use Rattle.agreement.specs.Calls.{CompileBuffers, RunBuffers, StyleBuffers, compile_with, run_with, style_with, code_of, texts_of, StyleLent, SameLengths}
 use Rattle.agreement.specs.ComputedRows.{RowComputed, ComputedRows}
@@ -40,7 +38,7 @@ use Rattle.agreement.specs.SameRow.{SameRow}
 use Rattle.agreement.proofs.CompileTells.{padded-front, Compiled, compile-tells, bytes-taken}
 use Rattle.agreement.proofs.Demand.{demand-3}
 use Rattle.agreement.proofs.OwnSlots.{computed-own}
-use Rattle.agreement.proofs.RunTells.{RunTakes, run-tells, run-leaves, run_lent, run-texts-lent, not_short, never-refused, runs-free}
+use Rattle.agreement.proofs.RunTells.{RunTakes, run-leaves, not_short, never-refused, runs-free}
 use Rattle.agreement.proofs.SameRows.{rows_same}
 use Rattle.agreement.proofs.StyleTells.{style-tells, element-styled}
 
@@ -71,11 +69,6 @@ computed-read sheets settings p t row r =
     let back : style_at row ≡ r.style = ap style_at r.written ∙ style-back r.style (style-formed sheets settings p r) in
     rw back r.same
 
--- as long as it was, where that fits
-padded-fits : (xs : List ℕ) (n : ℕ) → length xs ≤ n → length (padded xs n) ≡ n
-unfolding padded
-padded-fits xs n h = omega (arith, length-append xs (replicate (n - length xs) 0), length-replicate {A = ℕ} (n - length xs) 0)
-
 module _ (s : SheetTexts) (g : Page) (settings : Settings) (code : List ℕ) (c : Compiled s code) (b : RunBuffers) (t : RunTakes code g b) where
   abbrev contents : List ℕ
   contents = page_contents settings g
@@ -98,19 +91,10 @@ module _ (s : SheetTexts) (g : Page) (settings : Settings) (code : List ℕ) (c 
   unfolding ran padded page_rows
   row-left i h = row-there code settings g (node_count g.nodes) i _ h
 
-  -- they fit into the rows that are lent
-  rows_fit : length (page_rows code settings g) ≤ length b.rows
-  unfolding page_rows
-  rows_fit = omega (arith, rows_long code settings g (node_count g.nodes), (run_lent code settings g b t.suffices).for-rows)
-
   -- and its texts are the contents of the page
   texts-there : texts_of leaves ≡ contents
   unfolding ran
   texts-there = padded-front contents (length b.texts)
-
-  -- which fit into the store that is lent
-  texts-fit : length contents ≤ length b.texts
-  texts-fit = omega (arith, contents-short settings g t.page, run-texts-lent code settings g b t.suffices)
 
   -- the row of an element is the style computed from the sheets
   computed : ComputedRows settings s g code leaves
@@ -158,11 +142,6 @@ module _ (s : SheetTexts) (g : Page) (settings : Settings) (code : List ℕ) (c 
         contents = texts-there;
       }
 
-  -- the stores are as long as they were
-  leaves-long : (length leaves.rows ≡ length b.rows) × (length leaves.texts ≡ length b.texts)
-  unfolding ran
-  leaves-long = (padded-fits (page_rows code settings g) (length b.rows) rows_fit, padded-fits contents (length b.texts) texts-fit)
-
 -- where compiling and a style call refuse nothing and the run is lent enough, the run agrees with every style call of the page
 pub demand3 : Demand3
 demand3 =
@@ -188,15 +167,6 @@ module _ (s : SheetTexts) (b : CompileBuffers) (compiles : (compile_with s b).an
   pub bytes-never-refused : (settings : Settings) (g : Page) (w : RunBuffers) → ¬ ((run_with (code_of (compile_with s b)) settings g w).answer.refusal.number ≡ bad_bytes)
   bytes-never-refused settings g w =
       never-refused (code_of (compile_with s b)) settings g w (bytes-taken s (code_of (compile_with s b)) (compile-tells s b compiles))
-
-  -- a run of them that refuses nothing leaves its rows and its text store as long as they were: all its texts fit
-  pub lengths-kept : (settings : Settings) (g : Page) (w : RunBuffers) → (run_with (code_of (compile_with s b)) settings g w).answer.refusal ≡ no_refusal
-      → (length (run_with (code_of (compile_with s b)) settings g w).rows ≡ length w.rows) × (length (run_with (code_of (compile_with s b)) settings g w).texts ≡ length w.texts)
-  lengths-kept settings g w e =
-      let code = code_of (compile_with s b) in
-      let t : RunTakes code g w = run-tells code settings g w e in
-      subst (λ (l : RunLeft). (length l.rows ≡ length w.rows) × (length l.texts ≡ length w.texts)) (sym (run-leaves code settings g w t))
-      (leaves-long s g settings code (compile-tells s b compiles) w t)
 
 -- what a run leaves, and answers, does not depend on what stood in its buffers, whatever bytes it runs
 pub buffers-free : (code : List ℕ) (settings : Settings) (g : Page) (b b' : RunBuffers) → SameLengths b b' → (run_with code settings g b).answer.refusal ≡ no_refusal

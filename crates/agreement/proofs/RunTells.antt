@@ -4,16 +4,14 @@ use mathlib.Core.Path.{◌≡◌, refl, ap, sym, ◌∙◌}
 use mathlib.Core.Bool.{Bool, true, false}
 use mathlib.Core.List.{List}
 use native.Mathlib.Omega.{arith}
-use borrow.Author.Tests.{leb-true, ltb-false, le-ltb}
+use borrow.Author.Tests.{ltb-false, le-ltb}
 use lib.Dec.{ltb}
 use lib.ListN.{length}
 use Rattle.std.proofs.Common.{Option, Some, None}
 use Rattle.combinators.specs.Choice.{is}
-use Rattle.combinators.specs.LeastLengths.{text_least, stores_suffice}
-use Rattle.combinators.proofs.LeastLaws.{least}
 use Rattle.combinators.specs.Refusal.{no_refusal, refused, refused_at, too_long, short_store, bad_row, bad_text, bad_bytes}
 use Rattle.combinators.specs.declared.refusals.Refusal.{Refusal}
-use Rattle.combinators.proofs.Rules.{pick-holds, pick_true, pick-false, and-true, is_true, is_false, is-yes}
+use Rattle.combinators.proofs.Rules.{pick-holds, pick_true, pick-false, is_true, is_false, is-yes}
 use Rattle.syntax.specs.Style.{StyleDecl}
 use Rattle.page.specs.Accepted.{first_bad_row, first_bad_text, refused_row, page_refusal}
 use Rattle.compiled.specs.Answer.{bytes_refusal}
@@ -22,7 +20,6 @@ use Rattle.compiled.specs.Sheet.{CompiledSelector, compiled_limit, decode}
 use Rattle.styles.specs.declared.settings.Settings.{Settings}
 use Rattle.page.specs.Lent.{Page}
 use Rattle.styling.proofs.StyleCalls.{Quiet, quiet}
-use Rattle.runner.specs.LeastLengths.{RunLent, run_text_bytes}
 use Rattle.running.specs.RunAnswer.{RunLeft, unchanged, ran, run_suffices, run_by, run_call}
 use Rattle.agreement.specs.Calls.{RunBuffers, run_with, SameLengths}
 
@@ -131,16 +128,6 @@ module _ (code : List ℕ) (settings : Settings) (g : Page) (b : RunBuffers) whe
     where
       Other : RunLeft → Type 0
       Other l = l.answer.refusal.number ≡ bad_bytes → ⊥
-
-  -- where the lengths suffice, rows and state have their least lengths
-  pub run_lent : enough ≡ true → RunLent code g b.rows b.state
-  unfolding run_suffices
-  run_lent e = let t = and-true _ _ e in let u = and-true _ _ t.1 in record { for-rows = leb-true _ _ t.0; for-state = leb-true _ _ u.0 }
-
-  -- where they suffice, the text store has its least length, too
-  pub run-texts-lent : enough ≡ true → text_least (run_text_bytes g) ≤ length b.texts
-  unfolding run_suffices
-  run-texts-lent e = let t = and-true _ _ e in let u = and-true _ _ t.1 in (least {t = stores_suffice (run_text_bytes g) (length b.rules) (length b.tokens) (length b.brackets) (length b.texts)} refl u.1).for-texts
 
 -- ---- what two runs leave
 module _ (code : List ℕ) (settings : Settings) (g : Page) (b b' : RunBuffers) (same : SameLengths b b') where

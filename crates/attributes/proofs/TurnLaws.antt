@@ -62,11 +62,6 @@ module _ (a : Attribute) (xs : List Attribute) (base fill : ℕ) (rules tokens b
         bits = omega (arith, o.bits);
       }
 
--- what `merge_early_attributes` asks for, where there is room for `merge_attributes`
-pub early-room : (xs : List Attribute) (base fill : ℕ) (rules tokens brackets texts : List ℕ) → InlineRoom xs base fill rules tokens brackets texts → InlineRoom xs 0 fill tokens tokens brackets texts
-early-room xs base fill rules tokens brackets texts o =
-    record { for-rules = o.for-tokens; for-tokens = o.for-tokens; for-brackets = o.for-brackets; for-texts = o.for-texts; bits = omega (arith, o.bits) }
-
 -- ---- attributes from a row on
 module _ (attributes names : List ℕ) (count : ℕ) where
   -- those from the i-th on

@@ -1,4 +1,4 @@
--- What the cascades make of a style: nothing of no declarations; of each slot what its own candidates make of it.
+-- What the cascades make of a style: of each slot what its own candidates make of it.
 -- Assumes nothing.
 use mathlib.Core.Path.{◌≡◌, refl, sym, ap, ◌∙◌}
 use mathlib.Core.Bool.{Bool, true, false}
@@ -13,25 +13,11 @@ use Rattle.combinators.proofs.Rules.{pick_true, pick-false, pick-holds, or-false
 use Rattle.cascade.specs.declared.slots.Cascade.{Cascade}
 use Rattle.cascade.specs.declared.slots.Cascade.TheVariants.{Crate, Book}
 use Rattle.cascade.specs.Slot.{Candidate, Slot, empty, maybe_update, book_update, update_by, fill_update}
-use Rattle.cascade.specs.Record.{slot_count, record_count, main_record, before_record, after_record, Record, ComputedStyle, Formed, record_in, slot_of, slot_in, update_record, update_style, Declared, is_named, merge_by, inherit, inherit_by, Handed, handed_by, handed_on, fill_record, fill_pseudo, finish_by, Sources, empty_record, empty_style, crate_declared, book_declared, declared_by, cascade_by, colour_attributes, style_attributes, candidates_for}
+use Rattle.cascade.specs.Record.{slot_count, record_count, main_record, before_record, after_record, Record, ComputedStyle, Formed, record_in, slot_of, slot_in, update_record, update_style, Declared, is_named, merge_by, inherit, inherit_by, Handed, handed_by, handed_on, fill_record, fill_pseudo, finish_by, Sources, empty_record, empty_style, crate_declared, declared_by, cascade_by, candidates_for}
 use Rattle.cascade.proofs.RowLaws.{Which, is_main, is_before, is_after, which, update-main, update-before, update-after}
 use Rattle.cascade.proofs.Merging.{named, named-says}
 
 module _ {A : Type 0} where
-  -- ---- nothing of no declarations
-  -- no declarations leave the style as it is
-  pub no-declarations : (u : Slot A → Candidate A → Slot A) (s : ComputedStyle A) → foldl (merge_by u) s [] ≡ s
-  no-declarations u s = refl
-
-  abbrev pub no_sources : Sources A
-  no_sources = record { agent = []; user = []; author = []; attributes = [] }
-
-  -- where nothing is said, a child has what it inherits
-  pub nothing_said : (c : Cascade) (s : ComputedStyle A) → cascade_by c s no_sources ≡ finish_by c (handed_by s) (inherit_by c s)
-  unfolding cascade_by declared_by crate_declared book_declared colour_attributes style_attributes
-  nothing_said Crate s = refl
-  nothing_said Book s = refl
-
   -- ---- records by their numbers
   module _ (s : ComputedStyle A) (r : ℕ) where
     -- the record of the element's own number is the main one
@@ -208,10 +194,6 @@ module _ {A : Type 0} where
           slot-folds ds (merge_by u s d) (stays-formed u s d r h f)
           ∙ ap (λ (t : Slot A). foldl u t (candidates_for r k ds)) (one-candidate d s f)
           ∙ sym (foldl-append u (slot_in s r k) (pick (and (is d.pseudo r) (is d.slot k)) (d.candidate ∷ []) []) (candidates_for r k ds))
-
-      -- one that none of them names is left alone
-      pub unnamed-slot : (ds : List (Declared A)) (s : ComputedStyle A) → Whole s r → candidates_for r k ds ≡ [] → slot_in (foldl (merge_by u) s ds) r k ≡ slot_in s r k
-      unnamed-slot ds s f e = slot-folds ds s f ∙ ap (foldl u (slot_in s r k)) e
 
   -- ---- what a child begins with
   -- every record of a formed style has all its slots

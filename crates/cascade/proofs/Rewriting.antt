@@ -56,17 +56,6 @@ module _ (xs : List ℕ) (h : style_row_width ≤ length xs) where
   pub present-number : (p : ℕ) → 0 < p → get_or (set xs 0 1) p 0 ≡ get_or xs p 0
   present-number p a = get_or-set_other xs 0 p 1 0 (λ e. omega arith)
 
-  -- marking the main record as present leaves its slots as they were
-  pub present-main : record_at (set xs 0 1) 0 ≡ record { present = true; slots = (record_at xs 0).slots }
-  unfolding record_at
-  present-main =
-      record_same _ _ _ _ (ap flag_of (get_or-set_same xs 0 1 0 (omega arith)) ∙ flag_one)
-      (ap (map read_slot) (same-windows slot_count (set xs 0 1) xs 1 (λ p a b. present-number p (omega arith))))
-
-  -- and so do the other records
-  pub present-other : (b : ℕ) → 0 < b → record_at (set xs 0 1) b ≡ record_at xs b
-  present-other b a = same-record (set xs 0 1) xs b (λ p c d. present-number p (omega arith))
-
 -- ---- a row of zeros
 -- with n zeros written over the start of a list, each of its first n numbers is a zero
 zeros-number : (n : ℕ) (xs : List ℕ) (p : ℕ) → n ≤ length xs → p < n → get_or (sets xs 0 (replicate n 0)) p 0 ≡ get_or (replicate n 0) p 0

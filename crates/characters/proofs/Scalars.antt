@@ -22,19 +22,7 @@ use Rattle.combinators.proofs.Rules.{
   within-yes,
 }
 use Rattle.combinators.proofs.Lists.{there}
-use Rattle.characters.specs.Utf8.{
-  utf8,
-  continuation,
-  is_continuation,
-  is_scalar,
-  or_replacement,
-  lead_of,
-  scalar_tail,
-  scalar_by,
-  scalar_of,
-  taken_of,
-  scalar_taken,
-}
+use Rattle.characters.specs.Utf8.{utf8, continuation, is_continuation, is_scalar, or_replacement, lead_of, scalar_tail, scalar_by, scalar_of}
 use Rattle.combinators.specs.declared.taken.Taken.{Taken}
 use Rattle.characters.specs.declared.utf8.Lead.{Lead}
 
@@ -105,12 +93,6 @@ unfolding is_scalar
 scalar-high v l h = or_right _ _ (lt-leb v 0xd7ff (omega arith)) (within-yes v 0xe000 0x10ffff l h)
 
 -- ---- a number, or U+FFFD where it is no scalar value
--- what stands for a number is a code point
-pub or-replacement-le : (v : ℕ) → or_replacement v ≤ 0x10ffff
-unfolding or_replacement
-or-replacement-le v =
-    pick-holds (λ (x : ℕ). x ≤ 0x10ffff) _ _ _ (λ e. by_scalar (v ≤ 0x10ffff) v e (λ h. omega arith) (λ l h. h)) (λ _. omega arith)
-
 -- below the surrogates it stays as it is
 pub or-replacement-same : (v : ℕ) → v ≤ 0xd7ff → or_replacement v ≡ v
 unfolding or_replacement
@@ -196,14 +178,3 @@ module _ (s : List ℕ) where
   pub scalar-some : (n v : ℕ) → scalar_of s ≡ Some (record { taken = n; value = v }) → (1 ≤ n) × (n ≤ length s)
   unfolding Held
   scalar-some n v e = rw e at held
-
--- the bytes that it takes are there
-taken-le : (s : List ℕ) (r : Option (Taken ℕ)) → Held s r → taken_of r ≤ length s
-unfolding Held taken_of
-taken-le s (Some c) h = h.1
-taken-le s None h = h
-
--- what is taken from a text is there
-pub scalar-within : (s : List ℕ) → scalar_taken s ≤ length s
-unfolding scalar_taken
-scalar-within s = taken-le s (scalar_of s) (held s)

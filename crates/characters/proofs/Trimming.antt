@@ -1,4 +1,4 @@
--- White_Space and words: one character of either by what the text begins with, and that they alternate.
+-- White_Space and words: one character of either by what the text begins with, and that behind White_Space a word begins.
 use Rattle.std.proofs.Common.{Option, Some, None}
 use Prim.Native.Nat.{ℕ, ◌+◌, ◌-◌, ◌<◌, ◌≤◌}
 use mathlib.Core.Path.{◌≡◌, refl, sym, ap, ◌∙◌}
@@ -87,7 +87,7 @@ many-some u le s h =
     let p = many-took u s 0 (u s) (le s) refl (λ z. omega arith) in
     omega (arith, p, many-ge u (drop (u s) s) (0 + u s) 0)
 
--- ---- White_Space and words alternate
+-- ---- behind White_Space a word begins
 -- a text that is not at its end begins with White_Space or a word
 white-or-word : (s : List ℕ) → ¬ (length s ≡ 0) → 1 ≤ white_taken s + word_taken s
 white-or-word s d = go (scalar_of s) refl
@@ -111,7 +111,3 @@ other-some u w le one s h =
 -- behind the White_Space of `trim_start`, `word_end` takes at least one byte, unless the text is at its end
 pub word-behind-white : (s : List ℕ) → many white_taken 0 0 s < length s → 1 ≤ many word_taken 0 0 (drop (many white_taken 0 0 s) s)
 word-behind-white = other-some white_taken word_taken word-le white-or-word
-
--- and behind the word of `word_end`, `trim_start` does
-pub white-behind-word : (s : List ℕ) → many word_taken 0 0 s < length s → 1 ≤ many white_taken 0 0 (drop (many word_taken 0 0 s) s)
-white-behind-word = other-some word_taken white_taken white-le (λ l d. let p = white-or-word l d in omega arith)

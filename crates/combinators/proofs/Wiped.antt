@@ -8,7 +8,7 @@ use native.Mathlib.Omega.{arith}
 use lib.ListN.{length, get_or, set, take, drop, replicate, length-replicate, replicate-append-replicate}
 use lib.Seq.{sets, set-set, set_comm, length-sets, get_or-set_other, take-set-le, drop-set-lt}
 use Rattle.combinators.specs.Store.{filled_part, wiped, most}
-use Rattle.combinators.proofs.Rules.{at_most, above, by_order, lt-or-ge}
+use Rattle.combinators.proofs.Rules.{at_most, above, lt-or-ge}
 use Rattle.combinators.proofs.Emitted.{sets-out}
 
 -- ---- texts in a store
@@ -69,16 +69,6 @@ sets-again l f xs ys =
     (sets-apart (sets l f xs) f (f + length xs) xs ys (omega arith) ∙ rw (sets_over l f xs xs (omega arith)))
 
 -- ---- the greater of two numbers
--- it is no less than the first
-pub most-left : (a b : ℕ) → a ≤ most a b
-unfolding most
-most-left a b = by_order (λ m. a ≤ m) a b b a (λ h. h) (λ h. omega arith)
-
--- and no less than the second
-pub most-right : (a b : ℕ) → b ≤ most a b
-unfolding most
-most-right a b = by_order (λ m. b ≤ m) a b b a (λ h. omega arith) (λ h. omega arith)
-
 -- it is the second where the first is no more
 pub most-second : (a b : ℕ) → a ≤ b → most a b ≡ b
 unfolding most

@@ -1,10 +1,10 @@
 -- `starts_with` and `same_text` as the library's comparisons, and what a true answer says.
 use mathlib.Core.Path.{◌≡◌, refl, sym, ap, ◌∙◌}
-use mathlib.Core.List.{List, [], ◌∷◌, ◌++◌}
+use mathlib.Core.List.{List, [], ◌∷◌}
 use mathlib.Core.Bool.{Bool, true, false, ◌&&◌}
 use Prim.Native.Nat.{ℕ, ◌≤◌}
 use native.Mathlib.Omega.{arith}
-use lib.ListN.{length, drop}
+use lib.ListN.{length}
 use lib.Dec.{eqb}
 use lib.Pointwise.{pointwise}
 use Rattle.std.specs.List as list
@@ -38,15 +38,6 @@ unfolding starts_with
 starts-le [] s e = omega arith
 starts-le (x ∷ w) [] e = never e
 starts-le (x ∷ w) (y ∷ s) e = let l = starts-le w s (and-true (is y x) _ e).1 in omega arith
-
--- the text is the word and what follows it
-pub starts_is : (w s : List ℕ) → starts_with w s ≡ true → s ≡ w ++ drop (length w) s
-unfolding starts_with
-starts_is [] s e = refl
-starts_is (x ∷ w) [] e = never e
-starts_is (x ∷ w) (y ∷ s) e =
-    let p = and-true (is y x) (starts_with w s) e in
-    ap (λ b. b ∷ s) (is_true y x p.0) ∙ ap (λ l. x ∷ l) (starts_is w s p.1)
 
 -- ---- two texts
 

@@ -43,11 +43,6 @@ module _ {A : Type 0} (len i : ℕ) where
   unfolding Reaches
   reaches_end k n a d h e = rw e at h
 
-  -- a fault lies within the bytes or at their end
-  pub reaches-place : (k p : ℕ) (d : Decoded A) → Reaches k len i d → d ≡ fault p → i ≤ len → p ≤ len
-  unfolding Reaches
-  reaches-place k p d h e = rw e at h
-
 module _ {A : Type 0} (len : ℕ) where
   -- what takes more bytes takes fewer
   pub reaches-less : (d : Decoded A) (least i k j : ℕ) → Reaches least len i d → j + k ≤ i + least → j ≤ i → (j ≤ len → i ≤ len) → Reaches k len j d

@@ -19,7 +19,7 @@ use Rattle.compiled.specs.Component.{component_body, component_bytes, is_mark, n
 use Rattle.compiled.specs.declared.components.Written.TheVariants.{Name, Numbers, Names}
 use Rattle.compiled.proofs.Fits.{TextFits, ComponentFits}
 use Rattle.compiled.proofs.Following.{then-read, mapped-read, ends_at}
-use Rattle.compiled.proofs.NumberBack.{number-some, number-back, ranged-back, signed-small}
+use Rattle.compiled.proofs.NumberBack.{number-back, ranged-back, signed-small}
 use Rattle.compiled.proofs.TextBack.{span, span-back, span-text}
 
 -- a kind is one of nine
@@ -34,11 +34,6 @@ kind-le descendant = omega arith
 kind-le (nth a b) = omega arith
 kind-le (attribute x) = omega arith
 kind-le (attribute_equal x y) = omega arith
-
--- a component takes a byte
-pub component-some : (c : Component) → 1 ≤ length (component_bytes c)
-unfolding component_bytes
-component-some c = omega (arith, length-append (number_bytes (component_kind c)) (component_body c), number-some (component_kind c))
 
 module _ (t : List ℕ) where
   -- the two numbers of nth

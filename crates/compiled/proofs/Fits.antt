@@ -11,10 +11,6 @@ use Rattle.syntax.proofs.Back as back
 use Rattle.compiled.specs.Number.{number_limit}
 use Rattle.compiled.specs.Sheet.{CompiledSelector}
 
--- a list of bytes
-abbrev pub Bytes : List ℕ → Type 0
-Bytes x = All (λ b. b < 256) x
-
 pub record TextFits (x : List ℕ) : Type 0 where
   pub short : length x < number_limit
 

@@ -7,7 +7,6 @@ use native.Mathlib.Omega.{arith}
 use lib.ListN.{length, get_or, length-drop, length-append}
 use Rattle.combinators.specs.All.{All}
 use Rattle.combinators.proofs.Lists.{first}
-use Rattle.combinators.proofs.AllLaws.{all_append}
 use Rattle.combinators.proofs.Rules.{pick_true, is-yes}
 use Rattle.syntax.specs.RuleLayout.{pseudo_from}
 use Rattle.syntax.specs.Selector.{Component}
@@ -97,12 +96,3 @@ module _ {A : Type 0} (t : List ℕ) (w : A → List ℕ) (u : ℕ → Decoded A
       then-read (u i) (λ n b. mapped (λ r. b ∷ r) (counted u (length xs) n)) _ a (back a i p.0 (held-left t i (w a) (texts_many w xs) h))
       ∙ mapped-read (λ r. a ∷ r) _ _ xs (counted_back xs (i + length (w a)) p.1 (held-right t i (w a) (texts_many w xs) h))
       ∙ ends_at (a ∷ xs) _ _ e
-
--- ---- lists of bytes
--- where the bytes of a value that P holds of are bytes, so are those of a list of them
-module _ {A : Type 0} (w : A → List ℕ) (P : A → Type 0) (Q : ℕ → Type 0) (one : (a : A) → P a → All Q (w a)) where
-  -- the bytes of a list are bytes, where those of each value are
-  pub all-texts : (xs : List A) → All P xs → All Q (texts_many w xs)
-  unfolding texts_many
-  all-texts [] p = tt
-  all-texts (a ∷ xs) p = all_append Q (w a) (texts_many w xs) (one a p.0) (all-texts xs p.1)

@@ -14,7 +14,7 @@ use Rattle.syntax.specs.Signed.{signed_number, signed_of}
 use Rattle.syntax.proofs.Streams.{Held}
 use Rattle.compiled.specs.Decoded.{read, fault}
 use Rattle.compiled.specs.Number.{group_values, number_limit, group_bytes, number_bytes, limited, groups_at, number_at, ranged_at}
-use Rattle.compiled.proofs.Fits.{Bytes, SignedFits}
+use Rattle.compiled.proofs.Fits.{SignedFits}
 use Rattle.compiled.proofs.Following.{held-there, held-byte, held_next, then-read}
 
 -- how many values k + 1 groups have
@@ -54,15 +54,6 @@ groups-few (suc k) v =
     (λ h. omega (arith, ap length (group-more k v h), groups-few k (v / group_values)))
     (lt-or-ge v group_values)
 
--- the groups of a number that k + 1 of them hold are bytes
-groups-bytes : (k v : ℕ) → v < values k → Bytes (group_bytes k v)
-groups-bytes zero v l = rw (group-last zero v l) (omega arith, tt)
-groups-bytes (suc k) v l =
-    ⊎_elim
-    (λ h. rw (group-last (suc k) v h) (omega arith, tt))
-    (λ h. rw (group-more k v h) (omega arith, groups-bytes k (v / group_values) (omega arith)))
-    (lt-or-ge v group_values)
-
 module _ (v : ℕ) where
   -- a number takes a byte
   pub number-some : 1 ≤ length (number_bytes v)
@@ -73,11 +64,6 @@ module _ (v : ℕ) where
   pub number-few : length (number_bytes v) ≤ 5
   unfolding number_bytes
   number-few = groups-few 4 v
-
-  -- the groups of a number are bytes
-  pub number-bytes : v < number_limit → Bytes (number_bytes v)
-  unfolding number_bytes
-  number-bytes h = groups-bytes 4 v (omega arith)
 
 -- ---- read back
 -- a group and the rest are worth the number

@@ -23,7 +23,7 @@ use Rattle.std.proofs.Common.{Result, Ok, Err}
 use Rattle.compiled.specs.Style.{style_at}
 use Rattle.compiled.proofs.Answers.{answer_read, answer-fault}
 use Rattle.compiled.proofs.Following.{mapped-read, mapped-fault}
-use Rattle.compiled.proofs.Bounds.{reaches_end, component-reaches, head-reaches, styles-reach}
+use Rattle.compiled.proofs.Bounds.{reaches_end, component-reaches}
 
 -- ---- one component
 -- what was read of a component's bytes is the component, with its texts cut from them
@@ -172,17 +172,6 @@ selector-steps t least i m s e =
       origin = ap (λ (x : CompiledSelector StyleDecl). x.origin) d.made;
       pseudo = ap (λ (x : CompiledSelector StyleDecl). x.pseudo) d.made;
     }
-
--- a selector takes four bytes more than it has components
-pub selector-long : (t : List ℕ) (least i m : ℕ) (s : CompiledSelector StyleDecl) → selector_at (style_at t) t least i ≡ read m s → i + 4 + length s.components ≤ m
-selector-long t least i m s e =
-    let w = selector-steps t least i m s e in
-    omega (
-      arith,
-      (reaches_end (length t) i 3 w.behind-head w.head (head_at t least i) (head-reaches t least i) w.head_read).0,
-      components-long t w.head.count w.behind-head w.behind-components s.components w.components-read,
-      (reaches_end (length t) w.behind-components 1 m s.styles (styles_at (style_at t) t w.behind-components) (styles-reach t w.behind-components) w.styles-read).0,
-    )
 
 -- ---- the selectors of a sheet
 -- the first of them, and the others behind it

@@ -28,10 +28,6 @@ use Rattle.compiler.specs.declared.compile.CompileError.TheVariants.{Panic, NoRo
 use Rattle.compiler.proofs.SheetsLying.{selectors-are, lying}
 use Rattle.compiler.proofs.WritingLaws.{room_within}
 
--- zeros in the place of a whole list clear it
-pub filled : {k : List ℕ} (l : List ℕ) → k ≡ replicate (length l) 0 → k ≡ cleared 0 l
-filled l e = e ∙ sym (zeros_of l l refl)
-
 -- ---- bytes within the room
 -- the fill tells that they fit
 fill-fits : (room bytes : ℕ) (b : List ℕ) → bytes ≡ fill_of room b → bytes ≤ room → (length b ≤ room) × (bytes ≡ length b)

@@ -306,38 +306,10 @@ module _ (s : List ℕ) (stop : ℕ) (rs : List RuleSet) (e : sheet_of s ≡ rea
       (all_both (λ (r : RuleSet). length (rule_text r) ≤ m) (RuleStarts (length s)) (λ r. (length (rule_text r) ≤ m) × RuleStarts (length s) r) (λ r a b. (a, b)) rs t (sheet-starts s stop rs e)))
       (all_both RuleInRange (λ (r : RuleSet). DeclarationsFit r.declarations) (λ r. RuleInRange r × DeclarationsFit r.declarations) (λ r a b. (a, b)) rs (sheet-range s stop rs e) k.fit)
 
-  -- its selectors are no more than half the numbers of its rows, of which there are eight for each byte read
-  pub selectors-few : (origin : ℕ) → selector_head * length (sheet_selectors origin rs) ≤ rule_width * stop
-  selectors-few origin = omega (arith, sheet-few origin 0 rs, (sheet-keeps s stop rs e).wide)
-
-  -- neither are the declarations of any rule, at five numbers each
-  pub declarations-few : All (λ r. declaration_width * length r.declarations ≤ rule_width * stop) rs
-  declarations-few =
-      all_weaker (RuleHolds (rule_width * stop) (length s)) (λ (r : RuleSet). declaration_width * length r.declarations ≤ rule_width * stop)
-      (λ r h. omega (arith, rule-sized r, h.size)) rs rules-hold
-
   module _ (l : length s ≤ sheet_limit) where
     -- so there are few bytes read
     stop-small : stop ≤ sheet_limit
     stop-small = omega (arith, (sheet-keeps s stop rs e).within)
-
-    -- the count of a rule's declarations is a number of 32 bits
-    pub declarations-bits : All (λ r. length r.declarations < 2 ^ 32) rs
-    declarations-bits =
-        all_weaker (λ (r : RuleSet). declaration_width * length r.declarations ≤ rule_width * stop) (λ (r : RuleSet). length r.declarations < 2 ^ 32)
-        (λ r h. omega (arith, stop-small)) rs declarations-few
-
-    -- and so is that of its styles
-    pub styles-bits : All (λ r. length (styles_of r.declarations) < 2 ^ 32) rs
-    styles-bits =
-        all_weaker (RuleHolds (rule_width * stop) (length s)) (λ (r : RuleSet). length (styles_of r.declarations) < 2 ^ 32)
-        (λ r h. omega (arith, rule-styles (rule_width * stop) r h.size, stop-small)) rs rules-hold
-
-    -- and that of its selectors
-    pub rule-selectors-bits : All (λ r. length r.selectors < 2 ^ 32) rs
-    rule-selectors-bits =
-        all_weaker (RuleHolds (rule_width * stop) (length s)) (λ (r : RuleSet). length r.selectors < 2 ^ 32)
-        (λ r h. omega (arith, rule-sized r, h.size, stop-small)) rs rules-hold
 
     -- the selectors of a sheet that was read are in range
     read-fit : (origin : ℕ) → origin ≤ author_origin → All SelectorFits (sheet_selectors origin rs)

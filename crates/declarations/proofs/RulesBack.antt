@@ -45,7 +45,7 @@ module _ (names : Bool) (at : ℕ) where
   kept-texts [] = refl
   kept-texts (d ∷ ds) = rw (kept-texts ds)
 
--- what `parse_rules` leaves reads back, by its count, as the declarations that the text means
+-- what `parse_rules` leaves reads back, by its count, as the declarations that the text means, their starts moved, and with names of unknown ones only if asked
 pub rules-back : (names : Bool) (at : ℕ) (s rules : List ℕ) (place : ℕ) (tokens brackets store : List ℕ) (fill : ℕ) → RulesRoom s at rules place tokens brackets store fill →
     let l = rules_left names at s rules place tokens brackets store fill in
     let ds = rules_of names at (declarations_of s) in

@@ -138,13 +138,13 @@ module _ {A : Type 0} (b : Bool) (d v : ℕ) (bad : A) (good : ℕ → A) where
           let w : v ≤ 0 = omega (arith, within.1) in
           not-below (and_right _ _ (le-ltb 0 v w))
 
+-- the digits that the code has are the number's, up to the most
+digits_are : (n : List ℕ) (x : Numeral) → x ≡ numeral_of n → x.digits ≡ capped (digits_number n)
+unfolding numeral_of
+digits_are n x e = ap (λ (y : Numeral). y.digits) e
+
 -- ---- `with_unit`: a number in ten-thousandths, times the factor of its unit
 module _ (place : ℕ) (kind : Kind) (factor : ℕ) (n : List ℕ) (x : Numeral) (e : x ≡ numeral_of n) where
-  -- the parts of the number
-  digits_are : x.digits ≡ capped (digits_number n)
-  unfolding numeral_of
-  digits_are = ap (λ (y : Numeral). y.digits) e
-
   -- the decimals that the code counted are the number's
   decimals-are : x.decimals ≡ decimals n
   unfolding numeral_of
@@ -177,14 +177,14 @@ module _ (place : ℕ) (kind : Kind) (factor : ℕ) (n : List ℕ) (x : Numeral)
 
     -- the product that the code made is that of the number's digits, up to the most, and the scale
     amount-is : x.digits * s ≡ capped (digits_number n) * s
-    amount-is = ap (λ (v : ℕ). v * s) digits_are
+    amount-is = ap (λ (v : ℕ). v * s) (digits_are n x e)
 
     -- the product is no more than this
     pub amount-fits : x.digits * s ≤ 1000100000000
     amount-fits =
         let p = capped_le (digits_number n) in
         let k : Scale (decimals n) s = rw scale-is (scale_at (decimals n) few-decimals) in
-        let q : x.digits * s ≤ (most_digits + 1) * s = mul-le-mul_right s (omega (arith, digits_are)) in
+        let q : x.digits * s ≤ (most_digits + 1) * s = mul-le-mul_right s (omega (arith, digits_are n x e)) in
         omega (arith, k.small)
 
     -- the return where the number is above 10,000: refusal 12
@@ -252,15 +252,10 @@ module _ (place : ℕ) (n unit : List ℕ) (o : Option (Kind × ℕ)) (e : o ≡
 
 -- ---- `number_length`: a number without a unit is a length only if it is zero
 module _ (n : List ℕ) (x : Numeral) (e : x ≡ numeral_of n) where
-  -- the digits that the code has are the number's, up to the most
-  number_digits : x.digits ≡ capped (digits_number n)
-  unfolding numeral_of
-  number_digits = ap (λ (y : Numeral). y.digits) e
-
   -- a number without a unit that is exactly zero is the length 0
   number-zero : x.digits ≡ 0 → measured Units 0 ≡ number_length n
   unfolding number_length
-  number-zero z = pick_true _ _ _ _ (is-yes _ _ (zero_of (digits_number n) (sym number_digits ∙ z))) refl
+  number-zero z = pick_true _ _ _ _ (is-yes _ _ (zero_of (digits_number n) (sym (digits_are n x e) ∙ z))) refl
     where
       zero_of : (v : ℕ) → capped v ≡ 0 → v ≡ 0
       zero_of v k =
@@ -269,7 +264,7 @@ module _ (n : List ℕ) (x : Numeral) (e : x ≡ numeral_of n) where
   -- a number without a unit that is not zero is no length
   number-some : (x.digits ≡ 0 → ⊥) → Ok None ≡ number_length n
   unfolding number_length
-  number-some d = pick-false _ _ _ _ (is-no _ _ (λ z. d (number_digits ∙ ap capped z ∙ capped-within 0 (omega arith)))) refl
+  number-some d = pick-false _ _ _ _ (is-no _ _ (λ z. d (digits_are n x e ∙ ap capped z ∙ capped-within 0 (omega arith)))) refl
 
   -- by the code's test
   pub number-told : Ok (then_some (eqb x.digits 0) (record { kind = Units; amount = 0 })) ≡ number_length n

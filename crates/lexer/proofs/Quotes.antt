@@ -154,7 +154,7 @@ taken-stop q s h = go (quoted_of q s) refl
     go (Some c) e = absurd (quoted-some q s (λ z. none-some _ (sym z ∙ e)) h)
     go None e = e
 
--- a string ends at the end of the text, at the quote or at a line feed
+-- the characters of a string end at the end of the text, at the quote or at a line feed
 pub string-at : (q : ℕ) (s : List ℕ) → (string_end q s ≡ length s) ⊎ ((get_or s (string_end q s) 0 ≡ q) ⊎ (get_or s (string_end q s) 0 ≡ line_feed))
 unfolding string_end
 string-at q s =

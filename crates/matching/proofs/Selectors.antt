@@ -10,7 +10,6 @@ use Rattle.syntax.specs.Selector.{Component, star, class, element, hash, child, 
 use Rattle.syntax.specs.RuleLayout.{component_kind, star_kind}
 use Rattle.cascade.specs.Specificity.{specificity_of, no_specificity, sum}
 use Rattle.page.specs.Path.{Element, Path}
-use Rattle.page.specs.PathOf.{path_of}
 use Rattle.matching.specs.Matches.{here, on_parent, on_ancestors, step, matches}
 use Rattle.matching.specs.Nth.{nth_matches, NthChild}
 use Rattle.matching.specs.Selectors.{Parent, Ancestor, is_id_selector, is_class_selector, is_type_selector, count_of}
@@ -95,14 +94,6 @@ nth-step a b cs e up = (
   (λ h. let w = and-true (nth_matches a b e.place) (matches cs (e ∷ up)) h in (nth-sound a b e.place w.0, w.1)),
   (λ w. and_both (nth_matches a b e.place) (matches cs (e ∷ up)) (nth-complete a b e.place w.0) w.1),
 )
-
--- ---- paths
-
--- matching depends on the path alone: two rows that have the same path, of one page or two, are matched by the same selectors
-pub by-path : (cs : List Component) (nodes attributes names nodes' attributes' names' : List ℕ) (row row' : ℕ)
-    → path_of nodes attributes names row ≡ path_of nodes' attributes' names' row'
-    → matches cs (path_of nodes attributes names row) ≡ matches cs (path_of nodes' attributes' names' row')
-by-path cs nodes attributes names nodes' attributes' names' row row' e = ap (matches cs) e
 
 -- ---- specificity
 

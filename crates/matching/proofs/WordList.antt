@@ -173,11 +173,7 @@ module _ (white : ℕ → Bool) where
   unfolding words
   words-front vs = ap without_empty (first_piece vs)
 
-  -- a text that begins with white space, or is empty, has the words of what stands behind its empty first piece
-  no-word-first : (vs : List ℕ) → front white vs ≡ [] → words white vs ≡ words white (behind white vs)
-  no-word-first vs e = words-front vs ∙ ap (λ p. without_empty (p ∷ others vs)) e ∙ (unfold without_empty in others-left vs)
-
-  -- a text that does not has its first piece as its first word, and behind it the words of what is left
+  -- a text whose first piece is not empty has that as its first word, and behind it the words of what is left
   word_first : (vs : List ℕ) (x : ℕ) (p : List ℕ) → front white vs ≡ x ∷ p → words white vs ≡ (x ∷ p) ∷ words white (behind white vs)
   word_first vs x p e = words-front vs ∙ ap (λ q. without_empty (q ∷ others vs)) e ∙ (unfold without_empty in ap (λ l. (x ∷ p) ∷ l) (others-left vs))
 

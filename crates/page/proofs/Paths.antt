@@ -10,13 +10,12 @@ use native.Mathlib.Nat.{not-suc-le-zero}
 use native.Mathlib.Numerals.{add-one}
 use lib.ListN.{length}
 use Rattle.combinators.specs.Choice.{pick, is}
-use Rattle.combinators.specs.All.{member}
 use Rattle.combinators.proofs.Rules.{pick_true, pick-false, pick-holds, and_both, and_left, and_right, is-yes, is-no}
 use Rattle.page.specs.Path.{Element, Path}
-use Rattle.page.specs.Rows.{node_count, node_at, element_kind, other_kind}
+use Rattle.page.specs.Rows.{node_count, node_at, element_kind}
 use Rattle.page.specs.Ancestors.{ancestors_of, line_of, depth_of, is_element_child, element_children, place_of}
 use Rattle.page.specs.PathOf.{element_at, elements_of, path_of}
-use Rattle.page.proofs.Ancestry.{below-ancestors, top-ancestors, depth-most, line-ends}
+use Rattle.page.proofs.Ancestry.{below-ancestors, top-ancestors, depth-most}
 use Rattle.page.proofs.AcceptedPages.{Accepted}
 use Rattle.page.proofs.RowFacts.{document-kind, parent-before, parent-kind, one_deeper}
 
@@ -49,13 +48,6 @@ module _ (nodes attributes text : List ℕ) where
       (λ t. sym (pick_true _ _ _ _ t (sym (ap (λ (l : List Element). element_at nodes attributes text row ∷ l) rest))))
       (λ t. sym (pick-false _ _ _ _ t (sym rest)))
 
-  -- the path of an ancestor is the end of the row's own
-  pub path-ends : (row x : ℕ) → member x (line_of nodes row) ≡ true → (pre : Path) × (path_at row ≡ pre ++ path_at x)
-  unfolding path_of
-  path-ends row x m =
-      let l = line-ends nodes row x m in
-      (elements_of nodes attributes text l.0, ap (elements_of nodes attributes text) l.1 ∙ both l.0 (line_of nodes x))
-
   module _ (ok : Accepted nodes attributes text) where
     -- the document's path is empty
     pub path-document : path_at 0 ≡ []
@@ -73,12 +65,6 @@ module _ (nodes attributes text : List ℕ) where
       pub path-element : (node_at nodes row).kind ≡ element_kind → path_at row ≡ element_at nodes attributes text row ∷ path_at (node_at nodes row).parent
       unfolding path_of
       path-element e = counts row (ancestors_of nodes row) e ∙ ap (λ (l : List ℕ). element_at nodes attributes text row ∷ elements_of nodes attributes text l) above
-
-      -- the path of other content is its parent's
-      pub path-other : (node_at nodes row).kind ≡ other_kind → path_at row ≡ path_at (node_at nodes row).parent
-      unfolding path_of
-      path-other e =
-          passes row (ancestors_of nodes row) (λ (f : (node_at nodes row).kind ≡ element_kind). omega arith) ∙ ap (elements_of nodes attributes text) above
 
     -- depth is the length of the path, of an element as of the document; by the rows before
     Long : ℕ → Type 0
@@ -159,8 +145,3 @@ module _ (nodes attributes text : List ℕ) (ok : Accepted nodes attributes text
   children-most p (suc k) =
       let i = children-most p k in
       pick-holds (λ (one : ℕ). element_children nodes p (suc k) + one ≤ suc k) (is_element_child nodes p (suc k)) 1 0 (λ _. omega arith) (λ _. omega arith)
-
-  -- so a place is at most its row
-  pub place-most : (row : ℕ) → place_of nodes row ≤ row
-  unfolding place_of
-  place-most row = rw (add-one row) (children-most (node_at nodes row).parent row)

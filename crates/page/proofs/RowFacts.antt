@@ -13,7 +13,7 @@ use Rattle.combinators.specs.Part.{part}
 use Rattle.combinators.specs.All.{member}
 use Rattle.combinators.proofs.Rules.{and-true, either, is_true}
 use Rattle.characters.specs.Utf8.{valid}
-use Rattle.page.specs.Rows.{node_count, node_at, document_kind, element_kind, other_kind, attribute_rows, attribute_at, name_of, attribute_name, attribute_value}
+use Rattle.page.specs.Rows.{node_count, node_at, document_kind, element_kind, other_kind, attribute_rows, attribute_at, attribute_value}
 use Rattle.page.specs.Ancestors.{line_of, depth_of}
 use Rattle.page.specs.Accepted.{attributes_before, bytes_before, ends_in_zeros, is_document, is_parent, parent_right, depth_limit, element_follows, kind_right, row_right, text_right, attribute_text_right, attribute_texts_right, texts_right}
 use Rattle.page.proofs.Ancestry.{below-depth, depth-most}
@@ -53,10 +53,6 @@ module _ (nodes attributes text : List ℕ) (ok : Accepted nodes attributes text
   pub document-kind : (node_at nodes 0).kind ≡ document_kind
   document-kind = document.0
 
-  -- row 0 has row 0 for its parent
-  pub document-parent : (node_at nodes 0).parent ≡ 0
-  document-parent = document.1
-
   -- row 0 ends in zeros
   pub document-zeros : ends_in_zeros (node_at nodes 0) ≡ true
   document-zeros = document.2
@@ -73,11 +69,6 @@ module _ (nodes attributes text : List ℕ) (ok : Accepted nodes attributes text
     pub name-inside : (node_at nodes row).name_start + (node_at nodes row).name_length ≤ length text
     name-inside = (text-facts text _ _ texts-of.0).0
 
-    -- the name of a row is UTF-8
-    pub name-valid : valid (name_of nodes text row) ≡ true
-    unfolding name_of
-    name-valid = (text-facts text _ _ texts-of.0).1
-
     module _ (j : ℕ) (l : j < (node_at nodes row).attribute_count) where
       -- the row of one of its attributes
       at : ℕ
@@ -88,21 +79,6 @@ module _ (nodes attributes text : List ℕ) (ok : Accepted nodes attributes text
           × (text_right text (attribute_at attributes at).value_start (attribute_at attributes at).value_length ≡ true)
       unfolding attribute_text_right at
       attribute-texts = let t = and-true _ _ (each_right attributes text _ _ j texts-of.1 l) in (t.0, t.1)
-
-      -- so does the name of each of its attributes
-      pub attribute-name-inside : (attribute_at attributes ((node_at nodes row).first_attribute + j)).name_start + (attribute_at attributes ((node_at nodes row).first_attribute + j)).name_length ≤ length text
-      unfolding at
-      attribute-name-inside = (text-facts text _ _ attribute-texts.0).0
-
-      -- the name of an attribute is UTF-8
-      pub attribute-name-valid : valid (attribute_name attributes text ((node_at nodes row).first_attribute + j)) ≡ true
-      unfolding attribute_name at
-      attribute-name-valid = (text-facts text _ _ attribute-texts.0).1
-
-      -- the value of an attribute ends within the byte text
-      pub attribute-value-inside : (attribute_at attributes ((node_at nodes row).first_attribute + j)).value_start + (attribute_at attributes ((node_at nodes row).first_attribute + j)).value_length ≤ length text
-      unfolding at
-      attribute-value-inside = (text-facts text _ _ attribute-texts.1).0
 
       -- the value of an attribute is UTF-8
       pub attribute-value-valid : valid (attribute_value attributes text ((node_at nodes row).first_attribute + j)) ≡ true
@@ -186,8 +162,3 @@ module _ (nodes attributes text : List ℕ) (ok : Accepted nodes attributes text
   pub shallow : (row : ℕ) → row < node_count nodes → depth_of nodes row ≤ depth_limit
   shallow zero there = omega (arith, depth-most nodes 0)
   shallow (suc row) there = (rules-of (suc row) there (omega arith)).2
-
-  -- a parent's row is there
-  pub parent-there : (row : ℕ) → row < node_count nodes → (node_at nodes row).parent < node_count nodes
-  parent-there zero there = omega (arith, document-parent, ok.some)
-  parent-there (suc row) there = omega (arith, parent-before (suc row) there (omega arith))

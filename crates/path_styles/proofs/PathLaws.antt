@@ -24,7 +24,7 @@ use Rattle.page.specs.Path.{Attribute, Element, Path}
 use Rattle.page.specs.PathOf.{element_at, path_of}
 use Rattle.page.specs.Rows.{node_at}
 use Rattle.matching.specs.Rows.{Rooted}
-use Rattle.matching.proofs.PathLaws.{top-path, other_path}
+use Rattle.matching.proofs.PathLaws.{other_path}
 use Rattle.styles.specs.declared.settings.Settings.{Settings}
 use Rattle.styles.specs.Computed.{cascaded}
 use Rattle.styles.specs.Room.{values_along, attributes_along}
@@ -77,11 +77,6 @@ module _ (c : Cascade) (settings : Settings) (e : Element) where
   pub counted-on : settings.document_styles ≡ true → counted_attributes settings e ≡ e.attributes
   unfolding counted_attributes pick
   counted-on h = rw h
-
-  -- on: the contents of the element are those of all its attributes
-  pub contents-on : settings.document_styles ≡ true → inline_contents settings e ≡ attributes_contents e.attributes
-  unfolding inline_contents
-  contents-on h = ap attributes_contents (counted-on h)
 
   -- off: no attribute of the element counts
   counted-off : settings.document_styles ≡ false → counted_attributes settings e ≡ []
@@ -241,12 +236,7 @@ room-again s e fill a b r l =
     }
 
 -- ---- a path
--- by row: the document's is empty, an element's is the element and its parent's path
 module _ (nodes attributes text : List ℕ) (row : ℕ) (h : Rooted nodes row) where
-  -- the document's path is empty
-  pub path-top : row ≡ 0 → path_of nodes attributes text row ≡ []
-  path-top e = top-path nodes attributes text row h e
-
   -- an element's path is the element, and its parent's path
   pub path-by : ¬ (row ≡ 0) → (p : ℕ) → p ≡ (node_at nodes row).parent → path_of nodes attributes text row ≡ element_at nodes attributes text row ∷ path_of nodes attributes text p
   path-by z p e = rw e (other_path nodes attributes text row h z)

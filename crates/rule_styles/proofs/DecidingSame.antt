@@ -1,4 +1,4 @@
--- The styles of a rule that decide leave what all its styles leave: a computed style, a row, and so what many rules leave.
+-- The styles of a rule that decide leave what all its styles leave: a computed style, and so what many rules leave.
 use mathlib.Core.Path.{◌≡◌, refl, sym, ap, ◌∙◌}
 use mathlib.Core.Bool.{Bool, true, false}
 use mathlib.Core.List.{List, [], ◌∷◌, ◌++◌, map, foldl}
@@ -11,20 +11,16 @@ use Rattle.combinators.specs.Choice.{pick}
 use Rattle.combinators.proofs.Rules.{pick-false, and_left, and-gives, lt-or-ge}
 use Rattle.syntax.specs.Selector.{Selector}
 use Rattle.syntax.specs.RuleLayout.{pseudo_number}
-use Rattle.syntax.specs.declared.styles.Value.{Value}
 use Rattle.cascade.specs.declared.specificity.Specificity.{Specificity}
 use Rattle.cascade.specs.declared.slots.Cascade.{Cascade}
 use Rattle.cascade.specs.Slot.{Slot, update_by}
 use Rattle.cascade.specs.Record.{slot_count, record_count, Record, ComputedStyle, Formed, update_record, update_style, Declared, is_named, merge_by, Styled, RuleStyle, from_rule}
-use Rattle.cascade.specs.Row.{row_of}
 use Rattle.cascade.proofs.RowLaws.{Which, is_main, is_before, is_after, which, update-main, update-before, update-after}
 use Rattle.cascade.proofs.Cascading.{merges-formed}
-use Rattle.cascade.proofs.RowBack.{merges-layout}
 use Rattle.page.specs.Path.{Path}
 use Rattle.matching.specs.Matches.{matches}
 use Rattle.matching.specs.Specificity.{specificity}
 use Rattle.styles.specs.Said.{StyledRule, rule_style, selector_says, selectors_say, rules_say}
-use Rattle.styles.specs.Merged.{merged_row}
 use Rattle.rule_styles.specs.Deciding.{deciding, deciding_rule}
 use Rattle.rule_styles.proofs.DecidingUpdate.{candidate_of, update_from, rule-settled}
 use Rattle.rule_styles.proofs.DecidingRecord.{merged_into, record-decided}
@@ -110,17 +106,6 @@ module _ {A : Type 0} (c : Cascade) (o r : ℕ) (p : Specificity) where
       go h (is_after e) =
           same-put (λ q t. record { main = t.main; before = t.before; after = q }) (λ t. t.after) (λ k u t. update-after r k u t e) (λ t. refl) (λ q t. refl) (λ q v t. refl) h s f.after xs
 
--- ---- the same of rows: styles that decide, merged, leave the row that all leave
-module _ (c : Cascade) (o : ℕ) where
-  -- a row that a rule's styles are merged into
-  pub deciding-row : (r : ℕ) (p : Specificity) (s : ComputedStyle Value) → Formed s → (xs : List (Styled Value))
-      → merged_row c (row_of s) (declared_in o r p (deciding xs)) ≡ merged_row c (row_of s) (declared_in o r p xs)
-  unfolding merged_row
-  deciding-row r p s f xs =
-      merges-layout (update_by c) (declared_in o r p (deciding xs)) s f
-      ∙ ap row_of (deciding-same c o r p s f xs)
-      ∙ sym (merges-layout (update_by c) (declared_in o r p xs) s f)
-
 -- ---- many selectors, and many rules
 module _ {A : Type 0} (c : Cascade) (o : ℕ) (p : Path) where
   -- what is left where rules say this
@@ -166,12 +151,3 @@ module _ {A : Type 0} (c : Cascade) (o : ℕ) (p : Path) where
       ∙ ap (λ (t : ComputedStyle A). left t (rules_say p (map deciding_rule rs))) (selectors-same r.styles r.selectors s f)
       ∙ rules-same rs (left s (selectors_say p r.styles r.selectors)) (left-formed s (selectors_say p r.styles r.selectors) f)
       ∙ sym (left-append s (selectors_say p r.styles r.selectors) (rules_say p rs))
-
--- rules with the styles that decide leave the row that the rules leave, by either cascade
-pub rules-row : (c : Cascade) (o : ℕ) (p : Path) (rs : List (StyledRule Value)) (s : ComputedStyle Value) → Formed s
-    → merged_row c (row_of s) (map (from_rule o) (rules_say p (map deciding_rule rs))) ≡ merged_row c (row_of s) (map (from_rule o) (rules_say p rs))
-unfolding merged_row
-rules-row c o p rs s f =
-    merges-layout (update_by c) (map (from_rule o) (rules_say p (map deciding_rule rs))) s f
-    ∙ ap row_of (rules-same c o p rs s f)
-    ∙ sym (merges-layout (update_by c) (map (from_rule o) (rules_say p rs)) s f)

@@ -22,7 +22,8 @@ use Rattle.combinators.specs.declared.lent.Stores.{Stores}
 use Rattle.styles.specs.declared.settings.Settings.{Settings}
 use Rattle.syntax.proofs.Streams.{sets-drop}
 use Rattle.page.specs.Lent.{Page}
-use Rattle.styles.proofs.KeptStores.{stores-stay, lengths-stay, stores-kept, lengths-kept}
+use Rattle.combinators.proofs.LentLaws.{same-none, same-then}
+use Rattle.styles.proofs.KeptStores.{lengths-stay, lengths-kept}
 use Rattle.styles.specs.Room.{values_of}
 use Rattle.styles.specs.StyleCall.{inline_contents}
 use Rattle.styles.proofs.Room.{inline-short}
@@ -112,10 +113,6 @@ module _ {code : List ℕ} {g : Page} {rows₀ state₀ : List ℕ} (s₀ : Stor
   pub attribute-rows-inside : (first count : ℕ) → first ≡ (node_at g.nodes i).first_attribute → count ≡ (node_at g.nodes i).attribute_count
       → first * attribute_width + count * attribute_width ≤ length g.attributes
   attribute-rows-inside first count ef ec = omega (arith, handed.attributes-inside r, ef, ec)
-
-  -- the numbers of the node lie within those of the page
-  pub node-inside : i * node_width + node_width ≤ length g.nodes
-  node-inside = omega (arith, r.there)
 
   module _ {first count depth : ℕ} (ef : first ≡ (node_at g.nodes i).first_attribute) (ec : count ≡ (node_at g.nodes i).attribute_count) (ed : depth ≡ depth_of g.nodes i) where
     abbrev own : List ℕ
@@ -304,7 +301,7 @@ begins code settings g rows state s =
       filled = omega arith;
       rows_long = refl;
       state-long = refl;
-      kept = record { within = omega arith; lengths = lengths-stay s; same = stores-stay s };
+      kept = record { within = omega arith; lengths = lengths-stay s; same = same-none };
     }
 
 module _ {code : List ℕ} {settings : Settings} {g : Page} {rows₀ state₀ : List ℕ} {s₀ : Stores} {rows₁ state₁ : List ℕ} {s₁ : Stores} {fill i : ℕ} (v : Looping code settings g rows₀ state₀ s₀ rows₁ state₁ s₁ fill i) where
@@ -319,7 +316,7 @@ module _ {code : List ℕ} {settings : Settings} {g : Page} {rows₀ state₀ : 
         filled = f;
         rows_long = er ∙ v.rows_long;
         state-long = es ∙ v.state-long;
-        kept = record { within = k.within; lengths = lengths-kept _ _ _ v.kept.lengths k.lengths; same = stores-kept _ _ _ v.kept.same k.same };
+        kept = record { within = k.within; lengths = lengths-kept _ _ _ v.kept.lengths k.lengths; same = same-then v.kept.same k.same };
       }
 
   -- behind the last row what the loop has is the whole run

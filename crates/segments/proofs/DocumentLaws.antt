@@ -180,7 +180,3 @@ fresh-right code c (suc k) i part l =
 pub document-told : (code : List ℕ) → length code ≤ pair_values → (k i : ℕ) (part : List ℕ) → length code < length part
     → ToldAll code (fresh_from code k i part) (styled_from code k i) (placed_from code k i) []
 document-told code c k i part l = (fresh-right code c k i part l).told
-
--- in a part of the same length
-pub length-fresh : (code : List ℕ) → length code ≤ pair_values → (k i : ℕ) (part : List ℕ) → length code < length part → length (fresh_from code k i part) ≡ length part
-length-fresh code c k i part l = (fresh-right code c k i part l).long

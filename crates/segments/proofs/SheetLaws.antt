@@ -1,5 +1,5 @@
 -- The selectors found at the places that a node collects are those of the sheet that have a style and match, in reading order.
-use Prim.Native.Nat.{ℕ, zero, suc, ◌≤◌, ◌<◌}
+use Prim.Native.Nat.{ℕ, zero, suc, ◌≤◌}
 use mathlib.Core.Path.{◌≡◌, refl, ap, sym, ◌∙◌}
 use mathlib.Core.Bool.{Bool, true, false}
 use mathlib.Core.List.{List, [], ◌∷◌, ◌++◌}
@@ -21,10 +21,8 @@ use Rattle.compiled.proofs.Walking.{steps, source, counted_none, counted-length,
 use Rattle.compiled.proofs.Following.{selector-made}
 use Rattle.segments.specs.Placed.{Placed, has_style, placed_at, placed_from, matching_places}
 use Rattle.segments.specs.Document.{styled_from, style_count_at, first_styled}
-use Rattle.segments.specs.Down.{placed_in, passed_down, with_style, matching_of, read_in, selectors_in}
-use Rattle.segments.proofs.SweepLaws.{pair_values}
+use Rattle.segments.specs.Down.{placed_in, with_style, matching_of, read_in}
 use Rattle.segments.proofs.DocumentLaws.{placed-styled, placed-bare}
-use Rattle.segments.proofs.DownLaws.{matched-down}
 
 -- ---- a selector is read as well where less is asked of its origin
 
@@ -130,13 +128,6 @@ unfolding placed_in on_decoded
 sheet-read code m ss e =
     let w = sheet-steps code m ss e in
     rw w.count-read (placed-read code w.count agent_origin w.behind-count m ss (omega arith) w.selectors-read)
-
--- every node of a path finds the selectors that have a style and match there, whatever the parts held
-pub found-down : (code : List ℕ) → length code ≤ pair_values → (m : ℕ) (ss : List (CompiledSelector StyleDecl)) → decode code ≡ read m ss → (own : Path → List ℕ) (spare : List ℕ)
-    → ((q : Path) → length code < length (own q)) → length code < length spare → (path : Path)
-    → selectors_in code (passed_down code own spare path).matched ≡ matching_of path (with_style ss)
-found-down code c m ss e own spare l n path =
-    ap (selectors_in code) (matched-down code c own spare l n path) ∙ matching-read (selector_at (style_at code) code agent_origin) (placed_in code) (with_style ss) path (sheet-read code m ss e)
 
 -- ---- the first selector that has a style, found without reading styles
 

@@ -1,13 +1,12 @@
 -- All selectors of a sheet at each node of a path, from part to part. Nothing is asked of what the parts held, nor of the bytes.
 use Rattle.std.specs.Prelude.{ℕ, List, [], ◌∷◌, ◌++◌}
 use Rattle.combinators.specs.Choice.{pick}
-use Rattle.syntax.specs.Style.{agent_origin, StyleDecl}
+use Rattle.syntax.specs.Style.{StyleDecl}
 use Rattle.page.specs.Path.{Path}
 use Rattle.matching.specs.Matches.{matches}
 use Rattle.compiled.specs.Decoded.{Decoded, on_decoded}
 use Rattle.compiled.specs.Number.{number_at}
-use Rattle.compiled.specs.Sheet.{CompiledSelector, selector_at}
-use Rattle.compiled.specs.Style.{style_at}
+use Rattle.compiled.specs.Sheet.{CompiledSelector}
 use Rattle.segments.specs.Placed.{Placed, has_style, placed_from}
 use Rattle.segments.specs.Pass.{Passed, pass_from}
 use Rattle.segments.specs.Document.{styled_from, fresh_from}
@@ -49,6 +48,3 @@ matching_of path (s ∷ ss) = pick (matches s.components path) (s ∷ []) [] ++ 
 unfoldable pub read_in : {A : Type 0} → (ℕ → Decoded A) → List ℕ → List A
 read_in u [] = []
 read_in u (p ∷ ps) = on_decoded (u p) (λ _ s. s ∷ []) (λ _. []) ++ read_in u ps
-
-abbrev pub selectors_in : List ℕ → List ℕ → List (CompiledSelector StyleDecl)
-selectors_in code ps = read_in (selector_at (style_at code) code agent_origin) ps

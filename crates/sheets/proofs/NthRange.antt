@@ -1,4 +1,4 @@
--- The numbers of `an+b` in the selectors of a sheet lie from -2147483647 to 2147483647, and its colours are three bytes each.
+-- The numbers of `an+b` in the selectors of a sheet lie from -2147483647 to 2147483647.
 use mathlib.Core.Path.{◌≡◌}
 use mathlib.Core.List.{List}
 use Prim.Native.Nat.{ℕ, ◌≤◌, ◌<◌}
@@ -8,7 +8,6 @@ use Rattle.combinators.specs.All.{All}
 use Rattle.combinators.proofs.AllLaws.{all_weaker}
 use Rattle.syntax.specs.Selector.{Component, star, class, element, hash, child, descendant, nth, attribute, attribute_equal, Selector, RuleSet}
 use Rattle.syntax.specs.Signed.{signed_number}
-use Rattle.syntax.proofs.RuleRows.{RulesFit}
 use Rattle.selectors.specs.NthAnswer.{greatest_signed}
 use Rattle.selectors.specs.Outcome.{reads}
 use Rattle.selectors.specs.Selector.{greatest}
@@ -67,7 +66,3 @@ rule-range r h =
 -- the numbers of every an+b of a sheet are in range
 pub sheet-range : (s : List ℕ) (stop : ℕ) (rs : List RuleSet) → sheet_of s ≡ reads stop rs → All RuleInRange rs
 sheet-range s stop rs e = all_weaker RuleSmall RuleInRange rule-range rs (sheet-keeps s stop rs e).small
-
--- every colour of a sheet is three bytes
-pub sheet-colours : (s : List ℕ) (stop : ℕ) (rs : List RuleSet) → sheet_of s ≡ reads stop rs → RulesFit rs
-sheet-colours s stop rs e = (sheet-keeps s stop rs e).fit

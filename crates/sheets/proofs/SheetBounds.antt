@@ -323,10 +323,6 @@ sheet-keeps s stop rs e =
       fit = k.fit;
     }
 
--- its rows are as long wherever their texts start
-pub sheet-rows : (s : List ℕ) (stop : ℕ) (rs : List RuleSet) → sheet_of s ≡ reads stop rs → (fill : ℕ) → length (rule_rows fill rs) ≤ rule_width * stop
-sheet-rows s stop rs e fill = omega (arith, (sheet-keeps s stop rs e).wide, length-rules 0 rs, length-rules fill rs)
-
 -- the empty sheet has no rule
 pub empty-sheet : sheet_of [] ≡ reads 0 []
 unfolding sheet_of sheet_from

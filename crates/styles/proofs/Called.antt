@@ -37,7 +37,7 @@ unfolding cascaded
 cascaded-formed c [] = empty-formed
 cascaded-formed c (x ∷ xs) = cascade-formed c (cascaded c xs) x (cascaded-formed c xs)
 
--- and that of an element its main record
+-- and that of an element has its main record, whatever is said of it and of those above
 pub cascaded-present : {A : Type 0} (c : Cascade) (x : Sources A) (xs : List (Sources A)) → (cascaded c (x ∷ xs)).main.present ≡ true
 unfolding cascaded
 cascaded-present c x xs = cascade-main-present c (cascaded c xs) x

@@ -1,10 +1,9 @@
 -- The view of what was written is what was meant, for components, selectors and rules.
 use mathlib.Core.Path.{◌≡◌, refl, ap, ◌∙◌}
 use mathlib.Core.List.{List, [], ◌∷◌, ◌++◌, map-id, reverse, reverse-reverse, append_assoc}
-use Prim.Native.Nat.{ℕ, ◌+◌, ◌≤◌}
+use Prim.Native.Nat.{ℕ, ◌+◌}
 use native.Mathlib.Omega.{arith}
-use lib.ListN.{length, drop, length-reverse}
-use lib.Seq.{sets}
+use lib.ListN.{length, length-reverse}
 use Rattle.combinators.specs.Choice.{pick, is}
 use Rattle.combinators.specs.All.{All}
 use Rattle.syntax.specs.Layout.{declaration_rows, declaration_texts}
@@ -13,7 +12,7 @@ use Rattle.syntax.specs.Selector.{Component, star, class, element, hash, child, 
 use Rattle.syntax.specs.Stream.{Read, read_many, texts_many}
 use Rattle.syntax.proofs.Back.{DeclarationsFit, declarations-read}
 use Rattle.syntax.proofs.SignedBack.{signed_back}
-use Rattle.syntax.proofs.Streams.{Held, held-left, held-right, held-part, many-back, sets-drop, sets-held}
+use Rattle.syntax.proofs.Streams.{Held, held-left, held-right, held-part, many-back}
 
 -- the number of a pseudo element
 pub pseudo-back : (p : PseudoElement) → pseudo_from (pseudo_number p) ≡ p
@@ -97,10 +96,3 @@ module _ (store : List ℕ) where
   pub rules-back : (rs : List RuleSet) (f : ℕ) (t : List ℕ) → RulesFit rs → Held store f (rule_texts rs) → rules_at (rule_rows f rs ++ t) store (length rs) ≡ rs
   unfolding rules_at
   rules-back rs f t u h = ap (λ (r : Read (List RuleSet)). r.value) (rules-read rs f t u h)
-
--- rules written into lent rows from p on, and their texts into a lent store from f on, are read back
-pub rules-written : (rs : List RuleSet) (rows : List ℕ) (p : ℕ) (store : List ℕ) (f : ℕ) → RulesFit rs → p + length (rule_rows f rs) ≤ length rows
-    → f + length (rule_texts rs) ≤ length store
-    → rules_at (drop p (sets rows p (rule_rows f rs))) (sets store f (rule_texts rs)) (length rs) ≡ rs
-rules-written rs rows p store f u h k =
-    rw (sets-drop rows p (rule_rows f rs) h) (rules-back (sets store f (rule_texts rs)) rs f _ u (sets-held store f (rule_texts rs) k))

@@ -1,24 +1,18 @@
 -- A head that is written last stands before what was written behind its place.
 use mathlib.Core.Path.{◌≡◌, sym, ◌∙◌}
-use mathlib.Core.List.{List, [], ◌∷◌, ◌++◌, reverse}
+use mathlib.Core.List.{List, [], ◌∷◌, ◌++◌}
 use Prim.Native.Nat.{ℕ, ◌+◌}
 use native.Mathlib.Omega.{arith}
 use lib.ListN.{length}
 use lib.Seq.{sets}
 use Rattle.combinators.proofs.Wiped.{sets-append, sets-apart}
 use Rattle.syntax.specs.Layout.{declaration_rows}
-use Rattle.syntax.specs.RuleLayout.{component_rows, selector_head, pseudo_number, selector_row, selector_rows, selector_texts, rule_head, rule_row}
-use Rattle.syntax.specs.Selector.{Selector, RuleSet}
+use Rattle.syntax.specs.RuleLayout.{selector_rows, selector_texts, rule_head, rule_row}
+use Rattle.syntax.specs.Selector.{RuleSet}
 
 -- a head written before what stands behind its place is as both written one behind the other
 headed : (l : List ℕ) (p : ℕ) (h xs : List ℕ) → sets (sets l (p + length h) xs) p h ≡ sets l p (h ++ xs)
 headed l p h xs = sets-apart l p (p + length h) h xs (omega arith) ∙ sym (sets-append l p h xs)
-
--- a selector's head, written last, before its components makes its row
-pub selector-left : (s : Selector) (f : ℕ) (l : List ℕ) (p : ℕ)
-    → sets (sets l (p + selector_head) (component_rows f (reverse s.components))) p (length s.components ∷ pseudo_number s.pseudo ∷ []) ≡ sets l p (selector_row f s)
-unfolding selector_row
-selector-left s f l p = headed l p (length s.components ∷ pseudo_number s.pseudo ∷ []) (component_rows f (reverse s.components))
 
 -- a rule's head, written last, before its selectors and declarations makes its row
 pub rule-left : (r : RuleSet) (f : ℕ) (l : List ℕ) (p : ℕ)

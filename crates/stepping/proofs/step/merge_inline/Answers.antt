@@ -1,6 +1,7 @@
 -- Where document styles are off no attribute counts.
 use native.Mathlib.Omega.{arith}
-use Rattle.styles.proofs.KeptStores.{stores-stay, lengths-stay}
+use Rattle.combinators.proofs.LentLaws.{same-none}
+use Rattle.styles.proofs.KeptStores.{lengths-stay}
 use Rattle.stepping.proofs.StepLaws as laws
 use Rattle.stepping.proofs.step.merge_inline.Goals as goal
 
@@ -18,4 +19,4 @@ pub returns : goal.returns
 returns c =
     let a = c.args in
     let t = laws.inline-off a.settings a.row.attributes.now a.row.text.now a.base a.fill a.out.now a.stores.now.texts.now c.if-settings.false (omega (arith, c.requires.for-texts)) in
-    record { out_after = t.0; texts_after = t.1.0; kept = record { within = t.1.1; lengths = lengths-stay _; same = stores-stay _ } }
+    record { out_after = t.0; texts_after = t.1.0; kept = record { within = t.1.1; lengths = lengths-stay _; same = same-none } }

@@ -1,6 +1,6 @@
 -- The row of the parent, by the same function, then that of the element; at the document, which has no row of its own, the empty style.
 use native.Mathlib.Omega.{arith}
-use Rattle.matching.proofs.PathLaws.{parent-rooted, parent-before}
+use Rattle.matching.proofs.PathLaws.{parent-rooted, parent-before, top-path}
 use Rattle.path_styles.proofs.PathLaws as laws
 use Rattle.styles.proofs.KeptStores.{kept-stay, kept-on}
 use Rattle.path_styles.proofs.path.Styling.+style_path.Goals as goal
@@ -8,7 +8,7 @@ use Rattle.path_styles.proofs.path.Styling.+style_path.Goals as goal
 pub returns-in_default : goal.returns-in_default
 returns-in_default t c =
     let a = c.args in
-    let n = laws.path-top _ _ _ _ c.args.element.rooted c.in_default.ensures in
+    let n = top-path _ _ _ _ c.args.element.rooted c.in_default.ensures in
     record {
       out_after = laws.top-row a.self.now.cascade a.self.now.kept a.self.now.settings _ _ _ _ c.told-out c.clear_row.ensures n;
       value = laws.top-fill a.self.now.kept a.self.now.settings _ n;
