@@ -168,7 +168,7 @@ module _ (s : SheetTexts) (b : CompileBuffers) (compiles : (compile_with s b).an
   bytes-never-refused settings g w =
       never-refused (code_of (compile_with s b)) settings g w (bytes-taken s (code_of (compile_with s b)) (compile-tells s b compiles))
 
--- what a run leaves, and answers, does not depend on what stood in its buffers, whatever bytes it runs
+-- what a run that refuses nothing leaves, and answers, does not depend on what stood in its buffers, whatever bytes it runs
 pub buffers-free : (code : List ℕ) (settings : Settings) (g : Page) (b b' : RunBuffers) → SameLengths b b' → (run_with code settings g b).answer.refusal ≡ no_refusal
     → run_with code settings g b ≡ run_with code settings g b'
 buffers-free code settings g b b' same e = runs-free code settings g b b' same e

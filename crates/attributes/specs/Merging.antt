@@ -20,7 +20,8 @@ use Rattle.styles.specs.Said.{attribute_style}
 use Rattle.styles.specs.StyleCall.{in_numbers}
 use Rattle.styles.specs.Room.{values_of}
 
--- ---- stores that have room for attributes, one after the other: texts from a fill on, which is told as `base` and the fill
+-- ---- stores that have room for attributes, one after the other, with texts from a fill on. Two bytes more for each, since a '\\' that ends a value grows from one byte to
+-- three. `base` is what a content's start counts from beside the fill, in a run the bytes of the compiled sheet: `bits`, so every start is below 2^32.
 pub record InlineRoom (xs : List Attribute) (base fill : ℕ) (rules tokens brackets texts : List ℕ) : Type 0 where
   pub for-rules : number_least (values_of xs) ≤ length rules
   pub for-tokens : number_least (values_of xs) ≤ length tokens

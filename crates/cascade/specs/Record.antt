@@ -1,9 +1,9 @@
 -- Computed styles (`ComputedStyle` of src/lib.rs): three records of slots, and the cascades as folds of declarations into them. Values are of any type: in a
 -- row three numbers, in a computed style what a declaration says. Assumes nothing: these are definitions.
-use Rattle.std.specs.Prelude.{◌≡◌, Bool, true, false, ℕ, ◌<◌, ltb, length, get_or, set, replicate}
+use Rattle.std.specs.Prelude.{◌≡◌, Bool, true, false, ℕ, ◌+◌, ◌<◌, ltb, length, get_or, set, replicate}
 use mathlib.Core.List.{List, [], ◌∷◌, ◌++◌, map, foldl}
 use Rattle.combinators.specs.Choice.{pick, or, and, is}
-use Rattle.syntax.specs.Layout.{colour_slot, white_space_slot, visibility_slot}
+use Rattle.syntax.specs.Layout.{colour_slot, white_space_slot, visibility_slot, last_slot}
 use Rattle.syntax.specs.Style.{agent_origin, user_origin, author_origin}
 use Rattle.cascade.specs.declared.specificity.Specificity.{Specificity}
 use Rattle.cascade.specs.declared.slots.Cascade.{Cascade}
@@ -13,7 +13,7 @@ use Rattle.cascade.specs.Slot.{Candidate, Slot, empty, held, update_by, fill_upd
 
 -- ---- a record has a slot for each slot number of the compiled sheet (`syntax`: colour, background, display, white space, content, visibility). S-9: "a sixth slot"
 abbrev pub slot_count : ℕ
-slot_count = 6
+slot_count = last_slot + 1
 
 pub record Record (A : Type 0) : Type 0 where
   pub present : Bool
@@ -43,7 +43,7 @@ pub record Formed {A : Type 0} (s : ComputedStyle A) : Type 0 where
   pub before : length s.before.slots ≡ slot_count
   pub after : length s.after.slots ≡ slot_count
 
--- a record by its number, and a slot by its record's number and its own
+-- a record by its number, where any but the first two is the last (`is_named` keeps others away), and a slot by its record's number and its own
 unfoldable pub record_in : {A : Type 0} → ComputedStyle A → ℕ → Record A
 record_in s r = pick (is r main_record) s.main (pick (is r before_record) s.before s.after)
 

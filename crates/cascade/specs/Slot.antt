@@ -29,7 +29,7 @@ pub data Slot (A : Type 0) : Type 0 where
 unfoldable pub held_by_importance : Weight → Weight → Bool
 held_by_importance own new = pick new.important false own.important
 
--- `(important && theirs > mine) || (!important && mine > theirs)`, which no origin is against itself
+-- `(important && theirs > mine) || (!important && mine > theirs)`, which is false where the origins are the same, so that the crate's own test for that is not needed
 unfoldable pub held_by_origin : Weight → Weight → Bool
 held_by_origin own new = pick new.important (ltb own.origin new.origin) (ltb new.origin own.origin)
 
@@ -42,7 +42,7 @@ unfoldable pub maybe_update : {A : Type 0} → Slot A → Candidate A → Slot A
 maybe_update empty x = held x
 maybe_update (held c) x = pick (held_against c.weight x.weight) (held c) (held x)
 
--- ---- CSS Cascading Level 3, section 6.1: origin and importance
+-- ---- CSS Cascading Level 3, section 6.1 (numbers of sections are from memory): origin and importance
 abbrev pub normal_agent : ℕ
 normal_agent = 0
 
@@ -61,7 +61,7 @@ important_user = 4
 abbrev pub important_agent : ℕ
 important_agent = 5
 
--- "Rank: normal agent, user, author, then important author, user, agent; then inline; then specificity; then later wins": the first part, as a number
+-- "Rank: normal agent, user, author, then important author, user, agent; then inline; then specificity; then later wins": the first part, as a number. What is no origin ranks as author.
 unfoldable pub rank : ℕ → Bool → ℕ
 rank o i =
     pick i (pick (is o agent_origin) important_agent (pick (is o user_origin) important_user important_author))

@@ -18,7 +18,7 @@ unfoldable pub inline_specificity : Specificity
 inline_specificity = record { inline = true; id = 0; class = 0; typ = 0 }
 
 -- ---- the sum (`Add for &Specificity`): a specificity has a value "for inline and adds itself to another"
--- its counts fit into 32 bits, as those of every selector of an accepted sheet do
+-- its counts fit into 32 bits. The crate's have 16, which is enough for a selector of an accepted sheet: what counts takes two bytes at least, of 32,768
 pub record SumFits (a b : Specificity) : Type 0 where
   pub id-fits : a.id + b.id < 2 ^ 32
   pub class-fits : a.class + b.class < 2 ^ 32

@@ -1,4 +1,4 @@
--- A quoted text as the bytes of its UTF-8, so that computed cases can be read.
+-- A quoted text as the bytes of its UTF-8: the keywords of definitions, and the texts of computed cases.
 use Rattle.std.specs.Prelude.{ℕ, List, ◌++◌}
 use Prim.Native.Char.{code}
 use Prim.Native.String.{String, [], ◌∷◌}

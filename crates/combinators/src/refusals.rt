@@ -36,7 +36,7 @@ pub const PANIC: u32 = 4;
 // A number with a unit that is no exact length, or out of range: its first byte, the sign included.
 pub const BAD_LENGTH: u32 = 12;
 
-// The compiled sheet would exceed its buffer; no place.
+// The compiled sheet would exceed its buffer or 65,536 bytes; no place.
 pub const NO_ROOM: u32 = 10;
 
 // A refusal's number, the text that it is in and its place, as C is told them: all 0 where nothing is refused, and no `Option`.

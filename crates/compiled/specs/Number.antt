@@ -22,6 +22,7 @@ unfoldable pub group_bytes : ℕ → ℕ → List ℕ
 group_bytes zero v = v ∷ []
 group_bytes (suc k) v = pick (ltb v group_values) (v ∷ []) ((v % group_values + group_values) ∷ group_bytes k (v / group_values))
 
+-- of a number below 2^32, as all of a sheet are
 unfoldable pub number_bytes : ℕ → List ℕ
 number_bytes v = group_bytes 4 v
 

@@ -47,13 +47,14 @@ encode ss = number_bytes (length ss) ++ texts_many selector_bytes ss
 
 -- ---- read
 
--- the numbers before a selector's components, where the selector before is of the origin `least`
+-- the numbers before a selector's components
 unfoldable pub count_at : List ℕ → ℕ → ℕ → ℕ → Decoded Head
 count_at t origin pseudo n = mapped (λ count. record { origin = origin; pseudo = pseudo; count = count }) (number_at t n)
 
 unfoldable pub pseudo_at : List ℕ → ℕ → ℕ → Decoded Head
 pseudo_at t origin n = and_then (ranged_at t n (pseudo_number none) (pseudo_number after)) (λ m pseudo. count_at t origin pseudo m)
 
+-- where the selector before is of the origin `least`
 unfoldable pub head_at : List ℕ → ℕ → ℕ → Decoded Head
 head_at t least i = and_then (ranged_at t i least author_origin) (λ n origin. pseudo_at t origin n)
 

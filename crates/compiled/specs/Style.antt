@@ -1,4 +1,4 @@
--- Styles of a compiled sheet: whether it is important, the slot, and the slot's value.
+-- Styles of a compiled sheet: whether it is important, where its declaration starts, the slot, and the slot's value.
 use Rattle.std.specs.Prelude.{ℕ, ◌≡◌, refl, Bool, true, false, List, [], ◌∷◌, ◌++◌}
 use Rattle.combinators.specs.Choice.{pick, and, is, within}
 use Rattle.syntax.specs.Declaration.{pre_wrap}

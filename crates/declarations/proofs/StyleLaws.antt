@@ -10,7 +10,7 @@ use Rattle.combinators.specs.All.{All}
 use Rattle.combinators.proofs.Rules.{pick-holds, is_true}
 use Rattle.syntax.specs.Declaration.{Overflow, visible, hidden, scroll, auto, Decl, color, background_color, height, max_height, overflow, overflow_y, display, white_space, content, visibility, unknown, Declaration}
 use Rattle.syntax.specs.Layout as layout
-use Rattle.syntax.specs.Layout.{color_kind, background_color_kind, height_kind, max_height_kind, overflow_kind, overflow_yKind, display_kind, white_space_kind, content_kind, visibility_kind, flag, flag_of, overflow_number, overflow_of, declaration_width, declaration_start, decl_text, declaration_text, decl_row, declaration_row, decl_of, read_declaration, declaration_rows, declaration_texts, declarations_at, display_slot, style_width, style_text_of, style_text, style_slot_of, number_from, value_from, numbers_from, row_of_numbers, style_row, value_in, style_in, read_style, style_rows, style_texts, styles_at}
+use Rattle.syntax.specs.Layout.{color_kind, background_color_kind, height_kind, max_height_kind, overflow_kind, overflow_y_kind, display_kind, white_space_kind, content_kind, visibility_kind, flag, flag_of, overflow_number, overflow_of, declaration_width, declaration_start, decl_text, declaration_text, decl_row, declaration_row, decl_of, read_declaration, declaration_rows, declaration_texts, declarations_at, display_slot, style_width, style_text_of, style_text, style_slot_of, number_from, value_from, numbers_from, row_of_numbers, style_row, value_in, style_in, read_style, style_rows, style_texts, styles_at}
 use Rattle.syntax.specs.Stream.{Read, read_many, texts_many, rows_many}
 use Rattle.syntax.specs.Style as style
 use Rattle.syntax.specs.Style.{StyleDecl}
@@ -40,14 +40,14 @@ record Other (k : ℕ) : Type 0 where
   height : is k height_kind ≡ false
   max-height : is k max_height_kind ≡ false
   overflow : is k overflow_kind ≡ false
-  overflow-y : is k overflow_yKind ≡ false
+  overflow-y : is k overflow_y_kind ≡ false
   display : is k display_kind ≡ false
   white-space : is k white_space_kind ≡ false
   content : is k content_kind ≡ false
   visibility : is k visibility_kind ≡ false
 
 -- what holds of every kind holds of any number
-by_kind : (P : ℕ → Type 0) → P color_kind → P background_color_kind → P height_kind → P max_height_kind → P overflow_kind → P overflow_yKind → P display_kind
+by_kind : (P : ℕ → Type 0) → P color_kind → P background_color_kind → P height_kind → P max_height_kind → P overflow_kind → P overflow_y_kind → P display_kind
     → P white_space_kind → P content_kind → P visibility_kind → (k : ℕ) → (Other k → P k) → P k
 by_kind P p₁ p₂ p₃ p₄ p₅ p₆ p₇ p₈ p₉ p₁₀ k q =
     by_number P k color_kind p₁ (λ n₁.
@@ -55,7 +55,7 @@ by_kind P p₁ p₂ p₃ p₄ p₅ p₆ p₇ p₈ p₉ p₁₀ k q =
     by_number P k height_kind p₃ (λ n₃.
     by_number P k max_height_kind p₄ (λ n₄.
     by_number P k overflow_kind p₅ (λ n₅.
-    by_number P k overflow_yKind p₆ (λ n₆.
+    by_number P k overflow_y_kind p₆ (λ n₆.
     by_number P k display_kind p₇ (λ n₇.
     by_number P k white_space_kind p₈ (λ n₈.
     by_number P k content_kind p₉ (λ n₉.
@@ -155,10 +155,10 @@ module _ (store : List ℕ) where
       (λ o. rw (o.color, o.background, o.height, o.max-height, o.overflow, o.overflow-y, o.display, o.white-space, o.content, o.visibility))
 
   -- whether they hide what overflows
-  hidden-own : (k a b : ℕ) → and (or (is k overflow_kind) (is k overflow_yKind)) (is a (overflow_number hidden)) ≡ hides_overflow (decl_of store k a b)
+  hidden-own : (k a b : ℕ) → and (or (is k overflow_kind) (is k overflow_y_kind)) (is a (overflow_number hidden)) ≡ hides_overflow (decl_of store k a b)
   unfolding hides_overflow decl_of pick and or is
   hidden-own k a b =
-      by_kind (λ n. and (or (is n overflow_kind) (is n overflow_yKind)) (is a (overflow_number hidden)) ≡ hides_overflow (decl_of store n a b)) refl refl refl refl (hides-number a) (hides-number a) refl refl refl refl k
+      by_kind (λ n. and (or (is n overflow_kind) (is n overflow_y_kind)) (is a (overflow_number hidden)) ≡ hides_overflow (decl_of store n a b)) refl refl refl refl (hides-number a) (hides-number a) refl refl refl refl k
       (λ o. rw (o.color, o.background, o.height, o.max-height, o.overflow, o.overflow-y, o.display, o.white-space, o.content, o.visibility))
 
   -- ---- the first n declarations of a stream

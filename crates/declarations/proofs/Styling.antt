@@ -14,7 +14,7 @@ use Rattle.combinators.specs.Store.{Store, emits}
 use Rattle.combinators.proofs.Rules.{pick_true, pick-false, is-yes, is-no, or_left, and-gives, and-gives-false, or_assoc, or-false}
 use Rattle.combinators.proofs.Emitted.{emits_none, onto, then, sets-emitted, emits-fill}
 use Rattle.syntax.specs.Declaration.{hidden}
-use Rattle.syntax.specs.Layout.{flag, height_kind, max_height_kind, overflow_kind, overflow_yKind, overflow_number, flag_of, declaration_width, declaration_kind, declaration_important, declaration_start, declaration_value, declaration_second, declarations_at, style_width, row_of_numbers, styles_at}
+use Rattle.syntax.specs.Layout.{flag, height_kind, max_height_kind, overflow_kind, overflow_y_kind, overflow_number, flag_of, declaration_width, declaration_kind, declaration_important, declaration_start, declaration_value, declaration_second, declarations_at, style_width, row_of_numbers, styles_at}
 use Rattle.syntax.specs.declared.styles.StyleNumbers.{StyleNumbers}
 use Rattle.syntax.proofs.Streams.{sets-drop}
 use Rattle.declarations.specs.Styles.{styles_of}
@@ -236,7 +236,7 @@ module _ (t : List ℕ) where
 
   cut-hidden : hidden_row (take declaration_width t) ≡ hidden_row t
   unfolding hidden_row
-  cut-hidden = cut-value overflow_kind overflow_yKind (overflow_number hidden)
+  cut-hidden = cut-value overflow_kind overflow_y_kind (overflow_number hidden)
 
 -- ---- turns of `styles_from_properties`: where the first zero height starts is noted, and whether an overflow is hidden
 module _ (rows : List ℕ) (count : ℕ) (styles₀ : List ℕ) where

@@ -39,7 +39,7 @@ test-trimmed : (trimmed (text " \u{3000}a é\u{3000} ") ≡ text "a é") × (tri
 unfolding trimmed trimmed_start trimmed_end all_white many took white_taken white_of text utf8 continuation is_continuation lead_of two three scalar_tail scalar_by scalar_of is_white_space member pick or and is within
 test-trimmed = (refl, refl, refl)
 
--- `parse_faulty_color`: six bytes as three pairs of hex digits
+-- `parse_faulty_color`: the first six bytes as three pairs, each two hex digits, or '+' and one
 unfoldable pub pairs : List ℕ → Found Colour
 pairs t = rgb_of (parse_hex 255 (take 2 t)) (parse_hex 255 (take 2 (drop 2 t))) (parse_hex 255 (take 2 (drop 4 t)))
 
@@ -55,6 +55,7 @@ unfoldable pub or_faulty : Found Colour → List ℕ → Found Colour
 or_faulty (found c) s = found c
 or_faulty missing s = faulty_colour (trimmed s)
 
--- `parse_color_attribute`
+-- `parse_color_attribute`: the statement that the value begins with, without its mark; where that is no colour, the fall-back on the whole value; where a bracket is wrong,
+-- neither
 unfoldable pub colour_attribute : List ℕ → Found Colour
 colour_attribute s = on_parsed (values.value_of s) (λ n v. or_faulty (colour_of v.tokens) s) missing

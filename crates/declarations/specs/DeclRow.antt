@@ -3,7 +3,7 @@ use Rattle.std.specs.Prelude.{ℕ, ◌+◌, ◌^◌, ◌≤◌, ◌<◌, Bool, L
 use Rattle.combinators.specs.Choice.{pick}
 use Rattle.combinators.specs.Part.{part}
 use Rattle.syntax.specs.Declaration.{Decl, color, background_color, height, max_height, overflow, overflow_y, display, white_space, content, visibility, unknown}
-use Rattle.syntax.specs.Layout.{color_kind, background_color_kind, height_kind, max_height_kind, overflow_kind, overflow_yKind, display_kind, white_space_kind, content_kind, visibility_kind, unknown_kind, flag, overflow_number, white_space_number}
+use Rattle.syntax.specs.Layout.{color_kind, background_color_kind, height_kind, max_height_kind, overflow_kind, overflow_y_kind, display_kind, white_space_kind, content_kind, visibility_kind, unknown_kind, flag, overflow_number, white_space_number}
 use Rattle.values.specs.DeclAnswer.{text_length}
 use Rattle.values.specs.KeywordAnswer.{overflow_meant, white_space_meant}
 use Rattle.values.specs.declared.properties.Decl as declared
@@ -68,7 +68,7 @@ kind_of (code.BackgroundColor v) = background_color_kind
 kind_of (code.Height z) = height_kind
 kind_of (code.MaxHeight z) = max_height_kind
 kind_of (code.Overflow v) = overflow_kind
-kind_of (code.OverflowY v) = overflow_yKind
+kind_of (code.OverflowY v) = overflow_y_kind
 kind_of (code.Display z) = display_kind
 kind_of (code.WhiteSpace v) = white_space_kind
 kind_of (code.Content n) = content_kind

@@ -4,7 +4,7 @@ use Rattle.std.specs.Simd.{first_chunks}
 use Rattle.std.proofs.lemmas.List.Edits.{sets}
 use Rattle.combinators.specs.Choice.{pick, or, and, is}
 use Rattle.syntax.specs.Declaration.{hidden}
-use Rattle.syntax.specs.Layout.{color_kind, background_color_kind, height_kind, max_height_kind, overflow_kind, overflow_yKind, display_kind, white_space_kind, content_kind, visibility_kind, flag, flag_of, overflow_number, declaration_width, declaration_kind, declaration_important, declaration_start, declaration_value, declaration_second, colour_slot, background_slot, display_slot, white_space_slot, content_slot, visibility_slot, style_width, value_numbers, row_of_numbers, declarations_at, styles_at}
+use Rattle.syntax.specs.Layout.{color_kind, background_color_kind, height_kind, max_height_kind, overflow_kind, overflow_y_kind, display_kind, white_space_kind, content_kind, visibility_kind, flag, flag_of, overflow_number, declaration_width, declaration_kind, declaration_important, declaration_start, declaration_value, declaration_second, colour_slot, background_slot, display_slot, white_space_slot, content_slot, visibility_slot, style_width, value_numbers, row_of_numbers, declarations_at, styles_at}
 use Rattle.declarations.specs.Styles.{styles_of}
 use Rattle.syntax.specs.declared.styles.Value.{Value}
 use Rattle.syntax.specs.declared.styles.StyleNumbers.{StyleNumbers}
@@ -56,7 +56,7 @@ unfoldable pub zero_row : List ℕ → Bool
 zero_row t = has_value height_kind max_height_kind (flag true) t
 
 unfoldable pub hidden_row : List ℕ → Bool
-hidden_row t = has_value overflow_kind overflow_yKind (overflow_number hidden) t
+hidden_row t = has_value overflow_kind overflow_y_kind (overflow_number hidden) t
 
 -- ---- the first n declarations of a stream
 

@@ -42,7 +42,7 @@ unfoldable pub own_styles : List Declaration → List StyleDecl
 own_styles [] = []
 own_styles (d ∷ ds) = style_of d.important d.start d.decl ++ own_styles ds
 
--- where the first declaration starts that sets a height to zero, of those that are read
+-- where the first declaration starts that sets a height to zero; 0 where none does, which `styles_of` never asks for
 unfoldable pub first_zero : List Declaration → ℕ
 first_zero [] = 0
 first_zero (d ∷ ds) = pick (zero_height d.decl) d.start (first_zero ds)

@@ -67,8 +67,8 @@ unfoldable pub behind_one : Option (Taken ℕ) → Option (Taken ℕ)
 behind_one (Some c) = Some (record { taken = 1 + c.taken; value = c.value })
 behind_one None = None
 
--- behind the backslash: U+FFFD at the end of the text; hex digits, where surrogates and numbers above U+10FFFF are U+FFFD; or
--- the next character
+-- behind the backslash: U+FFFD at the end of the text; hex digits, where surrogates and numbers above U+10FFFF are U+FFFD; or the next character. Otherwise than in CSS
+-- no white space is taken behind the digits, zero is U+0000, and a line feed is a character like any other.
 unfoldable pub escaped_of : List ℕ → Option (Taken ℕ)
 escaped_of t =
     pick (is (length t) 0) (Some (record { taken = 1; value = replacement_character }))

@@ -105,10 +105,11 @@ cdo_mark = less_than_sign ∷ exclamation_mark ∷ hyphen_minus ∷ hyphen_minus
 abbrev pub cdc_mark : List ℕ
 cdc_mark = hyphen_minus ∷ hyphen_minus ∷ greater_than_sign ∷ []
 
--- the token that starts with the character c, by the reader that c selects. A '+' is dropped from the number's text.
+-- ---- the readers that a character c selects
 unfoldable pub hash_of : ℕ → List ℕ → Parsed Token
 hash_of c t = on_parsed (identstring_of (drop 1 t)) (λ m b. ok (1 + m) (hash b)) (ok 1 (delim c))
 
+-- A '+' is dropped from the number's text; white space, comments and one more sign behind it stay in it.
 unfoldable pub plus_of : ℕ → List ℕ → Parsed Token
 plus_of c t = or_else (behind 1 (numeric_of (drop 1 t))) (ok 1 (delim c))
 
@@ -118,7 +119,7 @@ minus_of c t = or_else (numeric_of t) (pick (starts_with cdc_mark t) (ok 3 cdc) 
 unfoldable pub less_of : ℕ → List ℕ → Parsed Token
 less_of c t = pick (starts_with cdo_mark t) (ok 4 cdo) (ok 1 (delim c))
 
--- the token at the start of t, whose first character c takes n bytes, in the crate's order
+-- the token at the start of t, whose first character c takes n bytes. No character passes two of these tests, so the marks, which the crate has between them, come last.
 unfoldable pub token_with : ℕ → ℕ → List ℕ → Parsed Token
 token_with n c t =
     pick (is_quote c) (string_of t)

@@ -17,7 +17,7 @@ comment_end i (x ∷ r) =
 unfoldable pub comment_of : List ℕ → ℕ
 comment_of s = pick (is (get_or s 0 0) solidus) (pick (is (get_or s 1 0) asterisk) (comment_end 2 (drop 2 s)) 0) 0
 
--- `one_of(" \t\r\n\x0c")`
+-- `one_of(" \t\r\n\x0c")`; not White_Space (crates/characters/specs/WhiteSpace.antt): five characters of ASCII
 unfoldable pub is_whitespace : ℕ → Bool
 is_whitespace x = or (is x space) (or (is x tabulation) (or (is x carriage_return) (or (is x line_feed) (is x form_feed))))
 

@@ -1,5 +1,5 @@
--- Which selectors match: `do_matches` of src/css.rs, on the path of an element. The document is the empty path: it "matches star and nothing else
--- that is simple; it has no parent; nth-child fails on it".
+-- Which selectors match: `do_matches` of src/css.rs, on the path of an element. The document is the empty path: star matches it, nothing else
+-- that is simple does, and it has no parent.
 use Rattle.std.specs.Prelude.{ℕ, Bool, true, false, List, [], ◌∷◌, ◌≡◌, refl, pos, negsuc}
 use Rattle.combinators.specs.Choice.{pick, or, and, is, within}
 use Rattle.combinators.specs.Repeat.{many, took}

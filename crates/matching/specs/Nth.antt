@@ -1,4 +1,4 @@
--- nth-child(an+b): "idx counts element children up to this one: a = 0 needs idx = b, else idx - b must be a multiple of a with quotient 0 or more".
+-- nth-child(an+b): "idx counts element children up to this one (..): a = 0 needs idx = b, else idx - b must be a multiple of a with quotient 0 or more."
 use Rattle.std.specs.Prelude.{ℕ, ◌≤◌, ◌^◌, Bool, true, false, ◌≡◌, refl, ℤ, pos, negsuc, nat_abs, ◌+ℤ◌, ◌-ℤ◌, ◌*ℤ◌}
 use Rattle.std.specs.Int.Signed.{le_z, quot_z, rem_z}
 use Rattle.combinators.specs.Choice.{pick, is}

@@ -1,4 +1,4 @@
--- How specific a selector is: `Selector::specificity` of src/css.rs, "with the counts of classes, attributes and nth-child together".
+-- How specific a selector is: `Selector::specificity` of src/css.rs. Classes, attributes and nth-child count together.
 use Rattle.std.specs.Prelude.{ℕ, List, [], ◌∷◌, ◌≡◌, refl, pos}
 use Rattle.combinators.specs.Choice.{pick, or, is}
 use Rattle.characters.specs.Literal.{text}

@@ -66,7 +66,7 @@ pub data Sheets : Type 0 where
   rules : List RuleSet → List RuleSet → List RuleSet → Sheets
   panicked : ℕ → ℕ → Sheets
 
--- a sheet, and those behind it
+-- a sheet, and those behind it. Reading a sheet never fails (`sheet-never-fails`): what is said of that is said of nothing.
 unfoldable pub and_then : ℕ → Outcome (List RuleSet) → (List RuleSet → Sheets) → Sheets
 and_then which o next = on_outcome o (λ _ rs. next rs) (next []) (λ p. panicked which p)
 

@@ -60,6 +60,7 @@ is_document n = and (and (is n.kind document_kind) (is n.parent 0)) (ends_in_zer
 unfoldable pub is_parent : List ℕ → ℕ → Bool
 is_parent nodes p = or (is p 0) (is (node_at nodes p).kind element_kind)
 
+-- the row before may be other content: then it is one of its ancestors
 unfoldable pub parent_right : List ℕ → ℕ → ℕ → Bool
 parent_right nodes before p = and (is_parent nodes p) (member p (line_of nodes before))
 
@@ -76,7 +77,8 @@ attributes_follow attributes (suc k) at start =
     (and (is (attribute_at attributes at).value_start (start + (attribute_at attributes at).name_length)) rest)
 
 -- "Names and values lie end to end from byte 0 of one byte text, each element's name before its attributes ..; first attributes likewise follow on from 0
--- and end within the attribute rows lent": an element whose texts begin at byte `start`, and its attributes at row `first`
+-- and end within the attribute rows lent": an element whose texts begin at byte `start`, and its attributes at row `first`, also
+-- where a length or their count is 0
 unfoldable pub element_follows : List ℕ → NodeRow → ℕ → ℕ → Bool
 element_follows attributes n first start =
     and (and (is n.name_start start) (is n.first_attribute first))

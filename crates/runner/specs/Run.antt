@@ -81,7 +81,7 @@ open_step code settings x (suc d) parent state texts =
     let place = pair_at state (part_place code d) + 1 in
     element_step code settings (record { name = x.name; attributes = x.attributes; place = place }) d parent state texts
 
--- "A kind-2 row changes no state and its style row is zeros"
+-- other content changes no state, and its style row is zeros
 unfoldable pub step_on : List ℕ → Settings → Handed → ℕ → List ℕ → List ℕ → List ℕ → Stepped
 step_on code settings x depth parent state texts =
     pick (is x.kind other_kind) (record { row = no_style; state = state; texts = texts }) (open_step code settings x depth parent state texts)

@@ -75,8 +75,8 @@ greatest = 2147483647
 unfoldable pub digits_worth : List ℕ → ℕ → ℕ → ℕ
 digits_worth t i n = pick (is n 0) 1 (numeral 10 hex_digit 0 (take n (drop i t)))
 
--- it is converted where it fits `i32`; "the crate panics while reading: `[name=` ends the text, or nth-child digits that the crate's reader converts exceed
--- 2147483647", at the first digit
+-- it is converted where it fits `i32`; the crate panics where "nth-child digits that the crate's reader converts exceed 2147483647", and "Refusal 4 remains" for these alone (S-6),
+-- at the first digit. Their sign does not count: -2147483648 is refused.
 unfoldable pub converted : {A : Type 0} → List ℕ → ℕ → ℕ → Bool → (ℤ → Outcome A) → Outcome A
 converted t i n minus f = pick (leb (digits_worth t i n) greatest) (f (signed minus (digits_worth t i n))) (panics i)
 
@@ -109,10 +109,11 @@ just_b t =
 unfoldable pub worded : List ℕ → List ℕ → ℤ → ℤ → Outcome Nth
 worded t word a b = pick (starts_with word t) (reads (length word) (record { a = a; b = b })) fails
 
+-- the first that reads, and no other is tried behind it: "(evenn+1)" does not read
 unfoldable pub nth_of : List ℕ → Outcome Nth
 nth_of t = or_else (worded t (text "even") (pos 2) (pos 0)) (or_else (worded t (text "odd") (pos 2) (pos 1)) (or_else (both_of t) (or_else (just_a t) (just_b t))))
 
--- in brackets, with white space or none before and behind
+-- in brackets, with white space or none before and behind. Numbers are converted, a before b, as soon as their alternative reads and before the bracket is looked for.
 unfoldable pub nth_args_of : List ℕ → Outcome Nth
 nth_args_of t =
     let w = 1 + skip_whitespace (drop 1 t) in

@@ -7,7 +7,7 @@ use Rattle.syntax.specs.Selector.{Selector}
 use Rattle.selectors.specs.Outcome.{Outcome, reads, panics, on_outcome, behind}
 use Rattle.selectors.specs.Selector.{selector_of}
 
--- ---- selectors, parted by ',' and white space or none; it stops before a ',' that no selector follows
+-- ---- selectors, parted by ',' and white space or none; it stops before a ',' that no selector follows. The first number is no less than the bytes left.
 unfoldable pub more_selectors : ℕ → List ℕ → Outcome (List Selector)
 more_selectors zero t = reads 0 []
 more_selectors (suc l) t =

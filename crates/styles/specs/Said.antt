@@ -68,7 +68,7 @@ attribute_style is_style x = record { is_style = is_style; style = x }
 unfoldable pub attribute_says : {A : Type 0} → (List StyleDecl → List (Styled A)) → Attribute → List (AttributeStyle A)
 attribute_says styled a = map (attribute_style (is_named (text "style") a)) (styled (attribute_styles a))
 
--- the attributes that count: "if document styles are on, `style`, `color`, `bgcolor` in attribute order"
+-- the attributes that are looked at: "if document styles are on, `style`, `color`, `bgcolor` in attribute order"; those of other names say nothing (`attribute_styles`)
 unfoldable pub counted_attributes : Settings → Element → List Attribute
 counted_attributes settings e = pick settings.document_styles e.attributes []
 

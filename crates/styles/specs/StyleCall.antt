@@ -31,7 +31,7 @@ attribute_contents a = style_texts (attribute_styles a)
 unfoldable pub attributes_contents : List Attribute → List ℕ
 attributes_contents xs = texts_many attribute_contents xs
 
--- "With the switch off there are no inline texts"
+-- with the switch off there are none
 unfoldable pub inline_contents : Settings → Element → List ℕ
 inline_contents settings e = attributes_contents (counted_attributes settings e)
 

@@ -1,5 +1,5 @@
 -- Declarations as the crate has them (`Decl`, `Importance`, `Declaration` of src/css/parser.rs). A height matters only as zero or
--- not, a display as none or other. `visibility`, which the crate does not know, is the last of them (S-9).
+-- not, a display as none or other. The crate does not know `visibility` (S-9).
 use Rattle.std.specs.Prelude.{ℕ, Bool, List}
 
 pub record Colour : Type 0 where

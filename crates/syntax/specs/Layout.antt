@@ -1,5 +1,5 @@
--- How declarations and styles lie in lent numbers and the text store. A row says what it is, whether it is important, the byte where its declaration starts, and two numbers:
--- a colour, a flag or a word's number, and 0; or where a text starts in the store, and how long it is.
+-- How declarations and styles lie in lent numbers and the text store. A declaration's row says its kind, whether it is important, the byte where it starts, and two numbers; a
+-- style's its slot, whether it is important, two numbers, and that byte. The numbers are a colour, a flag or a word's number, and 0; or where a text starts in the store, and how long it is.
 use Rattle.std.specs.Prelude.{ℕ, ◌+◌, ◌*◌, ◌/◌, ◌%◌, Bool, true, false, List, [], ◌∷◌, length, get_or, drop}
 use Rattle.combinators.specs.Choice.{pick, is}
 use Rattle.combinators.specs.Part.{part}
@@ -26,8 +26,8 @@ max_height_kind = 4
 abbrev pub overflow_kind : ℕ
 overflow_kind = 5
 
-abbrev pub overflow_yKind : ℕ
-overflow_yKind = 6
+abbrev pub overflow_y_kind : ℕ
+overflow_y_kind = 6
 
 abbrev pub display_kind : ℕ
 display_kind = 7
@@ -112,7 +112,7 @@ decl_row i s f (background_color c) = background_color_kind ∷ i ∷ s ∷ colo
 decl_row i s f (height z) = height_kind ∷ i ∷ s ∷ flag z ∷ 0 ∷ []
 decl_row i s f (max_height z) = max_height_kind ∷ i ∷ s ∷ flag z ∷ 0 ∷ []
 decl_row i s f (overflow o) = overflow_kind ∷ i ∷ s ∷ overflow_number o ∷ 0 ∷ []
-decl_row i s f (overflow_y o) = overflow_yKind ∷ i ∷ s ∷ overflow_number o ∷ 0 ∷ []
+decl_row i s f (overflow_y o) = overflow_y_kind ∷ i ∷ s ∷ overflow_number o ∷ 0 ∷ []
 decl_row i s f (display n) = display_kind ∷ i ∷ s ∷ flag n ∷ 0 ∷ []
 decl_row i s f (white_space w) = white_space_kind ∷ i ∷ s ∷ white_space_number w ∷ 0 ∷ []
 decl_row i s f (content t) = content_kind ∷ i ∷ s ∷ f ∷ length t ∷ []
@@ -130,7 +130,7 @@ decl_of store k a b =
     (pick (is k height_kind) (height (flag_of a))
     (pick (is k max_height_kind) (max_height (flag_of a))
     (pick (is k overflow_kind) (overflow (overflow_of a))
-    (pick (is k overflow_yKind) (overflow_y (overflow_of a))
+    (pick (is k overflow_y_kind) (overflow_y (overflow_of a))
     (pick (is k display_kind) (display (flag_of a))
     (pick (is k white_space_kind) (white_space (white_space_of a))
     (pick (is k content_kind) (content (part store a b))

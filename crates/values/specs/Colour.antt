@@ -42,7 +42,7 @@ unfoldable pub all_of : (ℕ → Bool) → List ℕ → Bool
 all_of p [] = true
 all_of p (x ∷ r) = and (p x) (all_of p r)
 
--- the number that digits write, worth by d, behind a
+-- the number that digits write in a base, each worth what d says, behind digits that are worth a
 unfoldable pub numeral : ℕ → (ℕ → ℕ) → ℕ → List ℕ → ℕ
 numeral base d a [] = a
 numeral base d a (x ∷ r) = numeral base d (a * base + d x) r
@@ -94,7 +94,7 @@ colour_of (hash b ∷ []) = hash_colour b
 colour_of (function b ∷ ks) = pick (same_text b (text "rgb")) (rgb_colour ks) missing
 colour_of _ = missing
 
--- `parse_background_color`: what stands behind the last comma; "`background:rgb(1,2,3)`: no style, since commas split it"
+-- `parse_background_color`: what stands behind the last comma, `acc` behind the last so far, at first all; "`background:rgb(1,2,3)`: no style, since commas split it"
 unfoldable pub behind_comma : List Token → List Token → List Token
 behind_comma acc [] = acc
 behind_comma acc (comma ∷ ks) = behind_comma ks ks

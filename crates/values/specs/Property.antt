@@ -15,10 +15,11 @@ use Rattle.values.specs.Colour.{colour_of, background_of}
 
 -- ---- heights: "`Height` matters only as zero or not"
 
--- whether a number's text is zero as an f32, its white space, comments and sign aside
+-- whether the text of a number without a sign is zero as an f32
 unfoldable pub unsigned_zero : List ℕ → Bool
 unsigned_zero t = rounds_to_zero (take (digits t) t) (drop (digits t + 1) t)
 
+-- the same of a number's text, its white space, comments and sign aside
 unfoldable pub number_zero : List ℕ → Bool
 number_zero n =
     let t = drop (skip_whitespace n) n in

@@ -43,7 +43,8 @@ pub data Step : Type 0 where
   behind : Step
   wrong : Step
 
--- a closing bracket: wrong where another is awaited; a brace block that closes outermost ends the statement
+-- a closing bracket: where none is awaited, '}' ends the statement before it, and any other is wrong; where another is awaited, it is wrong; a brace block that closes
+-- outermost ends the statement behind it
 unfoldable pub closing : ℕ → List ℕ → Step
 closing c [] = pick (is c right_curly_bracket) before wrong
 closing c (x ∷ []) = pick (is c x) (pick (is c right_curly_bracket) behind (next [])) wrong
@@ -78,7 +79,8 @@ on_step behind b a w f = a
 on_step wrong b a w f = w
 on_step (next cs) b a w f = f cs
 
--- from the rest s on, which starts at `at`; the first number is more than the bytes left
+-- from the rest s on, which starts at `at`; the first number is more than the bytes left. Where the statement ends before a token, or no token reads, the white space and
+-- comments in front of it are not taken.
 unfoldable pub scan : ℕ → Bool → List ℕ → ℕ → List ℕ → Statement
 scan zero include s at cs = stop at true
 scan (suc l) include s at cs =

@@ -24,11 +24,12 @@ pub record Entry (A : Type 0) : Type 0 where
   pub word : List ℕ
   pub means : A
 
--- what a word stands for by the first row that has it
+-- what was found, or that nothing was
 pub data Found (A : Type 0) : Type 0 where
   found : A → Found A
   missing : Found A
 
+-- what a word stands for by the first row that has it
 unfoldable pub lookup : {A : Type 0} → List ℕ → List (Entry A) → Found A
 lookup w [] = missing
 lookup w (e ∷ es) = let more = lookup w es in pick (same_text w e.word) (found e.means) more
