@@ -5,11 +5,10 @@ use mathlib.Core.Path.{◌≡◌, refl, sym, ap, ◌∙◌}
 use mathlib.Core.Bool.{Bool, true, false}
 use mathlib.Core.List.{List, [], ◌∷◌}
 use native.Mathlib.Omega.{arith}
-use lib.ListN.{length, take, drop, length-drop}
+use lib.ListN.{length, drop, length-drop}
 use Rattle.combinators.specs.Choice.{pick}
 use Rattle.combinators.specs.Repeat.{many}
 use Rattle.combinators.proofs.Rules.{pick_true, pick-false, is-yes, is-no}
-use Rattle.combinators.proofs.Lists.{rest}
 use Rattle.combinators.proofs.Repeats.{many-took, many-ge, many-stopped}
 use Rattle.characters.specs.Utf8.{scalar_of}
 use Rattle.characters.specs.WhiteSpace.{is_white_space}
@@ -43,10 +42,6 @@ module _ (s : List ℕ) (x : Option (Taken ℕ)) (e : x ≡ scalar_of s) where
   pub word_none : ¬ (length s ≡ 0) → x ≡ None → 1 ≡ word_taken s
   unfolding word_of
   word_none d h = ap word_of (sym h) ∙ word_first d
-
--- how much is left from a place on
-pub length-rest : (s : List ℕ) (i : ℕ) → length (take (length s - i) (drop i s)) ≡ length s - i
-length-rest s i = ap length (rest s i) ∙ length-drop i s
 
 -- at the end of the text there is no word
 pub word-at-end : (s : List ℕ) → length s ≡ 0 → 0 ≡ word_taken s

@@ -1,5 +1,5 @@
 -- Facts on texts as lists that any reader uses.
-use mathlib.Core.Path.{◌≡◌, refl, sym, ◌∙◌}
+use mathlib.Core.Path.{◌≡◌, refl, sym, ap, ◌∙◌}
 use mathlib.Core.List.{List, [], ◌∷◌}
 use mathlib.Core.Bool.{Bool, true, false}
 use Prim.Native.Nat.{ℕ, zero, suc, ◌-◌, ◌<◌, ◌≤◌, suc-le-suc}
@@ -30,9 +30,17 @@ test-there p z (x ∷ r) (suc i) e = suc-le-suc (test-there p z r i e)
 pub byte-there : (s : List ℕ) (i k : ℕ) → 0 < k → is (get_or s i 0) k ≡ true → i < length s
 byte-there s i k h e = test-there (λ x. is x k) (is-no 0 k (λ z. omega arith)) s i e
 
--- what `&s[a..]` lends is the rest of the text
-pub rest : {A : Type 0} (s : List A) (a : ℕ) → take (length s - a) (drop a s) ≡ drop a s
+-- what `&s[a..]` lends, as the code says it: as many as are left, of what stands from a on
+abbrev pub lent_from : {A : Type 0} → List A → ℕ → List A
+lent_from s a = take (length s - a) (drop a s)
+
+-- it is the rest of the text
+pub rest : {A : Type 0} (s : List A) (a : ℕ) → lent_from s a ≡ drop a s
 rest s a = take_all (length s - a) (drop a s) (omega (arith, length-drop a s))
+
+-- and as long as what is left
+pub length-rest : {A : Type 0} (s : List A) (a : ℕ) → length (lent_from s a) ≡ length s - a
+length-rest s a = ap length (rest s a) ∙ length-drop a s
 
 -- the byte at i is the first of the rest from i on
 pub first : (s : List ℕ) (i : ℕ) → get_or (drop i s) 0 0 ≡ get_or s i 0

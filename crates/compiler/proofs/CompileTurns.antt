@@ -2,7 +2,7 @@
 use mathlib.Core.Path.{◌≡◌, refl, ap, ap₂, sym, ◌∙◌}
 use mathlib.Core.List.{List, [], ◌∷◌, ◌++◌}
 use mathlib.Core.Logic.{⊎_elim}
-use Prim.Native.Nat.{ℕ, suc, ◌+◌, ◌^◌, ◌≤◌, ◌<◌}
+use Prim.Native.Nat.{ℕ, suc, ◌+◌, ◌≤◌, ◌<◌}
 use native.Mathlib.Omega.{arith}
 use borrow.Author.Tests.{le-leb, lt-leb}
 use lib.ListN.{length, take, drop, set, replicate, length-append, length-set, length-drop, take-append-drop}
@@ -12,11 +12,11 @@ use Rattle.combinators.proofs.Cleared.{length-cleared}
 use Rattle.combinators.proofs.Rules.{pick_true, pick-false, lt-or-ge}
 use Rattle.sheets.proofs.SheetLaws.{stored}
 use Rattle.origins.specs.Checks.{Lent}
-use Rattle.origins.specs.Reading.{Sheets, panicked, sheets_of, sheets_rows, sheets_texts, sheets_rules, sheets_answer, SheetsRoom}
+use Rattle.origins.specs.Reading.{Sheets, panicked, sheets_of, sheets_rows, sheets_texts, sheets_rules, sheets_answer}
 use Rattle.origins.specs.Reading.{SheetsRules}
 use Rattle.std.specs.Prelude.{Result, Ok, Err}
 use Rattle.origins.specs.declared.reading.SheetPanic.{SheetPanic}
-use Rattle.origins.proofs.SheetsKnown.{zeros_of, room-cleared, Came, came, panic-known, rows_held, texts_held, texts-length, texts-lie}
+use Rattle.origins.proofs.SheetsKnown.{zeros_of, zeros-kept, Came, came, panic-known, rows_held, texts_held, texts-length, texts-lie}
 use Rattle.compiled.specs.Sheet.{encode}
 use Rattle.compiler.specs.Selectors.{selectors_of}
 use Rattle.compiler.specs.CompileAnswer.{refusal_of, room_of, numbers_of, CompileLeft, zeroed, answered, answered_within, compiled_left}
@@ -73,10 +73,6 @@ left_by p q r s t u = rw (p, q, r, s, t, u) refl
 module _ {agent user author rules₀ tokens₀ brackets₀ texts₀ : List ℕ} (o : Lent agent user author rules₀ tokens₀ brackets₀ texts₀) (compiled₀ : List ℕ)
     {k₁ t₁ y₁ x₁ b₁ : List ℕ} (ck : k₁ ≡ cleared 0 compiled₀) (ct : t₁ ≡ cleared 0 texts₀) (cy : y₁ ≡ cleared 0 rules₀) (cx : x₁ ≡ cleared 0 tokens₀)
     (cb : b₁ ≡ cleared 0 brackets₀) where
-  -- room for the three sheets
-  pub room : length rules₀ < 2 ^ 64 → SheetsRoom agent user author y₁ x₁ b₁ t₁
-  room h = rw (ct, cy, cx, cb) (room-cleared o h)
-
   abbrev meant : Sheets
   meant = sheets_of agent user author
 
@@ -86,14 +82,6 @@ module _ {agent user author rules₀ tokens₀ brackets₀ texts₀ : List ℕ} 
 
   module _ {r : Result SheetsRules SheetPanic} {y₂ x₂ b₂ t₂ : List ℕ} (er : r ≡ sheets_answer meant) (ey : y₂ ≡ sets y₁ 0 (sheets_rows meant)) (ex : x₂ ≡ x₁) (eb : b₂ ≡ b₁)
       (et : t₂ ≡ sets t₁ 0 (sheets_texts meant)) where
-    -- the store of tokens is zero throughout
-    tokens-zero : x₂ ≡ replicate (length tokens₀) 0
-    tokens-zero = ex ∙ cx ∙ zeros_of tokens₀ tokens₀ refl
-
-    -- the store of brackets is zero throughout
-    brackets-zero : b₂ ≡ replicate (length brackets₀) 0
-    brackets-zero = eb ∙ cb ∙ zeros_of brackets₀ brackets₀ refl
-
     -- where the crate panics all is zero
     pub panics : {p : SheetPanic} → r ≡ Err p → Left (Err (Panic p)) k₁ t₂ y₂ x₂ b₂
     unfolding compiled_left zeroed numbers_of refusal_of sheets_rows sheets_texts
@@ -101,7 +89,7 @@ module _ {agent user author rules₀ tokens₀ brackets₀ texts₀ : List ℕ} 
         let q : meant ≡ panicked p.text p.place = panic-known meant p (sym g ∙ er) in
         let ey' : y₂ ≡ y₁ = ey ∙ ap (λ (s : Sheets). sets y₁ 0 (sheets_rows s)) q in
         let et' : t₂ ≡ t₁ = et ∙ ap (λ (s : Sheets). sets t₁ 0 (sheets_texts s)) q in
-        left_by refl (ck ∙ zeros_of compiled₀ compiled₀ refl) (et' ∙ ct ∙ zeros_of texts₀ texts₀ refl) (ey' ∙ cy ∙ zeros_of rules₀ rules₀ refl) tokens-zero brackets-zero
+        left_by refl (zeros-kept compiled₀ ck refl) (zeros-kept texts₀ ct et') (zeros-kept rules₀ cy ey') (zeros-kept tokens₀ cx ex) (zeros-kept brackets₀ cb eb)
         ∙ ap (compiled_left compiled₀ texts₀ rules₀ tokens₀ brackets₀) (sym q)
 
     module _ {s : SheetsRules} (g : r ≡ Ok s) where
@@ -166,7 +154,7 @@ module _ {agent user author rules₀ tokens₀ brackets₀ texts₀ : List ℕ} 
               left_by (ap₂ (λ (b t : ℕ). numbers_of (Ok (record { bytes = b; texts = t }))) z.1 ex')
               (k-is ∙ written-whole (room_of (length k₁)) bytes k₁ (room_within (length k₁)) z.0 ∙ ap (λ (l : List ℕ). sets l 0 bytes) ck
               ∙ stored bytes compiled₀ (omega (arith, z.0, same-room, room_within (length compiled₀))))
-              (texts₂ ∙ texts-lie o m) rules-zero (es ∙ tokens-zero) brackets-zero
+              (texts₂ ∙ texts-lie o m) rules-zero (es ∙ zeros-kept tokens₀ cx ex) (zeros-kept brackets₀ cb eb)
               ∙ pick_true _ _ _ _ (le-leb (length bytes) (room_of (length compiled₀)) (omega (arith, z.0, same-room))) refl
               ∙ ap (compiled_left compiled₀ texts₀ rules₀ tokens₀ brackets₀) (sym m.is)
 
@@ -176,6 +164,6 @@ module _ {agent user author rules₀ tokens₀ brackets₀ texts₀ : List ℕ} 
           over h {k₄} {t₄} ek₄ et₄ =
               let z = fill-over (room_of (length k₁)) w bytes w-is (omega (arith, h, q-is)) in
               left_by refl (ek₄ ∙ zeros_of k₃ compiled₀ (k-long ∙ ap length ck ∙ length-cleared 0 compiled₀))
-              (et₄ ∙ zeros_of t₂ texts₀ (ap length texts₂ ∙ length-sets (cleared 0 texts₀) 0 (texts_held o m) ∙ length-cleared 0 texts₀)) rules-zero (es ∙ tokens-zero) brackets-zero
+              (et₄ ∙ zeros_of t₂ texts₀ (ap length texts₂ ∙ length-sets (cleared 0 texts₀) 0 (texts_held o m) ∙ length-cleared 0 texts₀)) rules-zero (es ∙ zeros-kept tokens₀ cx ex) (zeros-kept brackets₀ cb eb)
               ∙ pick-false _ _ _ _ (lt-leb (length bytes) (room_of (length compiled₀)) (omega (arith, z, same-room))) refl
               ∙ ap (compiled_left compiled₀ texts₀ rules₀ tokens₀ brackets₀) (sym m.is)

@@ -12,7 +12,7 @@ use Rattle.combinators.proofs.Wiped.{wiped-over}
 use Rattle.lexer.specs.TokenRow.{token_width}
 use Rattle.syntax.specs.Declaration.{Colour}
 use Rattle.values.specs.Words.{Found, found, missing, on_found}
-use Rattle.values.specs.Value.{Statement, statement_of, tokens_of, without_mark, value_from, value_of}
+use Rattle.values.specs.Value.{Statement, statement_of, tokens_of, marked, value_from, value_of}
 use Rattle.values.specs.Layout.{texts_of, value_left, Room}
 use Rattle.values.specs.View.{tokens_at}
 use Rattle.values.specs.Colour.{colour_of}
@@ -39,7 +39,7 @@ module _ (s : List ℕ) where
   attribute-none h = rw h
 
   -- of a text whose brackets close the colour is that of its tokens without the mark, or else that of a text that lacks its `#`
-  attribute-some : (statement_of false s).balanced ≡ true → colour_attribute s ≡ or_faulty (colour_of (without_mark (tokens_of (statement_of false s).tokens))) s
+  attribute-some : (statement_of false s).balanced ≡ true → colour_attribute s ≡ or_faulty (colour_of (marked (tokens_of (statement_of false s).tokens)).tokens) s
   unfolding colour_attribute value_of value_from on_parsed pick
   attribute-some h = rw h
 
@@ -92,12 +92,12 @@ module _ (s tokens brackets store : List ℕ) (fill : ℕ) (room : Room (length 
       some-counted = declaring.left-counted s tokens brackets store fill e some-here.count room some-here.important ej
 
       -- the rows without the mark read back as the tokens of the value
-      tokens-read : tokens_at x z j ≡ without_mark (tokens_of r.tokens)
+      tokens-read : tokens_at x z j ≡ (marked (tokens_of r.tokens)).tokens
       tokens-read = declaring.tokens-left s tokens brackets store fill e some-here.count room some-here.important ej
 
       -- so the colour read from them, or else from the text, is the attribute's
       colour-is : {g c : Option ℕ} → g ≡ colour_answer (colour_of (tokens_at x z j)) → MatchOption g (c ≡ colour_answer (faulty_colour (trimmed s))) (λ v. c ≡ Some v) → c ≡ colour_answer (colour_attribute s)
-      colour-is {g} {c} eg ec = rw (attribute-some s some-here.balanced) (or-else (colour_of (without_mark (tokens_of r.tokens))) s g c (rw tokens-read at eg) ec)
+      colour-is {g} {c} eg ec = rw (attribute-some s some-here.balanced) (or-else (colour_of (marked (tokens_of r.tokens)).tokens) s g c (rw tokens-read at eg) ec)
 
       -- that colour, and the stores wiped
       pub some_left : {g c : Option ℕ} {x' b' z' : List ℕ} → g ≡ colour_answer (colour_of (tokens_at x z j)) → MatchOption g (c ≡ colour_answer (faulty_colour (trimmed s))) (λ v. c ≡ Some v) → x' ≡ wiped 0 (token_width * k) x

@@ -25,7 +25,7 @@ use Rattle.syntax.specs.Declaration.{visible, hidden, scroll, auto, normal, pre,
 use Rattle.syntax.specs.Layout.{flag, overflow_number, white_space_number, decl_text, declaration_text, decl_row, declaration_row, declaration_rows, declaration_texts}
 use Rattle.syntax.specs.Stream.{texts_many, rows_many}
 use Rattle.syntax.proofs.Streams.{Held, held-part, sets-held}
-use Rattle.values.specs.Value.{Statement, statement_of, tokens_of, is_important, without_mark, value_from, value_of}
+use Rattle.values.specs.Value.{Statement, statement_of, tokens_of, marked, value_from, value_of}
 use Rattle.values.specs.Layout.{rows_of, texts_of, brackets_after, left, ValueLeft, value_answer, value_left, Room}
 use Rattle.values.specs.View.{tokens_at}
 use Rattle.values.specs.Property.{decl_of}
@@ -134,7 +134,7 @@ module _ (s : List ℕ) (v : ℕ) (name : List ℕ) (e : property_of s ≡ ok v 
 
   -- a value with right brackets makes a declaration of its tokens without the mark, important where the mark is there
   declaration-ok : r.balanced ≡ true → declaration_of s ≡ ok (v + r.taken)
-      (record { decl = decl_of name (without_mark (tokens_of r.tokens)); important = is_important (tokens_of r.tokens); start = skip_whitespace s })
+      (record { decl = decl_of name (marked (tokens_of r.tokens)).tokens; important = (marked (tokens_of r.tokens)).important; start = skip_whitespace s })
   unfolding declaration_of value_behind value_of value_from on_parsed pick
   declaration-ok h = rw (e, h)
 
@@ -160,17 +160,17 @@ pub record Valued (r : Statement) (n k m : ℕ) (i : Bool) : Type 0 where
   pub taken : n ≡ r.taken
   pub count : k ≡ length r.tokens
   pub text : m ≡ length (texts_of r.tokens)
-  pub important : i ≡ is_important (tokens_of r.tokens)
+  pub important : i ≡ (marked (tokens_of r.tokens)).important
 
 -- an answer with a value comes of right brackets alone, and says the statement's bytes, tokens, length of text and mark
 valued : (r : Statement) (n : value.Value) → Ok n ≡ value_answer r → Valued r n.statement.taken n.statement.count n.statement.text n.important
 unfolding value_answer
 valued r n e = go r.balanced refl e
   where
-    go : (b : Bool) → r.balanced ≡ b → ◌≡◌ {A = Result value.Value Unbalanced} (Ok n) (pick b (Ok (record { statement = record { taken = r.taken; count = length r.tokens; text = length (texts_of r.tokens) }; important = is_important (tokens_of r.tokens) })) (Err (record { 0 = record { taken = r.taken; count = length r.tokens; text = length (texts_of r.tokens) } }))) → Valued r n.statement.taken n.statement.count n.statement.text n.important
+    go : (b : Bool) → r.balanced ≡ b → ◌≡◌ {A = Result value.Value Unbalanced} (Ok n) (pick b (Ok (record { statement = record { taken = r.taken; count = length r.tokens; text = length (texts_of r.tokens) }; important = (marked (tokens_of r.tokens)).important })) (Err (record { 0 = record { taken = r.taken; count = length r.tokens; text = length (texts_of r.tokens) } }))) → Valued r n.statement.taken n.statement.count n.statement.text n.important
     go true h e =
         unfold pick in
-        let q : n ≡ record { statement = record { taken = r.taken; count = length r.tokens; text = length (texts_of r.tokens) }; important = is_important (tokens_of r.tokens) } = cc in
+        let q : n ≡ record { statement = record { taken = r.taken; count = length r.tokens; text = length (texts_of r.tokens) }; important = (marked (tokens_of r.tokens)).important } = cc in
         record {
           balanced = h;
           taken = ap (λ (m : value.Value). m.statement.taken) q;
@@ -190,7 +190,7 @@ unvalued : (r : Statement) (n : Unbalanced) → Err n ≡ value_answer r → Unv
 unfolding value_answer
 unvalued r n e = go r.balanced refl e
   where
-    go : (b : Bool) → r.balanced ≡ b → ◌≡◌ {A = Result value.Value Unbalanced} (Err n) (pick b (Ok (record { statement = record { taken = r.taken; count = length r.tokens; text = length (texts_of r.tokens) }; important = is_important (tokens_of r.tokens) })) (Err (record { 0 = record { taken = r.taken; count = length r.tokens; text = length (texts_of r.tokens) } }))) → Unvalued r n.0.count n.0.text
+    go : (b : Bool) → r.balanced ≡ b → ◌≡◌ {A = Result value.Value Unbalanced} (Err n) (pick b (Ok (record { statement = record { taken = r.taken; count = length r.tokens; text = length (texts_of r.tokens) }; important = (marked (tokens_of r.tokens)).important })) (Err (record { 0 = record { taken = r.taken; count = length r.tokens; text = length (texts_of r.tokens) } }))) → Unvalued r n.0.count n.0.text
     go true h e = unfold pick in absurd (cc)
     go false h e =
         unfold pick in
@@ -258,9 +258,9 @@ module _ (s tokens brackets store : List ℕ) (fill : ℕ) {a : Result value.Val
           (statement-back false s tokens brackets store fill (rows-room false s tokens brackets store fill room) (texts-room false s tokens brackets store fill room)
           (texts-bits false s tokens brackets store fill room))
 
-      module _ {i : Bool} (ei : i ≡ is_important (tokens_of stated.tokens)) {j : ℕ} (ej : j ≡ pick i (k - 2) k) where
+      module _ {i : Bool} (ei : i ≡ (marked (tokens_of stated.tokens)).important) {j : ℕ} (ej : j ≡ pick i (k - 2) k) where
         -- without the mark they are the first ones
-        pub tokens-left : tokens_at x z j ≡ without_mark (tokens_of stated.tokens)
+        pub tokens-left : tokens_at x z j ≡ (marked (tokens_of stated.tokens)).tokens
         tokens-left = tokens-unmarked x z k (tokens_of stated.tokens) back (ek ∙ tokens-count stated.tokens) j (ej ∙ ap (λ c. pick c (k - 2) k) ei)
 
         -- without the mark there are no more tokens than with it
@@ -382,7 +382,7 @@ module _ (names : Bool) (at : ℕ) (s rules : List ℕ) (place : ℕ) (tokens br
 
       -- its tokens, without the mark
       abbrev ks : List Token
-      ks = without_mark (tokens_of value-of.tokens)
+      ks = (marked (tokens_of value-of.tokens)).tokens
 
       module _ {j : ℕ} (ej : j ≡ pick i (k - 2) k) where
         -- the token rows without the mark read back as the value's tokens without it
@@ -423,7 +423,7 @@ module _ (names : Bool) (at : ℕ) (s rules : List ℕ) (place : ℕ) (tokens br
           decl = decl_of name ks
 
           abbrev declaration : Declaration
-          declaration = record { decl = decl; important = is_important (tokens_of value-of.tokens); start = skip_whitespace s }
+          declaration = record { decl = decl; important = (marked (tokens_of value-of.tokens)).important; start = skip_whitespace s }
 
           -- the name still lies at the fill, before the texts
           name-is : part z fill n ≡ name
@@ -451,10 +451,10 @@ module _ (names : Bool) (at : ℕ) (s rules : List ℕ) (place : ℕ) (tokens br
               let u = some-here in
               let D = named_decl names decl in
               let eq : q ≡ length (decl_text D) = put.kept ∙ ap text_length said-is ∙ decl-length D in
-              let er : row_by (flag i) (at + w) fill (decl_answer D) ≡ decl_row (flag (is_important (tokens_of value-of.tokens))) (at + skip_whitespace s) fill D =
-              rw (u.important, ew) (row_is (flag (is_important (tokens_of value-of.tokens))) (at + skip_whitespace s) fill D)
+              let er : row_by (flag i) (at + w) fill (decl_answer D) ≡ decl_row (flag (marked (tokens_of value-of.tokens)).important) (at + skip_whitespace s) fill D =
+              rw (u.important, ew) (row_is (flag (marked (tokens_of value-of.tokens)).important) (at + skip_whitespace s) fill D)
               in
-              let ey : y ≡ sets rules place (decl_row (flag (is_important (tokens_of value-of.tokens))) (at + skip_whitespace s) fill D) =
+              let ey : y ≡ sets rules place (decl_row (flag (marked (tokens_of value-of.tokens)).important) (at + skip_whitespace s) fill D) =
               put.row ∙ ap (λ d. sets rules place (row_by (flag i) (at + w) fill d)) said-is
               ∙ ap (λ l. sets rules place l) er
               in
@@ -592,13 +592,13 @@ module _ (names : Bool) (s : List ℕ) (v : ℕ) (name : List ℕ) (e : property
 
   -- a declaration with right brackets takes its property and its value, within these bounds
   takes-value : said.balanced ≡ true → Takes names s (v + said.taken)
-      (record { decl = decl_of name (without_mark (tokens_of said.tokens)); important = is_important (tokens_of said.tokens); start = skip_whitespace s })
+      (record { decl = decl_of name (marked (tokens_of said.tokens)).tokens; important = (marked (tokens_of said.tokens)).important; start = skip_whitespace s })
   unfolding text_kept kept declaration_text
   takes-value h =
       let g = headed s v name e in
       let z = statement-sized false (drop v s) in
       let l = length-drop v s in
-      let ks = without_mark (tokens_of said.tokens) in
+      let ks = (marked (tokens_of said.tokens)).tokens in
       let b = texts-begin (tokens_of said.tokens) in
       let t = text-le names name ks in
       let o = ap length (texts-same said.tokens) in

@@ -1,5 +1,5 @@
 -- The stores' lengths, for all texts together: what reading declarations uses never passes the least lengths of document 01.
-use mathlib.Core.Path.{◌≡◌, refl, ap}
+use mathlib.Core.Path.{◌≡◌, refl, sym, ap, ◌∙◌}
 use mathlib.Core.Bool.{Bool, true, false}
 use mathlib.Core.List.{List, [], ◌∷◌}
 use mathlib.Core.Logic.{⊎_elim}
@@ -59,9 +59,9 @@ then-small : (n : ℕ) (u w : Used) (k : ℕ) → Small n u → w.tokens ≤ n �
 unfolding used_then
 then-small n u w k h i j = record { tokens = most-le _ _ n h.tokens i; bytes = most-le _ _ (n + 2) h.bytes j }
 
--- a first byte that is ';' is there
-semicolon-there : (s : List ℕ) → is (get_or s 0 0) ascii.semicolon ≡ true → 0 < length s
-semicolon-there s e = byte-there s 0 ascii.semicolon (omega arith) e
+-- a ';' that is found stands before the end of the text
+pub semicolon-there : (s : List ℕ) (i : ℕ) {t : Bool} → t ≡ is (get_or s i 0) ascii.semicolon → t ≡ true → i < length s
+semicolon-there s i e f = byte-there s i ascii.semicolon (omega arith) (sym e ∙ f)
 
 -- nothing is used at the end of the text
 none-used : (names : Bool) (l : ℕ) → used_more names l [] ≡ unused
@@ -93,7 +93,7 @@ more-small names zero s = unused-small (length s)
 more-small names (suc l) s =
     pick-holds (Small (length s)) (is (get_or s 0 0) ascii.semicolon) _ _
     (λ e. let w = 1 + skip_whitespace (drop 1 s) in
-    let p = semicolon-there s e in
+    let p = semicolon-there s 0 refl e in
     let q = skip-le (drop 1 s) in
     let k = length-drop 1 s in
     let o = length-drop w s in

@@ -6,14 +6,14 @@ use Prim.Native.Nat.{ℕ, suc, ◌+◌, ◌-◌, ◌*◌, ◌^◌, ◌≤◌, �
 use native.Mathlib.Nat.{add-zero}
 use native.Mathlib.Omega.{arith}
 use lib.Seq.{length-sets}
-use lib.ListN.{length, get_or, take, drop, length-append, length-drop, replicate}
+use lib.ListN.{length, get_or, drop, length-append, length-drop, replicate}
 use Rattle.combinators.specs.Ascii as ascii
 use Rattle.combinators.specs.Choice.{is}
 use Rattle.combinators.specs.Lent.{SameStores}
 use Rattle.combinators.specs.declared.lent.Stores.{Stores}
 use Rattle.combinators.specs.Parsed.{Parsed, ok, err, on_parsed}
 use Rattle.combinators.specs.Store.{wiped, filled_part}
-use Rattle.combinators.proofs.Lists.{rest, byte-there}
+use Rattle.combinators.proofs.Lists.{lent_from, rest, length-rest}
 use Rattle.combinators.proofs.Wiped.{wiped-none}
 use Rattle.lexer.specs.TokenRow.{token_width}
 use Rattle.lexer.specs.Whitespace.{skip_whitespace}
@@ -28,6 +28,7 @@ use Rattle.std.specs.Prelude.{Option, Some, None}
 use Rattle.declarations.specs.declared.rules.DeclarationRead.{DeclarationRead}
 use Rattle.declarations.specs.declared.rules.RulesRead.{RulesRead}
 use Rattle.declarations.proofs.Declaring.{Takes, takes}
+use Rattle.declarations.proofs.LeastLengths.{semicolon-there}
 use Rattle.declarations.proofs.RuleLaws.{leaves-then, more-next, more-none, more-stop}
 
 -- ---- what is left to read leaves, where c declarations with t bytes of text were read
@@ -215,21 +216,17 @@ module _ {names : Bool} {at : ℕ} {s : List ℕ} {from : ℕ} {rules₀ : List 
 
   -- ';' and white space up to w
   module _ {t : Bool} (et : t ≡ is (get_or s taken 0) ascii.semicolon) (f : t ≡ true) where
-    -- a ';' that is found stands before the end of the text
-    pub semicolon-there : taken < length s
-    semicolon-there = byte-there s taken ascii.semicolon (omega arith) (sym et ∙ f)
-
     -- the place of the next row fits a word
     pub rows_fit : place + declaration_width * count < 2 ^ 64
-    rows_fit = omega (arith, semicolon-there, c.counted, o.row-bits)
+    rows_fit = omega (arith, semicolon-there s taken et f, c.counted, o.row-bits)
 
     -- where a ';' is left, the stores have the room that was asked for
     stores-room : Room (length s - from) fill tokens₀ brackets₀ store₀
-    stores-room = o.room (omega (arith, semicolon-there, c.counted))
+    stores-room = o.room (omega (arith, semicolon-there s taken et f, c.counted))
 
     -- the fill behind the texts so far fits a word
     pub fill-fits : fill + text < 2 ^ 64
-    fill-fits = let l = semicolon-there in omega (arith, c.sharp l, stores-room.bits)
+    fill-fits = let l = semicolon-there s taken et f in omega (arith, c.sharp l, stores-room.bits)
 
     -- a turn is left, as a byte is
     left_over : (j : ℕ) × (suc j ≡ c.turns)
@@ -240,21 +237,13 @@ module _ {names : Bool} {at : ℕ} {s : List ℕ} {from : ℕ} {rules₀ : List 
       pub start_fits : at + w < 2 ^ 64
       start_fits = omega (arith, o.start-bits)
 
-      -- the rest as the code lends it
-      abbrev lent : List ℕ
-      lent = take (length s - w) (drop w s)
-
-      -- the rest that is lent has the bytes from w on
-      lent-long : length lent ≡ length s - w
-      lent-long = ap length (rest s w) ∙ length-drop w s
-
-      -- the stores have room for a declaration in that rest, behind the rows and texts so far
-      pub next-room : RulesRoom lent (at + w) rules (place + declaration_width * count) tokens brackets store (fill + text)
+      -- the stores have room for a declaration in the rest that is lent, behind the rows and texts so far
+      pub next-room : RulesRoom (lent_from s w) (at + w) rules (place + declaration_width * count) tokens brackets store (fill + text)
       next-room =
-          let l = semicolon-there in
+          let l = semicolon-there s taken et f in
           let q = stores-room in
           let h = c.sharp l in
-          let k = lent-long in
+          let k = length-rest s w in
           let n = c.counted in
           record {
             room =
@@ -272,7 +261,7 @@ module _ {names : Bool} {at : ℕ} {s : List ℕ} {from : ℕ} {rules₀ : List 
       -- what `parse_declaration` left: the declaration, written behind those before
       module _ {a : Option DeclarationRead} {y x b z : List ℕ}
           (e : record { answer = a; rules = y; tokens = x; brackets = b; store = z }
-          ≡ declaration_left names (at + w) lent rules (place + declaration_width * count) tokens brackets store (fill + text)) where
+          ≡ declaration_left names (at + w) (lent_from s w) rules (place + declaration_width * count) tokens brackets store (fill + text)) where
         -- what is left is that of the text from w on
         left_is : record { answer = a; rules = y; tokens = x; brackets = b; store = z }
             ≡ declaration_left names (at + w) (drop w s) rules (place + declaration_width * count) tokens brackets store (fill + text)
@@ -322,7 +311,7 @@ module _ {names : Bool} {at : ℕ} {s : List ℕ} {from : ℕ} {rules₀ : List 
           goes =
               let p = more-next names s taken w ew (sym et ∙ f) left_over.0 n next.declaration next.reads in
               let q = left_over.1 in
-              let l = semicolon-there in
+              let l = semicolon-there s taken et f in
               let d = next.declaration in
               let i = one-is names (at + w) (drop w s) rules (place + declaration_width * count) tokens brackets store (fill + text) left_is n d next.reads in
               let m = more_rules left_over.0 (drop (w + n) s) (w + n) in

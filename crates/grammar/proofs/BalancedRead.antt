@@ -14,7 +14,7 @@ use Rattle.lexer.specs.Token.{Token, token_of}
 use Rattle.lexer.specs.Token as tokens
 use Rattle.lexer.specs.Whitespace.{whitespace_item}
 use Rattle.lexer.proofs.TokenBounds.{token-fits}
-use Rattle.values.specs.Value.{bracket_of, step_of, statement_of, is_important}
+use Rattle.values.specs.Value.{bracket_of, step_of, statement_of, marked}
 use Rattle.values.specs.Value as values
 use Rattle.values.specs.Words.{is_delim}
 use Rattle.grammar.specs.Nth.{Blanks}
@@ -236,9 +236,9 @@ Unbanged [] = Unit
 Unbanged (k ∷ ks) = (is_delim ascii.exclamation_mark k ≡ false) × Unbanged ks
 
 -- so they have no mark
-pub unbanged-plain : (ks : List Token) → Unbanged ks → is_important ks ≡ false
+pub unbanged-plain : (ks : List Token) → Unbanged ks → (marked ks).important ≡ false
 unfolding Unbanged
-unbanged-plain [] h = unfold is_important in refl
+unbanged-plain [] h = unfold marked in refl
 unbanged-plain (k ∷ ks) h = plain-first k ks h.0 ∙ unbanged-plain ks h.1
 
 -- what a statement does at each kind of token

@@ -324,7 +324,7 @@ all-brackets p f x y z curly = z
 
 -- characters of names are plain characters
 names-plainly : Plainly is_nmchar
-unfolding is_nmchar is_nmstart or and within is opens closes
+unfolding is_nmchar is_nmstart is_digit or and within is opens closes
 names-plainly =
     record {
       unblank = record { of_space = refl; of-tab = refl; of-line-feed = refl; of-carriage-return = refl; of-form-feed = refl; of-solidus = refl };
@@ -870,16 +870,16 @@ greater-plainly =
     }
 
 -- so no `-->` begins where none was written
-no-cdc : (x : ℕ) (l t : List ℕ) → starts_with tokens.cdc_mark (x ∷ l) ≡ false → Halts t → starts_with tokens.cdc_mark (x ∷ (l ++ t)) ≡ false
-unfolding starts_with
+no-cdc : (x : ℕ) (l t : List ℕ) → starts_with (text "-->") (x ∷ l) ≡ false → Halts t → starts_with (text "-->") (x ∷ (l ++ t)) ≡ false
+unfolding starts_with text utf8 pick
 no-cdc x [] t e h = rules.and_right _ _ (starts-not ascii.hyphen_minus (ascii.greater_than_sign ∷ []) t (halts-first (λ x. is x ascii.hyphen_minus) dash-plainly h))
 no-cdc x (y ∷ []) t e h =
     rules.and_right _ _ (rules.and_right _ _ (starts-not ascii.greater_than_sign [] t (halts-first (λ x. is x ascii.greater_than_sign) greater-plainly h)))
 no-cdc x (y ∷ z ∷ l) t e h = e
 
 -- nor does a `<!--` begin where none was written
-no-cdo : (x : ℕ) (l t : List ℕ) → starts_with tokens.cdo_mark (x ∷ l) ≡ false → same_text (x ∷ l) (text "<") ≡ false → is x ascii.less_than_sign ≡ true → Halts t
-    → starts_with tokens.cdo_mark (x ∷ (l ++ t)) ≡ false
+no-cdo : (x : ℕ) (l t : List ℕ) → starts_with (text "<!--") (x ∷ l) ≡ false → same_text (x ∷ l) (text "<") ≡ false → is x ascii.less_than_sign ≡ true → Halts t
+    → starts_with (text "<!--") (x ∷ (l ++ t)) ≡ false
 unfolding starts_with same_text text utf8 pick
 no-cdo x [] t e d q h = never (sym d ∙ rules.and_both (is x ascii.less_than_sign) true q refl)
 no-cdo x (y ∷ []) t e d q h =
@@ -905,7 +905,7 @@ module _ (t : List ℕ) (h : Halts t) (x : ℕ) (e : is_plain x ≡ true) (v : B
       (subst (λ (b : Bool). TokenIn (plain x e v) t (pick b (ok 3 tokens.cdc) (or_else (ident_like_of text-here) (ok 1 (tokens.delim x))))) (sym no-mark)
       (unfold pick in else-in t h (plain x e v) _ _ (like-in t h (plain x e v) c) (delim-in t h x e v)))
     where
-      no-mark : starts_with tokens.cdc_mark text-here ≡ false
+      no-mark : starts_with (text "-->") text-here ≡ false
       no-mark = unfold written_balanced in no-cdc x (written_balanced v) t (unfold is_mark in (neither _ _ (neither _ _ clear_behind.0).1).0) h
 
   -- `<` is a delimiter; a `<!--` it is not
@@ -913,10 +913,10 @@ module _ (t : List ℕ) (h : Halts t) (x : ℕ) (e : is_plain x ≡ true) (v : B
   unfolding tokens.less_of
   less-in q = subst (λ (b : Bool). TokenIn (plain x e v) t (pick b (ok 4 tokens.cdo) (ok 1 (tokens.delim x)))) (sym no-mark) (unfold pick in delim-in t h x e v)
     where
-      marks : (is_mark (x ∷ written_balanced v) ≡ false) → (starts_with tokens.cdo_mark (x ∷ written_balanced v) ≡ false) × (same_text (x ∷ written_balanced v) (text "<") ≡ false)
+      marks : (is_mark (x ∷ written_balanced v) ≡ false) → (starts_with (text "<!--") (x ∷ written_balanced v) ≡ false) × (same_text (x ∷ written_balanced v) (text "<") ≡ false)
       marks m = unfold is_mark in (let a = neither _ _ (neither _ _ (neither _ _ m).1).1 in (a.0, (neither _ _ a.1).0))
 
-      no-mark : starts_with tokens.cdo_mark text-here ≡ false
+      no-mark : starts_with (text "<!--") text-here ≡ false
       no-mark = let m = marks clear_behind.0 in unfold written_balanced in no-cdo x (written_balanced v) t m.0 m.1 q h
 
   -- what the token takes, by the reader that its first character selects
@@ -961,14 +961,8 @@ name-some-read err f q g h = h
 
 -- a letter is one that starts a name
 letter-start : (x : ℕ) → x ≤ tilde → is_ident_start x ≡ true → is_nmstart x ≡ true
-unfolding is_ident_start is_nmstart
-letter-start x l e =
-    rules.either (or (is x ascii.low_line) (or (within x ascii.small_a ascii.small_z) (within x ascii.capital_a ascii.capital_z)) ≡ true) _ _ e
-    (λ s. or-second (is x ascii.low_line) _ (rules.or_left _ _ s))
-    (λ r. rules.either (or (is x ascii.low_line) (or (within x ascii.small_a ascii.small_z) (within x ascii.capital_a ascii.capital_z)) ≡ true) _ _ r
-    (λ s. or-second (is x ascii.low_line) _ (or-second (within x ascii.small_a ascii.small_z) _ s))
-    (λ q. rules.either (or (is x ascii.low_line) (or (within x ascii.small_a ascii.small_z) (within x ascii.capital_a ascii.capital_z)) ≡ true) _ _ q
-    (λ s. rules.or_left _ _ s) (λ s. absurd (omega (arith, leb-true tokens.first_above_u0080 x s)))))
+unfolding is_ident_start
+letter-start x l e = rules.either (is_nmstart x ≡ true) _ _ e (λ s. s) (λ s. absurd (omega (arith, leb-true tokens.first_above_u0080 x s)))
 
 -- and so is what it begins
 letter-named : (x : ℕ) (l : List ℕ) → whitespace_item (x ∷ l) ≡ 0 → is x ascii.hyphen_minus ≡ false → is_nmstart x ≡ true
@@ -1065,7 +1059,7 @@ module _ (t : List ℕ) (h : Halts t) (x : ℕ) (e : is_plain x ≡ true) (v : B
       else-second err q d = unfold or_else in d
 
       less-some : Some (tokens.less_of x text-there)
-      less-some = unfold tokens.less_of in pick_some (starts_with tokens.cdo_mark text-there) _ _ (some_read 4 tokens.cdo) (some_read 1 (tokens.delim x))
+      less-some = unfold tokens.less_of in pick_some (starts_with (text "<!--") text-there) _ _ (some_read 4 tokens.cdo) (some_read 1 (tokens.delim x))
 
       minus-some : Some (tokens.minus_of x text-there)
-      minus-some = unfold tokens.minus_of in else-second _ _ (pick_some (starts_with tokens.cdc_mark text-there) _ _ (some_read 3 tokens.cdc) (else-some _ 1 (tokens.delim x)))
+      minus-some = unfold tokens.minus_of in else-second _ _ (pick_some (starts_with (text "-->") text-there) _ _ (some_read 3 tokens.cdc) (else-some _ 1 (tokens.delim x)))

@@ -16,7 +16,7 @@ use Rattle.combinators.specs.Repeat.{many, took}
 use Rattle.combinators.specs.Word.{starts_with}
 use Rattle.combinators.specs.All.{member}
 use Rattle.combinators.proofs.Lists.{first}
-use Rattle.combinators.proofs.Rules.{never, pick_true, pick-false, either, and-true, is-yes, is-no, is_true, or-none, within-true, within-false, within-past, neither}
+use Rattle.combinators.proofs.Rules.{never, pick_true, pick-false, either, and-true, is-yes, is-no, is_true, or_left, or-none, within-true, within-false, within-past, neither}
 use Rattle.combinators.proofs.Repeats.{many-stop, texts-stop}
 use Rattle.characters.specs.Literal.{text}
 use Rattle.characters.specs.Utf8.{utf8, scalar_of, taken_of}
@@ -71,19 +71,10 @@ start-marks : (ident_start ascii.quotation_mark ≡ false) × (ident_start ascii
 unfolding ident_start letter or and within is
 start-marks = (refl, refl, refl, refl, refl, refl, refl, refl)
 
--- the document's test of a first character is the crate's, of ASCII
-or-among : (a b c d : Bool) → or (or a b) c ≡ true → or b (or a (or c d)) ≡ true
-unfolding or
-or-among true true c d e = refl
-or-among true false c d e = refl
-or-among false true c d e = refl
-or-among false false true d e = refl
-or-among false false false d e = never e
-
--- so where the document says it is one, the crate does
+-- where the document says that a character is an ident-start code point, the crate says that it starts a name
 crate-start : (x : ℕ) → ident_start x ≡ true → is_ident_start x ≡ true
-unfolding ident_start letter is_ident_start
-crate-start x e = or-among _ _ _ _ e
+unfolding is_ident_start
+crate-start x e = or_left _ _ (sym (start_is x) ∙ e)
 
 -- an ident-start code point selects the reader of names
 start-letter : (x : ℕ) (l : List ℕ) → ident_start x ≡ true → token_with 1 x l ≡ ident_like_of l
@@ -134,7 +125,7 @@ letter-begins x l n k e p = begins-by x l n k (code-point-item x l (start-code-p
 
 -- and so is what a '-' begins before one
 dash-begins : (x : ℕ) (l : List ℕ) (n : ℕ) (k : Token) → ident_start x ≡ true → ident_like_of (ascii.hyphen_minus ∷ x ∷ l) ≡ ok n k → Begins (ascii.hyphen_minus ∷ x ∷ l) n k
-unfolding token_with is_quote minus_of or_else starts_with pick or and is
+unfolding token_with is_quote minus_of or_else starts_with text utf8 pick or and is
 dash-begins x l n k e p =
     begins-by ascii.hyphen_minus (x ∷ l) n k (code-point-item ascii.hyphen_minus (x ∷ l) hyphen-code-point) (omega arith)
     (rw (dashed-number x l e, differs ident_start x ascii.hyphen_minus e start-marks.4, p))
@@ -443,7 +434,7 @@ digit-marks = (refl, refl, refl, refl, refl, refl, refl, refl)
 
 -- a digit lies below all that starts a name
 digit-below : (x : ℕ) → is_digit x ≡ true → (x ≤ 0x7f) × (is_ident_start x ≡ false)
-unfolding is_digit is_ident_start or
+unfolding is_digit is_ident_start is_nmstart or
 digit-below x e =
     let h = within-true x ascii.digit_zero ascii.digit_nine e in (
       omega arith,
@@ -590,50 +581,50 @@ name-item n t = by-start n.bytes n.sequence
 -- ---- code points that are tokens by themselves: 4.3.1, Consume a token
 -- a comma is a token of one byte
 pub comma-token : (t : List ℕ) → Begins (ascii.comma ∷ t) 1 tokens.comma
-unfolding whitespace_item is_whitespace comment_of token_with is_quote is_ident_start is_digit mark_of pick or and within is
+unfolding whitespace_item is_whitespace comment_of token_with is_quote is_ident_start is_nmstart is_digit mark_of pick or and within is
 comma-token t = begins-by ascii.comma t 1 _ refl (omega arith) refl
 
 -- a colon is a token of one byte
 pub colon-token : (t : List ℕ) → Begins (ascii.colon ∷ t) 1 tokens.colon
-unfolding whitespace_item is_whitespace comment_of token_with is_quote is_ident_start is_digit mark_of pick or and within is
+unfolding whitespace_item is_whitespace comment_of token_with is_quote is_ident_start is_nmstart is_digit mark_of pick or and within is
 colon-token t = begins-by ascii.colon t 1 _ refl (omega arith) refl
 
 -- a semicolon is a token of one byte
 pub semicolon-token : (t : List ℕ) → Begins (ascii.semicolon ∷ t) 1 tokens.semicolon
-unfolding whitespace_item is_whitespace comment_of token_with is_quote is_ident_start is_digit mark_of pick or and within is
+unfolding whitespace_item is_whitespace comment_of token_with is_quote is_ident_start is_nmstart is_digit mark_of pick or and within is
 semicolon-token t = begins-by ascii.semicolon t 1 _ refl (omega arith) refl
 
 -- what opens a block: a round bracket
 pub round-token : (t : List ℕ) → Begins (ascii.left_parenthesis ∷ t) 1 tokens.open_round
-unfolding whitespace_item is_whitespace comment_of token_with is_quote is_ident_start is_digit mark_of pick or and within is
+unfolding whitespace_item is_whitespace comment_of token_with is_quote is_ident_start is_nmstart is_digit mark_of pick or and within is
 round-token t = begins-by ascii.left_parenthesis t 1 _ refl (omega arith) refl
 
 -- an opening square bracket is a token of one byte
 pub square-token : (t : List ℕ) → Begins (ascii.left_square_bracket ∷ t) 1 tokens.open_square
-unfolding whitespace_item is_whitespace comment_of token_with is_quote is_ident_start is_digit mark_of pick or and within is
+unfolding whitespace_item is_whitespace comment_of token_with is_quote is_ident_start is_nmstart is_digit mark_of pick or and within is
 square-token t = begins-by ascii.left_square_bracket t 1 _ refl (omega arith) refl
 
 -- an opening brace is a token of one byte
 pub brace-token : (t : List ℕ) → Begins (ascii.left_curly_bracket ∷ t) 1 tokens.open_brace
-unfolding whitespace_item is_whitespace comment_of token_with is_quote is_ident_start is_digit mark_of pick or and within is
+unfolding whitespace_item is_whitespace comment_of token_with is_quote is_ident_start is_nmstart is_digit mark_of pick or and within is
 brace-token t = begins-by ascii.left_curly_bracket t 1 _ refl (omega arith) refl
 
 -- the byte that closes it
 pub closer-token : (o : Opening) (t : List ℕ) → Begins (closer o ∷ t) 1 (means_closer o)
-unfolding closer means_closer whitespace_item is_whitespace comment_of token_with is_quote is_ident_start is_digit mark_of pick or and within is
+unfolding closer means_closer whitespace_item is_whitespace comment_of token_with is_quote is_ident_start is_nmstart is_digit mark_of pick or and within is
 closer-token (function n d) t = begins-by ascii.right_parenthesis t 1 _ refl (omega arith) refl
 closer-token round t = begins-by ascii.right_parenthesis t 1 _ refl (omega arith) refl
 closer-token square t = begins-by ascii.right_square_bracket t 1 _ refl (omega arith) refl
 closer-token brace t = begins-by ascii.right_curly_bracket t 1 _ refl (omega arith) refl
 
 -- "If the next 3 input code points are U+0021 EXCLAMATION MARK U+002D HYPHEN-MINUS U+002D HYPHEN-MINUS (!--), consume them and return a <CDO-token>"
-pub cdo-token : (t : List ℕ) → Begins (tokens.cdo_mark ++ t) 4 tokens.cdo
-unfolding whitespace_item is_whitespace comment_of token_with is_quote less_of starts_with pick or and is
+pub cdo-token : (t : List ℕ) → Begins (text "<!--" ++ t) 4 tokens.cdo
+unfolding whitespace_item is_whitespace comment_of token_with is_quote less_of starts_with text utf8 pick or and is
 cdo-token t = begins-by ascii.less_than_sign (ascii.exclamation_mark ∷ ascii.hyphen_minus ∷ ascii.hyphen_minus ∷ t) 4 tokens.cdo refl (omega arith) refl
 
 -- "if the next 2 input code points are U+002D HYPHEN-MINUS U+003E GREATER-THAN SIGN (->), consume them and return a <CDC-token>"
-pub cdc-token : (t : List ℕ) → Begins (tokens.cdc_mark ++ t) 3 tokens.cdc
-unfolding whitespace_item is_whitespace comment_of token_with is_quote minus_of numeric_of numbers.number numbers.signed numbers.sign numbers.unsigned numbers.decimal digits one_digit is_digit skip_whitespace many took or_else starts_with pick or and within is
+pub cdc-token : (t : List ℕ) → Begins (text "-->" ++ t) 3 tokens.cdc
+unfolding whitespace_item is_whitespace comment_of token_with is_quote minus_of numeric_of numbers.number numbers.signed numbers.sign numbers.unsigned numbers.decimal digits one_digit is_digit skip_whitespace many took or_else starts_with text utf8 pick or and within is
 cdc-token t = begins-by ascii.hyphen_minus (ascii.hyphen_minus ∷ ascii.greater_than_sign ∷ t) 3 tokens.cdc refl (omega arith) refl
 
 -- a delimiter is of ASCII, is a token by itself, and is no white space
@@ -653,7 +644,7 @@ every P c (k ∷ ks) h e = either (P c) _ _ e (λ w. subst P (sym (is_true c k w
 
 -- so it does of each delimiter
 delimiter-plain : (c : ℕ) → is_delimiter c ≡ true → Plain c
-unfolding is_delimiter Every text utf8 pick token_with is_quote is_ident_start is_digit is_whitespace mark_of or and within is
+unfolding is_delimiter Every text utf8 pick token_with is_quote is_ident_start is_nmstart is_digit is_whitespace mark_of or and within is
 delimiter-plain c e =
     every Plain c (text "!$%&*/=>?^`|~")
     ((omega arith, λ t. refl, refl), ((omega arith, λ t. refl, refl), ((omega arith, λ t. refl, refl), ((omega arith, λ t. refl, refl), ((omega arith, λ t. refl, refl), ((omega arith, λ t. refl, refl), ((omega arith, λ t. refl, refl), ((omega arith, λ t. refl, refl), ((omega arith, λ t. refl, refl), ((omega arith, λ t. refl, refl), ((omega arith, λ t. refl, refl), ((omega arith, λ t. refl, refl), ((omega arith, λ t. refl, refl), tt))))))))))))) e
@@ -698,8 +689,8 @@ hyphen-unnamed t h = rw (name-at (ascii.hyphen_minus ∷ t) (skips-blank [] (asc
     unnamed t h = name-none (ascii.hyphen_minus ∷ t) (unfold dash pick is in no_start t (no-first (get_or t 0 0) h.no-character) (is-no _ _ h.no-escape))
 
 -- a hyphen before which no name goes on is not the mark `-->`
-hyphen-unmarked : (t : List ℕ) → NameEnds t → starts_with tokens.cdc_mark (ascii.hyphen_minus ∷ t) ≡ false
-hyphen-unmarked t h = unfold starts_with and is in starts-not ascii.hyphen_minus (ascii.greater_than_sign ∷ []) t (is-no _ _ (λ q. never (sym h.no-character ∙ ap ident_code_point q ∙ hyphen-code-point)))
+hyphen-unmarked : (t : List ℕ) → NameEnds t → starts_with (text "-->") (ascii.hyphen_minus ∷ t) ≡ false
+hyphen-unmarked t h = unfold starts_with text utf8 pick and is in starts-not ascii.hyphen_minus (ascii.greater_than_sign ∷ []) t (is-no _ _ (λ q. never (sym h.no-character ∙ ap ident_code_point q ∙ hyphen-code-point)))
 
 -- "Otherwise, return a <delim-token>": U+002D HYPHEN-MINUS
 pub hyphen-token : (t : List ℕ) → NameEnds t → is (get_or t 0 0) ascii.full_stop ≡ false → Begins (ascii.hyphen_minus ∷ t) 1 (tokens.delim ascii.hyphen_minus)
@@ -707,7 +698,7 @@ hyphen-token t h e =
     begins-by ascii.hyphen_minus t 1 (tokens.delim ascii.hyphen_minus) (code-point-item ascii.hyphen_minus t hyphen-code-point) (omega arith)
     (by-minus t (minus-none t (ended-digit _ h.no-character) e) (hyphen-unmarked t h) (hyphen-unnamed t h))
   where
-    by-minus : (t : List ℕ) → numeric_of (ascii.hyphen_minus ∷ t) ≡ err → starts_with tokens.cdc_mark (ascii.hyphen_minus ∷ t) ≡ false → ident_like_of (ascii.hyphen_minus ∷ t) ≡ err
+    by-minus : (t : List ℕ) → numeric_of (ascii.hyphen_minus ∷ t) ≡ err → starts_with (text "-->") (ascii.hyphen_minus ∷ t) ≡ false → ident_like_of (ascii.hyphen_minus ∷ t) ≡ err
         → token_with 1 ascii.hyphen_minus (ascii.hyphen_minus ∷ t) ≡ ok 1 (tokens.delim ascii.hyphen_minus)
     by-minus t p q r = unfold token_with is_quote minus_of or_else pick or is in rw (p, q, r)
 

@@ -24,8 +24,9 @@ use Rattle.lexer.specs.Whitespace.{is_whitespace, comment_of, whitespace_item, s
 use Rattle.lexer.proofs.SyntaxName.{ident_start, ident_code_point, letter}
 use Rattle.lexer.proofs.SyntaxWhitespace.{Blank, none, white, comment, skips-blank}
 use Rattle.lexer.proofs.TokenBounds.{token-fits}
-use Rattle.values.specs.Value.{Placed, bracket_of, next, before, closing, ending, step_of, Statement, stop, cons, on_step, scan, statement_of, tokens_of, is_mark, is_important, without_mark, value_from, value_of}
+use Rattle.values.specs.Value.{Value, Placed, bracket_of, next, before, closing, ending, step_of, Statement, stop, cons, on_step, scan, statement_of, tokens_of, is_mark, marked, value_from, value_of}
 use Rattle.values.specs.Words.{is_word, is_delim}
+use Rattle.values.proofs.Marks.{two-important}
 use Rattle.grammar.specs.Nth.{Blanks}
 use Rattle.grammar.specs.Tokens.{is_delimiter, Atom, word, string, hash, number, percentage, dimension, comma, colon, semicolon, delimiter, point, hyphen, addition, Opening, function, round, square, brace, written_atom, written_opening, closer, means_atom, means_opening, means_closer, ends_name, begins_name, begins_number, may_follow, MayFollow, EndsBefore, Ident, folded}
 use Rattle.grammar.specs.Values.{Values, end, then, block, written_values, means_values, Follows, Apart, is_semicolon, is_bang, is_brace, Outermost, Unmarked, DeclarationValue, Importance, normal, important, written_importance, is_marked}
@@ -358,17 +359,17 @@ unfolding step_of bracket_of
 mark-goes = (refl, refl)
 
 -- one that is no '!' is not of the mark
-pub plain-first : (k : Token) (ks : List Token) → is_delim ascii.exclamation_mark k ≡ false → is_important (k ∷ ks) ≡ is_important ks
-unfolding is_important is_mark and
+pub plain-first : (k : Token) (ks : List Token) → is_delim ascii.exclamation_mark k ≡ false → (marked (k ∷ ks)).important ≡ (marked ks).important
+unfolding marked is_mark and pick
 plain-first k [] e = refl
 plain-first k (a ∷ []) e = rw e
 plain-first k (a ∷ b ∷ ks) e = refl
 
 -- what stands before one that is no word does not matter
-plain-behind : (xs : List Token) (k : Token) (ys : List Token) → is_word (text "important") k ≡ false → is_important (xs ++ (k ∷ ys)) ≡ is_important (k ∷ ys)
-unfolding is_important
+plain-behind : (xs : List Token) (k : Token) (ys : List Token) → is_word (text "important") k ≡ false → (marked (xs ++ (k ∷ ys))).important ≡ (marked (k ∷ ys)).important
+unfolding marked
 plain-behind [] k ys e = refl
-plain-behind (x ∷ []) k [] e = unfold is_mark in and_right _ _ e
+plain-behind (x ∷ []) k [] e = two-important (is_mark x k) x k ∙ unfold is_mark in and_right _ _ e
 plain-behind (x ∷ []) k (y ∷ ys) e = refl
 plain-behind (x ∷ z ∷ []) k ys e = plain-behind (z ∷ []) k ys e
 plain-behind (x ∷ z ∷ a ∷ xs) k ys e = plain-behind (z ∷ a ∷ xs) k ys e
@@ -400,42 +401,38 @@ brackets-plain square = (refl, refl, refl)
 brackets-plain brace = (refl, refl, refl)
 
 -- so values without a '!' outside brackets have no mark
-values-unmarked : (v : Values) → Unmarked v → is_important (means_values v) ≡ false
+values-unmarked : (v : Values) → Unmarked v → (marked (means_values v)).important ≡ false
 unfolding means_values Unmarked
-values-unmarked (end b) h = unfold is_important in refl
+values-unmarked (end b) h = unfold marked in refl
 values-unmarked (then b a v) h = plain-first (means_atom a) (means_values v) (atom-plain a h.0) ∙ values-unmarked v h.1
 values-unmarked (block b o w v) h =
     let p = brackets-plain o in
     plain-first (means_opening o) (means_values w ++ (means_closer o ∷ means_values v)) p.0 ∙ plain-behind (means_values w) (means_closer o) (means_values v) p.2
     ∙ plain-first (means_closer o) (means_values v) p.1 ∙ values-unmarked v h
 
+-- a token before three and more is left with what is left of them
+abbrev onto : Token → Value → Value
+onto a v = record { tokens = a ∷ v.tokens; important = v.important }
+
 -- and nothing is taken off them
-unmarked-whole : (ks : List Token) → is_important ks ≡ false → without_mark ks ≡ ks
-unfolding is_important without_mark pick
+unmarked-whole : (ks : List Token) → (marked ks).important ≡ false → marked ks ≡ record { tokens = ks; important = false }
+unfolding marked pick
 unmarked-whole [] e = refl
 unmarked-whole (a ∷ []) e = refl
-unmarked-whole (a ∷ b ∷ []) e = rw e
-unmarked-whole (a ∷ b ∷ c ∷ ks) e = ap (λ (l : List Token). a ∷ l) (unmarked-whole (b ∷ c ∷ ks) e)
+unmarked-whole (a ∷ b ∷ []) e = let h : is_mark a b ≡ false = sym (two-important (is_mark a b) a b) ∙ e in rw h
+unmarked-whole (a ∷ b ∷ c ∷ ks) e = ap (onto a) (unmarked-whole (b ∷ c ∷ ks) e)
 
 -- the tokens of the mark
 abbrev pub mark_tokens : List Token
 mark_tokens = tokens.delim ascii.exclamation_mark ∷ tokens.ident (text "important") ∷ []
 
--- behind any tokens they are the mark
-marked-is : (ks : List Token) → is_important (ks ++ mark_tokens) ≡ true
-unfolding is_important
+-- the mark behind any tokens is taken off, and the tokens are left
+marked-is : (ks : List Token) → marked (ks ++ mark_tokens) ≡ record { tokens = ks; important = true }
+unfolding marked
 marked-is [] = unfold is_mark is_delim is_word same_text and is text utf8 pick in refl
-marked-is (a ∷ []) = marked-is []
-marked-is (a ∷ b ∷ []) = marked-is (b ∷ [])
-marked-is (a ∷ b ∷ c ∷ ks) = marked-is (b ∷ c ∷ ks)
-
--- the mark behind tokens is taken off, and the tokens are left
-marked-without : (ks : List Token) → without_mark (ks ++ mark_tokens) ≡ ks
-unfolding without_mark
-marked-without [] = unfold is_mark is_delim is_word same_text and is text utf8 pick in refl
-marked-without (a ∷ []) = ap (λ (l : List Token). a ∷ l) (marked-without [])
-marked-without (a ∷ b ∷ []) = ap (λ (l : List Token). a ∷ l) (marked-without (b ∷ []))
-marked-without (a ∷ b ∷ c ∷ ks) = ap (λ (l : List Token). a ∷ l) (marked-without (b ∷ c ∷ ks))
+marked-is (a ∷ []) = ap (onto a) (marked-is [])
+marked-is (a ∷ b ∷ []) = ap (onto a) (marked-is (b ∷ []))
+marked-is (a ∷ b ∷ c ∷ ks) = ap (onto a) (marked-is (b ∷ c ∷ ks))
 
 -- each atom ends where the grammar says so
 pub follows : (a : Atom) (v : Values) (z : List ℕ) → Follows a v → Apart v → Halts z → EndsBefore a (written_values v ++ z)
@@ -615,28 +612,27 @@ module _ (b c : Blanks) (n : Ident) (i : folded n ≡ text "important") (z : Lis
 
 -- ---- `value_of`
 -- by what the statement says
-value-by : (s : List ℕ) (n : ℕ) (ks js : List Token) (i : Bool) → Stated false s n ks → without_mark ks ≡ js → is_important ks ≡ i
+value-by : (s : List ℕ) (n : ℕ) (ks js : List Token) (i : Bool) → Stated false s n ks → marked ks ≡ record { tokens = js; important = i }
     → value_of s ≡ ok n (record { tokens = js; important = i })
 unfolding value_of value_from pick
-value-by s n ks js i t e d = rw (t.states, t.tokens, e, d)
+value-by s n ks js i t e = rw (t.states, t.tokens, e)
 
 -- tokens that pass, up to where the document ends a value
-pass-value : (w : List ℕ) {s z : List ℕ} {ks : List Token} (js : List Token) (i : Bool) → s ≡ w ++ z → Passes false s z 0 [] [] ks → ValueEnds z → without_mark ks ≡ js → is_important ks ≡ i
+pass-value : (w : List ℕ) {s z : List ℕ} {ks : List Token} (js : List Token) (i : Bool) → s ≡ w ++ z → Passes false s z 0 [] [] ks → ValueEnds z → marked ks ≡ record { tokens = js; important = i }
     → value_of s ≡ ok (length w) (record { tokens = js; important = i })
-pass-value w {s} {z} {ks} js i e p h d k =
-    value-by s (length w) ks js i (subst (λ (n : ℕ). Stated false s n ks) (passed_length w e p) (stated p (value-stops h))) d k
+pass-value w {s} {z} {ks} js i e p h d =
+    value-by s (length w) ks js i (subst (λ (n : ℕ). Stated false s n ks) (passed_length w e p) (stated p (value-stops h))) d
 
 -- a text whose tokens pass and have no mark, and a mark behind it or none
-pub marked-read : (w : List ℕ) (m : Importance) (z : List ℕ) {ks : List Token} → Passes false (w ++ (written_importance m ++ z)) (written_importance m ++ z) 0 [] [] ks → is_important ks ≡ false
+pub marked-read : (w : List ℕ) (m : Importance) (z : List ℕ) {ks : List Token} → Passes false (w ++ (written_importance m ++ z)) (written_importance m ++ z) 0 [] [] ks → (marked ks).important ≡ false
     → ValueEnds z → value_of ((w ++ written_importance m) ++ z) ≡ ok (length (w ++ written_importance m)) (record { tokens = ks; important = is_marked m })
 unfolding is_marked written_importance
 marked-read w normal z {ks} p u e =
     ap value_of (append_assoc w (written_importance normal) z)
-    ∙ pass-value (w ++ written_importance normal) ks false (sym (append_assoc w (written_importance normal) z)) p e (unmarked-whole ks u) u
+    ∙ pass-value (w ++ written_importance normal) ks false (sym (append_assoc w (written_importance normal) z)) p e (unmarked-whole ks u)
 marked-read w (important b c n i) z {ks} p u e =
     ap value_of (append_assoc w (written_importance (important b c n i)) z)
-    ∙ pass-value (w ++ written_importance (important b c n i)) ks true (sym (append_assoc w (written_importance (important b c n i)) z)) (mark-pass b c n i z p (ends-halt e)) e (marked-without ks)
-    (marked-is ks)
+    ∙ pass-value (w ++ written_importance (important b c n i)) ks true (sym (append_assoc w (written_importance (important b c n i)) z)) (mark-pass b c n i z p (ends-halt e)) e (marked-is ks)
 
 -- a value of the grammar and its mark, if it has one, are read whole, up to where the document ends them
 pub value_read : (v : Values) (m : Importance) (z : List ℕ) → DeclarationValue v → ValueEnds z

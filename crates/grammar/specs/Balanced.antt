@@ -10,7 +10,7 @@ use Rattle.combinators.specs.All.{member}
 use Rattle.characters.specs.Literal.{text}
 use Rattle.characters.specs.Utf8.{utf8}
 use Rattle.lexer.specs.Name.{lower}
-use Rattle.lexer.specs.Token.{cdc_mark, cdo_mark, is_quote}
+use Rattle.lexer.specs.Token.{is_quote}
 use Rattle.lexer.proofs.SyntaxWhitespace.{White, Comment}
 use Rattle.grammar.specs.Selectors.{Quoted}
 
@@ -72,7 +72,7 @@ is_odd_url s = and (starts_with (text "url(") (map lower s)) (not (or (is_quote 
 
 -- among plain characters no `/*` begins; no `<!--` and no `-->`, which are brackets to the reader, and a '<' is not the last; and no such `url(`
 unfoldable pub is_mark : List ℕ → Bool
-is_mark s = or (starts_with (text "/*") s) (or (starts_with cdc_mark s) (or (starts_with cdo_mark s) (or (same_text s (text "<")) (is_odd_url s))))
+is_mark s = or (starts_with (text "/*") s) (or (starts_with (text "-->") s) (or (starts_with (text "<!--") s) (or (same_text s (text "<")) (is_odd_url s))))
 
 test-marks : (is_mark (text "url(a.png)") ≡ false) × (is_mark (text "URL('a b')") ≡ false) × (is_mark (text "url(a b)") ≡ true) × (is_mark (text "-->") ≡ true) × (is_mark (text "/*") ≡ true)
     × (is_mark (text "/2") ≡ false) × (is_mark (text "<!--") ≡ true) × (is_mark (text "<=2") ≡ false)

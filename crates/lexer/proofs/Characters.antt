@@ -17,6 +17,7 @@ use Rattle.combinators.specs.declared.taken.Taken.{Taken}
 use Rattle.characters.proofs.Scalars.{utf8-ascii, utf8-le, utf8-small, or-replacement-same}
 use Rattle.characters.proofs.RoundTrip.{written_back}
 use Rattle.lexer.specs.Name.{is_nmstart, is_nmchar, lower, folded_char, is_hex_digit, hex_run, maximum_digits, hex_count, hex_value, behind_one, escaped_of, ident_escape_of, nmchar_of, bytes_of, char_taken, char_text}
+use Rattle.lexer.specs.Number.{is_digit}
 use Rattle.lexer.proofs.Bounds.{Bound, short, lone, Fits}
 use Rattle.lexer.proofs.Escapes.{power_of_sixteen, value-lt}
 
@@ -33,7 +34,7 @@ nmstart-nmchar x e = rules.or_left _ _ e
 
 -- 0, which a place past the end reads as, is no character of names
 nmchar-null : is_nmchar 0 ≡ false
-unfolding is_nmchar is_nmstart or and within is
+unfolding is_nmchar is_nmstart is_digit or and within is
 nmchar-null = refl
 
 -- what can start a name is at most 'z'
@@ -45,7 +46,7 @@ nmstart-le x e =
 
 -- and so is every character of names
 nmchar-le : (x : ℕ) → is_nmchar x ≡ true → x ≤ small_z
-unfolding is_nmchar
+unfolding is_nmchar is_digit
 nmchar-le x e =
     rules.either (x ≤ small_z) _ _ e (nmstart-le x)
     (λ h. rules.either (x ≤ small_z) _ _ h (λ w. omega (arith, within-true x digit_zero digit_nine w)) (λ w. omega (arith, is_true x hyphen_minus w)))

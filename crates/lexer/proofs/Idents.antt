@@ -23,6 +23,7 @@ use Rattle.characters.specs.Utf8.{utf8}
 use Rattle.combinators.specs.declared.taken.Taken.{Taken}
 use Rattle.lexer.specs.Whitespace.{skip_whitespace}
 use Rattle.lexer.specs.Name.{is_nmstart, is_nmchar, lower, ident_escape_of, nmstart_of, nmchar_of, chars_end, chars_text, name_from, dash, name_of, chars_of, name_answer, name_text}
+use Rattle.lexer.specs.Number.{is_digit}
 use Rattle.lexer.specs.declared.Written.{Written}
 use Rattle.lexer.proofs.Bounds.{none_of}
 use Rattle.lexer.proofs.Escapes.{char-yes, char-no}
@@ -31,12 +32,12 @@ use Rattle.lexer.proofs.CharacterRuns.{Emitted, chars-bound, chars-step, chars-t
 -- ---- what starts a name is a character of names too
 -- a backslash neither starts a name nor continues one
 slash-no : (is_nmstart reverse_solidus ≡ false) × (is_nmchar reverse_solidus ≡ false)
-unfolding is_nmstart is_nmchar or and within is
+unfolding is_nmstart is_nmchar is_digit or and within is
 slash-no = (refl, refl)
 
 -- a '-' is one that is not folded
 dash-yes : (is_nmchar hyphen_minus ≡ true) × (lower hyphen_minus ≡ hyphen_minus) × (utf8 hyphen_minus ≡ hyphen_minus ∷ [])
-unfolding is_nmstart is_nmchar lower utf8 or and within is pick
+unfolding is_nmstart is_nmchar is_digit lower utf8 or and within is pick
 dash-yes = (refl, refl, refl)
 
 -- a character of names that is no escape

@@ -18,7 +18,7 @@ use Rattle.combinators.proofs.Rules.{within-past, within-yes, pick_true, pick-fa
 use Rattle.characters.specs.Utf8.{is_scalar, or_replacement, replacement_character}
 use Rattle.characters.proofs.Scalars.{or-replacement-same}
 use Rattle.lexer.specs.Name.{is_nmstart, is_nmchar, folded_char, is_hex_digit, hex_digit, hex_run, maximum_digits, hex_value, escaped_of, ident_escape_of, nmchar_of}
-use Rattle.lexer.specs.Name as names
+use Rattle.lexer.specs.Number.{is_digit}
 use Rattle.lexer.proofs.Escapes.{escaped-hex, short-of}
 use Rattle.lexer.proofs.SyntaxName.{Each}
 use Rattle.lexer.proofs.SyntaxName.Each.{none, more}
@@ -67,7 +67,7 @@ code-point-some n d = pick-false _ _ _ _ (is-no n 0 d) refl
 
 -- a backslash begins an escape
 escape-begins : (l : List ℕ) → nmchar_of (reverse_solidus ∷ l) ≡ escaped_of l
-unfolding nmchar_of folded_char is_nmchar is_nmstart ident_escape_of or and within is pick
+unfolding nmchar_of folded_char is_nmchar is_nmstart is_digit ident_escape_of or and within is pick
 escape-begins l = refl
 
 -- the first of one or more is there

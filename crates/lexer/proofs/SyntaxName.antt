@@ -18,6 +18,7 @@ use Rattle.combinators.proofs.Repeats.{many-stop, texts-stop}
 use Rattle.characters.specs.Utf8.{taken_of}
 use Rattle.lexer.specs.Whitespace.{comment_of, whitespace_item, skip_whitespace}
 use Rattle.lexer.specs.Name.{is_nmstart, is_nmchar, lower, nmstart_of, nmchar_of, char_taken, char_text, chars_end, chars_text, chars_of, dash, name_of, ident_of, identstring_of}
+use Rattle.lexer.specs.Number.{is_digit}
 use Rattle.lexer.proofs.Comments.{above-space}
 use Rattle.lexer.proofs.SyntaxWhitespace.{skips-blank}
 use Rattle.lexer.proofs.SyntaxWhitespace as blanks
@@ -68,7 +69,7 @@ start_is x = or-order _ _ _
 
 -- and its ident code points are the characters of names
 pub code-point-is : (x : ℕ) → ident_code_point x ≡ is_nmchar x
-unfolding ident_code_point is_nmchar
+unfolding ident_code_point is_nmchar is_digit
 code-point-is x = ap (λ b. or b (or (within x digit_zero digit_nine) (is x hyphen_minus))) (start_is x)
 
 -- an ident-start code point is an ident code point

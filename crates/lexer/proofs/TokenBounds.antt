@@ -12,6 +12,7 @@ use Rattle.combinators.specs.Parsed.{Parsed, ok, err, on_parsed, or_else}
 use Rattle.combinators.proofs.Rules.{pick-holds, is_false}
 use Rattle.combinators.proofs.Lists.{byte-there}
 use Rattle.combinators.proofs.Words.{starts-le}
+use Rattle.characters.specs.Literal.{text}
 use Rattle.characters.specs.Utf8.{scalar_of}
 use Rattle.combinators.specs.declared.taken.Taken.{Taken}
 use Rattle.characters.proofs.Scalars.{scalar-some}
@@ -27,7 +28,7 @@ use Rattle.lexer.proofs.Digits.{number-le}
 use Rattle.lexer.proofs.Bounds.{short, bound-short, Fits, fits_after, fits-behind, Keeps, behind-keeps}
 use Rattle.lexer.proofs.Quotes.{string-le, string-short}
 use Rattle.lexer.proofs.IdentBounds.{ident-fits, identstring-fits}
-use Rattle.lexer.proofs.TokenReaders.{quote-there}
+use Rattle.lexer.proofs.TokenReaders.{quote-there, cdc-bytes, cdo-bytes}
 use Rattle.lexer.proofs.Lexing.{mark-text}
 
 -- what a reading of s keeps to
@@ -137,14 +138,14 @@ module _ (c n : ℕ) (t : List ℕ) (i : 1 ≤ n) (h : n ≤ length t) where
   unfolding minus_of text_of
   minus-bounded =
       or-else-bounded t _ _ (numeric-bounded t)
-      (pick-holds (Bounded t) _ _ _ (λ e. no-text-fits t 3 (omega arith) (starts-le _ t e))
+      (pick-holds (Bounded t) _ _ _ (λ e. no-text-fits t 3 (omega arith) (rw cdc-bytes at (starts-le (text "-->") t e)))
       (λ _. or-else-bounded t _ _ (ident-like-bounded t) (delim-bounded t c filled)))
 
   -- what is read from '<' on takes a byte or more, no more than there are, and its text keeps to the bound
   less-bounded : Bounded t (less_of c t)
   unfolding less_of text_of
   less-bounded =
-      pick-holds (Bounded t) _ _ _ (λ e. no-text-fits t 4 (omega arith) (starts-le _ t e)) (λ _. delim-bounded t c filled)
+      pick-holds (Bounded t) _ _ _ (λ e. no-text-fits t 4 (omega arith) (rw cdo-bytes at (starts-le (text "<!--") t e))) (λ _. delim-bounded t c filled)
 
   -- whichever reader the character selects
   by-bounded : Bounded t (token_with n c t)

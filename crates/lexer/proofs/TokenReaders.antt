@@ -10,18 +10,20 @@ use native.Mathlib.Omega.{arith}
 use lib.ListN.{length, get_or, take, drop}
 use lib.Seq.{sets, length-take-le}
 use Rattle.combinators.specs.Choice.{pick, or, is}
-use Rattle.combinators.specs.Ascii.{percent_sign, left_parenthesis, quotation_mark, apostrophe}
+use Rattle.combinators.specs.Ascii.{exclamation_mark, quotation_mark, percent_sign, apostrophe, left_parenthesis, hyphen_minus, less_than_sign, greater_than_sign}
 use Rattle.combinators.specs.Parsed.{ok, err, on_parsed, behind}
 use Rattle.combinators.specs.Word.{starts_with}
 use Rattle.combinators.specs.Store.{emits}
 use Rattle.combinators.proofs.Rules.{pick_true, pick-false, told, is-yes, is-no, is-no-of, either, pick-holds}
 use Rattle.combinators.proofs.Lists.{byte-there, rest}
 use Rattle.combinators.proofs.Emitted.{sets-onto, sets-emitted}
+use Rattle.characters.specs.Literal.{text}
+use Rattle.characters.specs.Utf8.{utf8}
 use Rattle.lexer.specs.Name.{ident_of, identstring_of, name_text}
 use Rattle.lexer.specs.Taken.{taken_answer}
 use Rattle.lexer.specs.Number as numbers
 use Rattle.lexer.specs.Quoted.{string_end, string_text}
-use Rattle.lexer.specs.Token.{ident, function, hash, delim, number, dimension, percentage, numeric_from, numeric_of, ident_like_of, is_quote, string_from, string_of, cdc, cdc_mark, cdo_mark, hash_of, plus_of, minus_of, less_of, coded, text_of, token_answer, token_text, or_delim}
+use Rattle.lexer.specs.Token.{ident, function, hash, delim, number, dimension, percentage, numeric_from, numeric_of, ident_like_of, is_quote, string_from, string_of, cdc, hash_of, plus_of, minus_of, less_of, coded, text_of, token_answer, token_text, or_delim}
 use Rattle.lexer.specs.declared.Written.{Written}
 use Rattle.combinators.specs.declared.taken.Taken.{Taken}
 use Rattle.lexer.specs.declared.tokens.Token as declared
@@ -243,6 +245,17 @@ module _ (c : ℕ) (t st z : List ℕ) (fill : ℕ) (x : Option (Taken declared.
   unfolding plus_of
   plus-by y r m e q = read-or-delim (behind 1 (numeric_of (drop 1 t))) c st z fill y r (lexes-moved (numeric_of (drop 1 t)) 1 st z fill x y numeric m e) q
 
+-- ---- the marks
+-- the bytes of `-->`
+pub cdc-bytes : text "-->" ≡ hyphen_minus ∷ hyphen_minus ∷ greater_than_sign ∷ []
+unfolding text utf8 pick
+cdc-bytes = refl
+
+-- the bytes of `<!--`
+pub cdo-bytes : text "<!--" ≡ less_than_sign ∷ exclamation_mark ∷ hyphen_minus ∷ hyphen_minus ∷ []
+unfolding text utf8 pick
+cdo-bytes = refl
+
 -- ---- `minus_token`: from '-' on
 module _ (c : ℕ) (t st z : List ℕ) (fill : ℕ) (x : Option (Taken declared.Token)) (w : Lexes (numeric_of t) st fill x z) where
   -- a number that is read from '-' on is the token
@@ -250,13 +263,17 @@ module _ (c : ℕ) (t st z : List ℕ) (fill : ℕ) (x : Option (Taken declared.
   unfolding minus_of
   minus_number m k q = lexes-first _ _ st z fill m k (rw q at w)
 
-  module _ (q : x ≡ None) (r : Bool) (er : r ≡ starts_with cdc_mark t) where
+  module _ (q : x ≡ None) (r : Bool) (er : r ≡ starts_with (hyphen_minus ∷ hyphen_minus ∷ greater_than_sign ∷ []) t) where
+    -- the code's test is the definition's
+    cdc-test : r ≡ starts_with (text "-->") t
+    cdc-test = er ∙ ap (λ (w : List ℕ). starts_with w t) (sym cdc-bytes)
+
     -- where no number is read and the text starts with "-->", that mark is the token and takes three bytes
     pub minus-cdc : r ≡ true → Lexes (minus_of c t) st fill (Some (record { taken = 3; value = code.CDC })) z
     unfolding minus_of coded text_of
     minus-cdc h =
         lexes-second _ _ st z fill (rw q at w) _ _
-        (lexes-ok _ 3 cdc (sym (pick_true _ _ _ _ (told _ _ _ er h) refl)) _ refl z z fill refl)
+        (lexes-ok _ 3 cdc (sym (pick_true _ _ _ _ (told _ _ _ cdc-test h) refl)) _ refl z z fill refl)
 
     -- a name, or the delimiter
     pub minus-ident : r ≡ false → (y : Option (Taken declared.Token)) (v : List ℕ) → Lexes (ident_like_of t) z fill y v → (a : Option (Taken declared.Token)) → a ≡ or_delim y c
@@ -264,19 +281,23 @@ module _ (c : ℕ) (t st z : List ℕ) (fill : ℕ) (x : Option (Taken declared.
     unfolding minus_of
     minus-ident h y v i a e =
         lexes-second _ _ st z fill (rw q at w) _ _
-        (lexes-as _ _ (sym (pick-false _ _ _ _ (told _ _ _ er h) refl)) _ _ _ _ (read-or-delim (ident_like_of t) c z v fill y a i e))
+        (lexes-as _ _ (sym (pick-false _ _ _ _ (told _ _ _ cdc-test h) refl)) _ _ _ _ (read-or-delim (ident_like_of t) c z v fill y a i e))
 
 -- ---- `less_token`: from '<' on
-module _ (c : ℕ) (t : List ℕ) (r : Bool) (er : r ≡ starts_with cdo_mark t) where
+module _ (c : ℕ) (t : List ℕ) (r : Bool) (er : r ≡ starts_with (less_than_sign ∷ exclamation_mark ∷ hyphen_minus ∷ hyphen_minus ∷ []) t) where
+  -- the code's test is the definition's
+  cdo-test : r ≡ starts_with (text "<!--") t
+  cdo-test = er ∙ ap (λ (w : List ℕ). starts_with w t) (sym cdo-bytes)
+
   -- where the text starts with "<!--", that mark is the token and takes four bytes
   pub less-cdo : r ≡ true → Some (record { taken = 4; value = code.CDO }) ≡ token_answer (less_of c t)
   unfolding less_of token_answer coded pick
-  less-cdo h = rw (told _ _ _ er h)
+  less-cdo h = rw (told _ _ _ cdo-test h)
 
   -- where the text does not start with "<!--", the token is the delimiter
   pub less-delim : r ≡ false → Some (record { taken = 1; value = code.Delim c }) ≡ token_answer (less_of c t)
   unfolding less_of token_answer coded pick
-  less-delim h = rw (told _ _ _ er h)
+  less-delim h = rw (told _ _ _ cdo-test h)
 
 -- a token that begins with '<' has no text
 less-text : (c : ℕ) (t : List ℕ) → token_text (less_of c t) ≡ []

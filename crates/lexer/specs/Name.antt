@@ -10,6 +10,7 @@ use Rattle.characters.specs.Literal.{text}
 use Rattle.characters.specs.Utf8.{utf8, or_replacement, replacement_character, scalar_of, taken_of, is_scalar, scalar_by, scalar_tail, lead_of, two, is_continuation, continuation}
 use Rattle.combinators.specs.declared.taken.Taken.{Taken}
 use Rattle.lexer.specs.Whitespace.{skip_whitespace, whitespace_item, is_whitespace, comment_of, comment_end}
+use Rattle.lexer.specs.Number.{is_digit}
 use Rattle.lexer.specs.declared.Written.{Written}
 
 -- ---- one character
@@ -20,7 +21,7 @@ is_nmstart x = or (is x low_line) (or (within x small_a small_z) (within x capit
 
 -- these, '0'..='9' and '-'
 unfoldable pub is_nmchar : ℕ → Bool
-is_nmchar x = or (is_nmstart x) (or (within x digit_zero digit_nine) (is x hyphen_minus))
+is_nmchar x = or (is_nmstart x) (or (is_digit x) (is x hyphen_minus))
 
 -- from a capital letter to its small one
 abbrev pub case_distance : ℕ
@@ -147,12 +148,12 @@ test-escapes : (ident_of (text "\\41") ≡ ok 3 (text "\u{4}1")) × (ident_of (t
     × (ident_of (text "\\110000x") ≡ ok 8 (text "�x"))
     × (ident_of (text "\\") ≡ ok 1 (text "�")) × (ident_of (text "\\é") ≡ ok 3 (text "é"))
     × (ident_of (text "Ab\\") ≡ ok 3 (text "ab�"))
-unfolding ident_of name_of name_from dash chars_end chars_text char_taken char_text bytes_of nmchar_of nmstart_of folded_char ident_escape_of escaped_of behind_one hex_value hex_count hex_run hex_digit is_hex_digit lower is_nmchar is_nmstart skip_whitespace whitespace_item is_whitespace comment_of behind many texts took taken_of utf8 continuation or_replacement is_scalar scalar_of scalar_by scalar_tail lead_of two is_continuation pick or and is within text
+unfolding ident_of name_of name_from dash chars_end chars_text char_taken char_text bytes_of nmchar_of nmstart_of folded_char ident_escape_of escaped_of behind_one hex_value hex_count hex_run hex_digit is_hex_digit lower is_nmchar is_nmstart is_digit skip_whitespace whitespace_item is_whitespace comment_of behind many texts took taken_of utf8 continuation or_replacement is_scalar scalar_of scalar_by scalar_tail lead_of two is_continuation pick or and is within text
 test-escapes = (refl, refl, refl, refl, refl, refl, refl, refl)
 
 -- ` /**/-A1-b;`; `é`, `-`, `--a`, `1a` and nothing are none; `1\é;` has characters of names
 test-names : (ident_of (text " /**/-A1-b;") ≡ ok 10 (text "-a1-b"))
     × (ident_of (text "é") ≡ err) × (ident_of (text "-") ≡ err) × (ident_of (text "--a") ≡ err) × (ident_of (text "1a") ≡ err)
     × (ident_of [] ≡ err) × (identstring_of (text "1\\é;") ≡ ok 4 (text "1é")) × (identstring_of (text " ") ≡ err)
-unfolding ident_of identstring_of chars_of name_of name_from dash chars_end chars_text char_taken char_text bytes_of nmchar_of nmstart_of folded_char ident_escape_of escaped_of behind_one hex_value hex_count hex_run hex_digit is_hex_digit lower is_nmchar is_nmstart skip_whitespace whitespace_item is_whitespace comment_of comment_end behind many texts took taken_of utf8 continuation or_replacement is_scalar scalar_of scalar_by scalar_tail lead_of two is_continuation pick or and is within text
+unfolding ident_of identstring_of chars_of name_of name_from dash chars_end chars_text char_taken char_text bytes_of nmchar_of nmstart_of folded_char ident_escape_of escaped_of behind_one hex_value hex_count hex_run hex_digit is_hex_digit lower is_nmchar is_nmstart is_digit skip_whitespace whitespace_item is_whitespace comment_of comment_end behind many texts took taken_of utf8 continuation or_replacement is_scalar scalar_of scalar_by scalar_tail lead_of two is_continuation pick or and is within text
 test-names = (refl, refl, refl, refl, refl, refl, refl, refl)

@@ -1,14 +1,15 @@
 -- Tokens: `parse_numeric_token`, `parse_ident_like`, `parse_string_token` and `parse_token` of src/css/parser.rs.
-use Rattle.std.specs.Prelude.{ℕ, ◌+◌, Bool, List, [], ◌∷◌, ◌++◌, leb, length, get_or, take, drop, Option, Some, None}
-use Rattle.combinators.specs.Ascii.{exclamation_mark, quotation_mark, number_sign, percent_sign, apostrophe, left_parenthesis, right_parenthesis, plus_sign, hyphen_minus, full_stop, less_than_sign, greater_than_sign, left_square_bracket, reverse_solidus, right_square_bracket, left_curly_bracket, right_curly_bracket, capital_a, capital_z, low_line, small_a, small_z}
+use Rattle.std.specs.Prelude.{ℕ, ◌+◌, Bool, List, [], ◌++◌, leb, length, get_or, take, drop, Option, Some, None}
+use Rattle.combinators.specs.Ascii.{quotation_mark, number_sign, percent_sign, apostrophe, left_parenthesis, right_parenthesis, plus_sign, hyphen_minus, full_stop, less_than_sign, left_square_bracket, reverse_solidus, right_square_bracket, left_curly_bracket, right_curly_bracket}
 use Rattle.combinators.specs.Ascii as ascii
-use Rattle.combinators.specs.Choice.{pick, or, is, within}
+use Rattle.combinators.specs.Choice.{pick, or, is}
 use Rattle.combinators.specs.Parsed.{Parsed, ok, err, on_parsed, behind, or_else}
 use Rattle.combinators.specs.Word.{starts_with}
+use Rattle.characters.specs.Literal.{text}
 use Rattle.characters.specs.Utf8.{scalar_of}
 use Rattle.combinators.specs.declared.taken.Taken.{Taken}
 use Rattle.lexer.specs.Whitespace.{skip_whitespace}
-use Rattle.lexer.specs.Name.{ident_of, identstring_of}
+use Rattle.lexer.specs.Name.{is_nmstart, ident_of, identstring_of}
 use Rattle.lexer.specs.Number as numbers
 use Rattle.lexer.specs.Quoted.{string_end, string_text}
 use Rattle.lexer.specs.declared.tokens.Token as declared
@@ -82,7 +83,7 @@ first_above_u0080 = 0x81
 
 -- `is_ident_start`
 unfoldable pub is_ident_start : ℕ → Bool
-is_ident_start c = or (within c small_a small_z) (or (within c capital_a capital_z) (or (is c low_line) (leb first_above_u0080 c)))
+is_ident_start c = or (is_nmstart c) (leb first_above_u0080 c)
 
 -- a character that is a token by itself: a mark, or else a delimiter. '@' is one: the crate tries `parse_ident` from the '@'
 -- itself, which never reads.
@@ -99,12 +100,6 @@ mark_of c =
     (pick (is c right_curly_bracket) close_brace
     (delim c)))))))))
 
-abbrev pub cdo_mark : List ℕ
-cdo_mark = less_than_sign ∷ exclamation_mark ∷ hyphen_minus ∷ hyphen_minus ∷ []
-
-abbrev pub cdc_mark : List ℕ
-cdc_mark = hyphen_minus ∷ hyphen_minus ∷ greater_than_sign ∷ []
-
 -- ---- the readers that a character c selects
 unfoldable pub hash_of : ℕ → List ℕ → Parsed Token
 hash_of c t = on_parsed (identstring_of (drop 1 t)) (λ m b. ok (1 + m) (hash b)) (ok 1 (delim c))
@@ -114,10 +109,10 @@ unfoldable pub plus_of : ℕ → List ℕ → Parsed Token
 plus_of c t = or_else (behind 1 (numeric_of (drop 1 t))) (ok 1 (delim c))
 
 unfoldable pub minus_of : ℕ → List ℕ → Parsed Token
-minus_of c t = or_else (numeric_of t) (pick (starts_with cdc_mark t) (ok 3 cdc) (or_else (ident_like_of t) (ok 1 (delim c))))
+minus_of c t = or_else (numeric_of t) (pick (starts_with (text "-->") t) (ok 3 cdc) (or_else (ident_like_of t) (ok 1 (delim c))))
 
 unfoldable pub less_of : ℕ → List ℕ → Parsed Token
-less_of c t = pick (starts_with cdo_mark t) (ok 4 cdo) (ok 1 (delim c))
+less_of c t = pick (starts_with (text "<!--") t) (ok 4 cdo) (ok 1 (delim c))
 
 -- the token at the start of t, whose first character c takes n bytes. No character passes two of these tests, so the marks, which the crate has between them, come last.
 unfoldable pub token_with : ℕ → ℕ → List ℕ → Parsed Token

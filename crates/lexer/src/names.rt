@@ -22,7 +22,7 @@ fn is_nmstart(b: u8) -> bool
 }
 
 // Whether `b` can stand in a name.
-#[tactic(auto, unfolding(crate::specs::Name::is_nmchar, combinators::specs::Choice::or, combinators::specs::Choice::is, combinators::specs::Choice::within, combinators::specs::Choice::and))]
+#[tactic(auto, unfolding(crate::specs::Name::is_nmchar, crate::specs::Number::is_digit, combinators::specs::Choice::or, combinators::specs::Choice::is, combinators::specs::Choice::within, combinators::specs::Choice::and))]
 fn is_nmchar(b: u8) -> bool
     ensures { result ≡ is_nmchar b }
 {

@@ -157,7 +157,7 @@ pub fn parse_string_token(t: &[u8], store: &mut [u8], fill: usize) -> Option<Tak
 const FIRST_ABOVE_U_0080: char = '\u{81}'; // from here on the crate takes every character for the start of a name
 
 // Whether the crate takes `c` for the start of a name. Above U+0080 it does, and then reads none.
-#[tactic(auto, unfolding(crate::specs::Token::is_ident_start, combinators::specs::Choice::or, combinators::specs::Choice::is, combinators::specs::Choice::within, combinators::specs::Choice::and))]
+#[tactic(auto, unfolding(crate::specs::Token::is_ident_start, crate::specs::Name::is_nmstart, combinators::specs::Choice::or, combinators::specs::Choice::is, combinators::specs::Choice::within, combinators::specs::Choice::and))]
 fn is_ident_start(c: char) -> bool
     ensures { result ≡ is_ident_start c }
 {

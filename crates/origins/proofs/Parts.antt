@@ -4,10 +4,10 @@ use mathlib.Core.List.{List, [], ◌∷◌, ◌++◌, append-nil}
 use Prim.Native.Nat.{ℕ, zero, suc, ◌-◌, ◌≤◌}
 use native.Mathlib.Omega.{arith}
 use borrow.Rule.Slice.PartMut.{put_mid, Post-is}
-use lib.ListN.{length, take, drop, set, replicate, length-drop, drop_of_length-le}
+use lib.ListN.{length, take, drop, set, replicate, drop_of_length-le}
 use lib.Seq.{sets}
 use Rattle.combinators.specs.Store.{filled_part, wiped, Zeros}
-use Rattle.combinators.proofs.Lists.{rest}
+use Rattle.combinators.proofs.Lists.{lent_from, rest}
 
 -- storing behind a first number leaves that number, and stores in those behind it
 sets-second : (x : ℕ) (l : List ℕ) (i : ℕ) (vs : List ℕ) → sets (x ∷ l) (suc i) vs ≡ x ∷ sets l i vs
@@ -27,22 +27,14 @@ sets-take (suc a) [] vs h = absurd (omega arith)
 sets-take (suc a) (x ∷ l) vs h = ap (λ (r : List ℕ). x ∷ r) (sets-take a l vs (omega arith)) ∙ sym (sets-second x l a vs)
 
 module _ (l : List ℕ) (a : ℕ) (h : a ≤ length l) where
-  -- the part that is lent
-  abbrev pub lent_part : List ℕ
-  lent_part = take (length l - a) (drop a l)
-
-  -- the part that is lent is as long as what lies from the place on
-  pub part_length : length lent_part ≡ length l - a
-  part_length = ap length (rest l a) ∙ length-drop a l
-
-  -- it is zero where the store is zero from the place on
-  pub part-zeros : Zeros l a → Zeros lent_part 0
+  -- the part that is lent is zero where the store is zero from the place on
+  pub part-zeros : Zeros l a → Zeros (lent_from l a) 0
   unfolding filled_part
   part-zeros z =
       record { wiping = λ n. ap (wiped 0 n) (rest l a) ∙ sym (sets-drop a l (replicate n 0) h) ∙ ap (drop a) (z.wiping n) ∙ sym (rest l a) }
 
   -- what is stored at the start of the part is stored from the place on
-  pub part-stored : (vs ys : List ℕ) → ys ≡ sets lent_part 0 vs → put_mid a (length l - a) l ys ≡ sets l a vs
+  pub part-stored : (vs ys : List ℕ) → ys ≡ sets (lent_from l a) 0 vs → put_mid a (length l - a) l ys ≡ sets l a vs
   part-stored vs ys e =
       ap (λ (r : List ℕ). take a l ++ (ys ++ r)) (Post-is a (length l) l h ∙ drop_of_length-le l {i = length l} (omega arith))
       ∙ ap (λ (r : List ℕ). take a l ++ r) (append-nil ys ∙ e ∙ ap (λ (r : List ℕ). sets r 0 vs) (rest l a))

@@ -6,6 +6,7 @@ use native.Mathlib.Omega.{arith}
 use borrow.Rule.Slice.PartMut.{put_mid}
 use lib.ListN.{length}
 use lib.Seq.{sets}
+use Rattle.combinators.proofs.Lists.{lent_from, length-rest}
 use Rattle.syntax.specs.RuleLayout.{rule_rows, rule_texts}
 use Rattle.selectors.specs.Reading.{many_reading, written}
 use Rattle.sheets.specs.Rules.{SheetRoom}
@@ -16,7 +17,7 @@ use Rattle.selectors.proofs.ReadingLaws.{ManyReading, many_by}
 use Rattle.sheets.proofs.SheetBounds.{sheet-keeps}
 use Rattle.sheets.proofs.SheetLaws.{sheet-never-fails}
 use Rattle.origins.specs.Reading.{RulesSize, RulesBounds, ReadRoom}
-use Rattle.origins.proofs.Parts.{lent_part, part_length, part-zeros, part-stored}
+use Rattle.origins.proofs.Parts.{part-zeros, part-stored}
 
 -- ---- answers
 -- what was read is no more than there is
@@ -41,10 +42,10 @@ module _ {s rules : List ℕ} {place : ℕ} {tokens brackets texts : List ℕ} {
   fill-in = omega (arith, o.for-texts)
 
   -- room for the sheet in the parts
-  pub room : SheetRoom s (lent_part rules place place_in) tokens brackets (lent_part texts fill fill-in)
+  pub room : SheetRoom s (lent_from rules place) tokens brackets (lent_from texts fill)
   room =
-      let lr = part_length rules place place_in in
-      let lt = part_length texts fill fill-in in
+      let lr = length-rest rules place in
+      let lt = length-rest texts fill in
       record {
         rules-zeros = part-zeros rules place place_in o.rules-zeros;
         for-rules = omega (arith, o.for-rules, lr);
@@ -63,8 +64,8 @@ module _ {s rules : List ℕ} {place : ℕ} {tokens brackets texts : List ℕ} {
 
   -- what the call leaves, by the reader's answer
   module _ {r : ManyReading} {y x b z : List ℕ} (er : r ≡ many_reading length (rule_rows 0) rule_texts (sheet_of s))
-      (ey : y ≡ sets (lent_part rules place place_in) 0 (written (rule_rows 0) (sheet_of s))) (ex : x ≡ tokens) (eb : b ≡ brackets)
-      (ez : z ≡ sets (lent_part texts fill fill-in) 0 (written rule_texts (sheet_of s))) where
+      (ey : y ≡ sets (lent_from rules place) 0 (written (rule_rows 0) (sheet_of s))) (ex : x ≡ tokens) (eb : b ≡ brackets)
+      (ez : z ≡ sets (lent_from texts fill) 0 (written rule_texts (sheet_of s))) where
     -- what the function ensures
     abbrev Left : Type 0
     Left =

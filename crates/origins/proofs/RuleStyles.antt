@@ -4,9 +4,9 @@ use mathlib.Core.List.{List, [], ◌∷◌, ◌++◌, append_assoc}
 use Prim.Native.Nat.{ℕ, ◌+◌, ◌*◌, ◌-◌, ◌^◌, ◌≤◌, ◌<◌}
 use native.Mathlib.Nat.{add-zero}
 use native.Mathlib.Omega.{arith}
-use lib.ListN.{length, take, drop, get_or, length-append}
+use lib.ListN.{length, drop, get_or, length-append}
 use lib.Seq.{sets, get_or-drop}
-use Rattle.combinators.proofs.Lists.{rest}
+use Rattle.combinators.proofs.Lists.{lent_from, rest}
 use Rattle.combinators.proofs.AllLaws.{all_weaker}
 use Rattle.syntax.specs.Layout.{read_declaration, declarations_at, declaration_rows, declaration_texts, declaration_width, style_width, styles_at}
 use Rattle.syntax.specs.RuleLayout.{rule_declarations, read_rule, selector_rows, selector_texts, rule_text, rule_row, rule_rows, rule_texts}
@@ -32,8 +32,9 @@ use Rattle.origins.proofs.WalkLaws.{many-length}
 -- ---- returns of `styles_of_rule`: a rule at a place, whose declarations lie from another on
 module _ (rows : List ℕ) (at d place count : ℕ) (e : (texts : List ℕ) → drop d rows ≡ (selectors_read texts (drop at rows)).rest)
     (p : drop place rows ≡ drop (d + 0) rows) (c : count ≡ get_or rows (at + rule_declarations) 0) where
+  -- the rows that are lent
   abbrev lent : List ℕ
-  lent = take (length rows - place) (drop place rows)
+  lent = lent_from rows place
 
   -- the count that was read is the rule's count of declarations
   count-is : count ≡ get_or (drop at rows) rule_declarations 0

@@ -144,25 +144,30 @@ zeros_of l m e =
     let z : length l - 0 ≡ length m = omega (arith, e) in
     cleared-is 0 l ∙ ap (λ (n : ℕ). replicate n 0) z
 
+-- one that was cleared, and is as it was then, is zero throughout
+pub zeros-kept : (l : List ℕ) {y x : List ℕ} → y ≡ cleared 0 l → x ≡ y → x ≡ replicate (length l) 0
+zeros-kept l c e = e ∙ c ∙ zeros_of l l refl
+
 -- room for the three sheets in stores of the least lengths
-pub room-cleared : {agent user author rules₀ tokens brackets texts : List ℕ} → Lent agent user author rules₀ tokens brackets texts → length rules₀ < 2 ^ 64
-    → SheetsRoom agent user author (cleared 0 rules₀) (cleared 0 tokens) (cleared 0 brackets) (cleared 0 texts)
-room-cleared {agent} {user} {author} {rules₀} {tokens} {brackets} {texts} o h =
+pub room-cleared : {agent user author rules₀ tokens₀ brackets₀ texts₀ t y x b : List ℕ} → Lent agent user author rules₀ tokens₀ brackets₀ texts₀
+    → t ≡ cleared 0 texts₀ → y ≡ cleared 0 rules₀ → x ≡ cleared 0 tokens₀ → b ≡ cleared 0 brackets₀ → length rules₀ < 2 ^ 64 → SheetsRoom agent user author y x b t
+room-cleared {agent} {user} {author} {rules₀} {tokens₀} {brackets₀} {texts₀} o et ey ex eb h =
     let w = none-long (length agent) (length user) (length author) o.within in
-    record {
+    rw (et, ey, ex, eb)
+    (record {
       agent-within = w.0;
       user-within = w.1;
       author-within = w.2;
       rules-zeros = clear-zeros rules₀;
-      tokens-zeros = clear-zeros tokens;
-      brackets-zeros = clear-zeros brackets;
-      texts-zeros = clear-zeros texts;
+      tokens-zeros = clear-zeros tokens₀;
+      brackets-zeros = clear-zeros brackets₀;
+      texts-zeros = clear-zeros texts₀;
       row-bits = omega (arith, h, length-cleared 0 rules₀);
       for-rules = omega (arith, o.least.for-rules, length-cleared 0 rules₀);
-      for-tokens = omega (arith, o.least.for-tokens, length-cleared 0 tokens);
-      for-brackets = omega (arith, o.least.for-brackets, length-cleared 0 brackets);
-      for-texts = omega (arith, o.least.for-texts, length-cleared 0 texts);
-    }
+      for-tokens = omega (arith, o.least.for-tokens, length-cleared 0 tokens₀);
+      for-brackets = omega (arith, o.least.for-brackets, length-cleared 0 brackets₀);
+      for-texts = omega (arith, o.least.for-texts, length-cleared 0 texts₀);
+    })
 
 -- ---- what lies in the stores is what the sheets mean
 module _ {agent user author rules₀ tokens brackets texts₀ : List ℕ} (o : Lent agent user author rules₀ tokens brackets texts₀)

@@ -8,7 +8,7 @@ use borrow.Rule.Slice.PartMut.{put_mid, Post-is}
 use lib.ListN.{length, take, drop, replicate, drop_of_length-le, length-append}
 use lib.Seq.{take-add, take-append-add, length-take-le}
 use Rattle.combinators.specs.Choice.{pick}
-use Rattle.combinators.proofs.Lists.{rest}
+use Rattle.combinators.proofs.Lists.{lent_from, rest}
 use Rattle.syntax.specs.Stream.{texts_many}
 use Rattle.syntax.specs.Style.{agent_origin, user_origin, author_origin}
 use Rattle.syntax.specs.declared.styles.Value.{Value}
@@ -19,7 +19,6 @@ use Rattle.cascade.specs.Slot.{update_by}
 use Rattle.cascade.proofs.Cascading.{inherit-by-formed, merges-formed}
 use Rattle.cascade.proofs.Inheriting.{inherit-layout, handed-layout, finish-layout}
 use Rattle.cascade.proofs.RowBack.{merges-layout}
-use Rattle.origins.proofs.Parts.{lent_part}
 use Rattle.page.specs.Path.{Attribute, Element, Path}
 use Rattle.page.specs.PathOf.{element_at, path_of}
 use Rattle.page.specs.Rows.{node_at}
@@ -57,7 +56,7 @@ module _ (l : List ℕ) (a : ℕ) (h : a ≤ length l) where
       ap (λ (r : List ℕ). take a l ++ (ys ++ r)) (Post-is a (length l) l h ∙ drop_of_length-le l {i = length l} (omega arith)) ∙ ap (λ (r : List ℕ). take a l ++ r) (append-nil ys)
 
   -- as far as the part is known, with what lies behind that
-  pub part_filled : (n m : ℕ) (ys more : List ℕ) → take n ys ≡ take m (lent_part l a h) ++ more → take (a + n) (put_mid a (length l - a) l ys) ≡ take (a + m) l ++ more
+  pub part_filled : (n m : ℕ) (ys more : List ℕ) → take n ys ≡ take m (lent_from l a) ++ more → take (a + n) (put_mid a (length l - a) l ys) ≡ take (a + m) l ++ more
   part_filled n m ys more e =
       let q : length (take a l) + n ≡ a + n = omega (arith, length-take-le a l h) in
       ap (take (a + n)) (part-returned ys)
@@ -68,8 +67,8 @@ module _ (l : List ℕ) (a : ℕ) (h : a ≤ length l) where
       ∙ ap (λ (r : List ℕ). r ++ more) (sym (take-add a m l))
 
   -- where the first m numbers of the lent part come back as they were, so do those of the whole up to there
-  pub part_same : (m : ℕ) (ys : List ℕ) → take m ys ≡ take m (lent_part l a h) → take (a + m) (put_mid a (length l - a) l ys) ≡ take (a + m) l
-  part_same m ys e = part_filled m m ys [] (e ∙ sym (append-nil (take m (lent_part l a h)))) ∙ append-nil (take (a + m) l)
+  pub part_same : (m : ℕ) (ys : List ℕ) → take m ys ≡ take m (lent_from l a) → take (a + m) (put_mid a (length l - a) l ys) ≡ take (a + m) l
+  part_same m ys e = part_filled m m ys [] (e ∙ sym (append-nil (take m (lent_from l a)))) ∙ append-nil (take (a + m) l)
 
 -- ---- attributes, where document styles are on or off
 module _ (c : Cascade) (settings : Settings) (e : Element) where
@@ -135,9 +134,9 @@ module _ (c : Cascade) (settings : Settings) (e : Element) (on : settings.docume
   fill-counted fill r k = k ∙ ap (λ (l : List ℕ). fill + length l) contents-counted
 
   -- which stand behind the texts up to the old fill, in the whole as in the part that is lent
-  pub texts-counted : (fill r : ℕ) (texts : List ℕ) (end : ℕ) (h : end ≤ length texts) (ys : List ℕ) → take r ys ≡ take fill (lent_part texts end h) ++ attributes_contents e.attributes
+  pub texts-counted : (fill r : ℕ) (texts : List ℕ) (end : ℕ) (h : end ≤ length texts) (ys : List ℕ) → take r ys ≡ take fill (lent_from texts end) ++ attributes_contents e.attributes
       → take (end + r) (put_mid end (length texts - end) texts ys) ≡ take (end + fill) texts ++ inline_contents settings e
-  texts-counted fill r texts end h ys t = part_filled texts end h r fill ys (inline_contents settings e) (t ∙ ap (λ (l : List ℕ). take fill (lent_part texts end h) ++ l) contents-counted)
+  texts-counted fill r texts end h ys t = part_filled texts end h r fill ys (inline_contents settings e) (t ∙ ap (λ (l : List ℕ). take fill (lent_from texts end) ++ l) contents-counted)
 
 -- where there are no attributes
 pub texts-none : (end fill : ℕ) (texts more : List ℕ) → more ≡ [] → (fill ≡ fill + length more) × (take (end + fill) texts ≡ take (end + fill) texts ++ more)

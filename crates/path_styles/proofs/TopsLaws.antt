@@ -7,7 +7,7 @@ use native.Mathlib.Omega.{arith}
 use borrow.Rule.Slice.PartMut.{put_mid, Post-is}
 use lib.ListN.{length, get_or, take, drop, set, length-append, length-set, length-take, length-drop, drop_of_length-le}
 use lib.Seq.{sets, sets-eq, length-sets, get_or-drop, drop-drop}
-use Rattle.combinators.proofs.Lists.{rest}
+use Rattle.combinators.proofs.Lists.{lent_from, rest}
 use Rattle.combinators.proofs.Wiped.{sets-append}
 use Rattle.syntax.specs.RuleLayout.{selector_head, selector_components, rule_head, rule_selectors, read_selector, read_rule}
 use Rattle.syntax.specs.Selector.{Selector}
@@ -37,12 +37,8 @@ sets-all l vs e = sets-eq vs l 0 (omega (arith, e)) ∙ ap (λ (r : List ℕ). v
 
 -- ---- the selector at a place, whose components are lent from behind its head on
 module _ (texts rows : List ℕ) (at n behind : ℕ) (en : n ≡ get_or rows (at + selector_components) 0) (eb : drop behind rows ≡ drop (at + selector_head) rows) where
-  -- the components that are lent
-  abbrev pub lent : List ℕ
-  lent = take (length rows - behind) (drop behind rows)
-
   -- the lent numbers, read as components, are those of the selector
-  pub lent-components : components_at texts lent n ≡ (read_selector texts (drop at rows)).value.components
+  pub lent-components : components_at texts (lent_from rows behind) n ≡ (read_selector texts (drop at rows)).value.components
   unfolding components_at read_selector
   lent-components = rw (rest rows behind, eb, en, get_or-drop at rows selector_components 0, drop-drop selector_head at rows)
 

@@ -5,7 +5,7 @@ use Prim.Native.Nat.{ℕ, zero, suc, ◌+◌, ◌-◌, ◌*◌, ◌≤◌}
 use native.Mathlib.Omega.{arith}
 use lib.ListN.{length, set, take, drop}
 use lib.Seq.{sets, take-nil, take-take, drop-nil}
-use Rattle.combinators.proofs.Lists.{rest}
+use Rattle.combinators.proofs.Lists.{lent_from, rest}
 use Rattle.origins.proofs.Parts.{sets-take}
 use Rattle.syntax.specs.Layout.{style_width, numbers_at}
 use Rattle.syntax.specs.Stream.{read_many}
@@ -38,7 +38,7 @@ drop-take (suc from) (suc end) [] = sym (take-nil {A = ℕ} (suc end - suc from)
 drop-take (suc from) (suc end) (x ∷ l) = let z : suc end - suc from ≡ end - from = omega arith in rw z (drop-take from end l)
 
 -- what is lent of the front of the text store is the text of the sheet
-pub text-lent : (l front : List ℕ) (end : ℕ) → front ≡ take end l → (from : ℕ) → take (length front - from) (drop from front) ≡ sheet_text l from end
+pub text-lent : (l front : List ℕ) (end : ℕ) → front ≡ take end l → (from : ℕ) → lent_from front from ≡ sheet_text l from end
 unfolding sheet_text
 text-lent l front end e from = rest front from ∙ ap (drop from) e ∙ drop-take from end l
 

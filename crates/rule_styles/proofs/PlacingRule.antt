@@ -7,6 +7,7 @@ use borrow.Rule.Slice.PartMut.{put_mid}
 use lib.ListN.{length, get_or, drop, length-append}
 use lib.Seq.{sets, length-sets}
 use Rattle.combinators.specs.Store.{wiped, Zeros}
+use Rattle.combinators.proofs.Lists.{lent_from, length-rest}
 use Rattle.combinators.proofs.Wiped.{sets_over, wiped-apart}
 use Rattle.syntax.specs.Layout.{declarations_at, read_declaration, style_width, numbers_at, row_of_numbers}
 use Rattle.syntax.specs.RuleLayout.{rule_declarations}
@@ -20,7 +21,7 @@ use Rattle.cascade.specs.Record.{Styled}
 use Rattle.declarations.proofs.StyleLaws.{reads-styles, styles-few}
 use Rattle.combinators.proofs.ZeroLaws.{zeros-later, zeros-back}
 use Rattle.origins.specs.Rules.{selectors_read, rule_styles, RuleRoom}
-use Rattle.origins.proofs.Parts.{lent_part, part_length, part-stored}
+use Rattle.origins.proofs.Parts.{part-stored}
 use Rattle.origins.proofs.WalkLaws.{many-length}
 use Rattle.styles.specs.StyleCall.{in_numbers}
 use Rattle.rule_styles.specs.Deciding.{deciding}
@@ -86,15 +87,15 @@ module _ (t tokens : List ℕ) (place : ℕ) (o : RuleKeptRoom t tokens place) w
   made_in = omega (arith, o.styled)
 
   -- that there is room for them
-  pub rule-room : RuleRoom t (length (lent_part tokens made made_in))
-  rule-room = record { texts = o.texts; declared = o.declared; styled = omega (arith, o.styled, part_length tokens made made_in) }
+  pub rule-room : RuleRoom t (length (lent_from tokens made))
+  rule-room = record { texts = o.texts; declared = o.declared; styled = omega (arith, o.styled, length-rest tokens made) }
 
   -- the store is zero from there on
   made-zeros : Zeros tokens made
   made-zeros = let q : place + (kept_head + kept_width) ≡ made = omega arith in subst (Zeros tokens) q (zeros-later tokens place o.zeros (kept_head + kept_width))
 
   -- when they are made
-  module _ (y : List ℕ) (count : ℕ) (ey : y ≡ sets (lent_part tokens made made_in) 0 (rule_styles t)) (ec : style_width * count ≡ length (rule_styles t)) where
+  module _ (y : List ℕ) (count : ℕ) (ey : y ≡ sets (lent_from tokens made) 0 (rule_styles t)) (ec : style_width * count ≡ length (rule_styles t)) where
     -- the store with their rows
     abbrev store : List ℕ
     store = put_mid made (length tokens - made) tokens y

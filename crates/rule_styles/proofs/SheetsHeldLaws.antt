@@ -7,6 +7,7 @@ use lib.ListN.{length, take, drop, length-append, length-drop}
 use lib.Seq.{sets, length-sets, length-take-le, take_at}
 use Rattle.combinators.specs.Store.{cleared, Zeros}
 use Rattle.combinators.proofs.Cleared.{length-cleared}
+use Rattle.combinators.proofs.Lists.{lent_from}
 use Rattle.combinators.proofs.Wiped.{sets-append}
 use Rattle.syntax.specs.RuleLayout.{rule_rows, rule_texts}
 use Rattle.syntax.specs.Selector.{RuleSet}
@@ -239,12 +240,8 @@ module _ {s : SheetsRules} {rows tokens texts : List ℕ} (h : SheetsHeld s rows
   end_in = omega (arith, end_is, sizes.texts-short, fits.texts-room)
 
   module _ {front contents : List ℕ} (ef : front ≡ take s.end texts) (ec : contents ≡ drop s.end texts) where
-    -- what is lent of the texts from a place on
-    abbrev lent_from : ℕ → List ℕ
-    lent_from from = take (length front - from) (drop from front)
-
-    -- the text of a sheet
-    pub its-text : (from : ℕ) → lent_from from ≡ sheet_text texts from s.end
+    -- what is lent of the texts from its place on is the text of a sheet
+    pub its-text : (from : ℕ) → lent_from front from ≡ sheet_text texts from s.end
     its-text = text-lent texts front s.end ef
 
     -- the front is as long as that place says
@@ -266,11 +263,11 @@ module _ {s : SheetsRules} {rows tokens texts : List ℕ} (h : SheetsHeld s rows
     contents-long = ap length ec ∙ length-drop s.end texts
 
     -- the store of tokens has room for what is kept of the agent's rules
-    pub agent-room : RulesKeptRoom (lent_from s.agent.from) s.agent.count (drop s.agent.place rows) tokens 0
+    pub agent-room : RulesKeptRoom (lent_from front s.agent.from) s.agent.count (drop s.agent.place rows) tokens 0
     agent-room = sheet-room agent-lies (its-text s.agent.from) tokens 0 tokens-zero (omega (arith, sizes.rows_short, fits.tokens-room))
 
     -- there is room for the contents of the agent's rules
-    pub agent-contents-room : ContentsRoom contents 0 (rules_contents_at (lent_from s.agent.from) s.agent.count (drop s.agent.place rows))
+    pub agent-contents-room : ContentsRoom contents 0 (rules_contents_at (lent_from front s.agent.from) s.agent.count (drop s.agent.place rows))
     agent-contents-room = sheet-contents-room agent-lies (its-text s.agent.from) contents 0 (omega (arith, contents-long, end_is, sizes.texts-short, fits.contents-a, fits.texts-room)) (omega (arith, sizes.texts-short, sizes.few, fits.contents-a))
 
     module _ {t₁ c₁ : List ℕ} {p₁ f₁ : ℕ} (et₁ : t₁ ≡ sets tokens 0 (Kept 0 a)) (ec₁ : c₁ ≡ sets contents 0 (rules_contents a)) (ep₁' : p₁ ≡ 0 + pa) (ef₁' : f₁ ≡ 0 + fa) where
@@ -295,11 +292,11 @@ module _ {s : SheetsRules} {rows tokens texts : List ℕ} (h : SheetsHeld s rows
       long-c₁ = ap length ec₁ ∙ length-sets contents 0 (rules_contents a) ∙ contents-long
 
       -- behind what is kept of the agent's rules there is room for the user's
-      pub user-room : RulesKeptRoom (lent_from s.user.from) s.user.count (drop s.user.place rows) t₁ p₁
+      pub user-room : RulesKeptRoom (lent_from front s.user.from) s.user.count (drop s.user.place rows) t₁ p₁
       user-room = rw ep₁ (sheet-room user-lies (its-text s.user.from) t₁ pa zeros₁ (omega (arith, long-t₁, sizes.rows_short, fits.kept-a, fits.tokens-room)))
 
       -- behind the agent's contents there is room for those of the user's rules
-      pub user-contents-room : ContentsRoom c₁ f₁ (rules_contents_at (lent_from s.user.from) s.user.count (drop s.user.place rows))
+      pub user-contents-room : ContentsRoom c₁ f₁ (rules_contents_at (lent_from front s.user.from) s.user.count (drop s.user.place rows))
       user-contents-room =
           rw ef₁ (sheet-contents-room user-lies (its-text s.user.from) c₁ fa (omega (arith, long-c₁, end_is, sizes.texts-short, fits.contents-a, fits.contents-u, fits.texts-room)) (omega (arith, sizes.texts-short, sizes.few, fits.contents-a, fits.contents-u)))
 
@@ -325,11 +322,11 @@ module _ {s : SheetsRules} {rows tokens texts : List ℕ} (h : SheetsHeld s rows
         long-c₂ = ap length ec₂ ∙ length-sets c₁ f₁ (rules_contents u) ∙ long-c₁
 
         -- behind what is kept of the agent's and the user's rules there is room for the author's
-        pub author-room : RulesKeptRoom (lent_from s.author.from) s.author.count (drop s.author.place rows) t₂ p₂
+        pub author-room : RulesKeptRoom (lent_from front s.author.from) s.author.count (drop s.author.place rows) t₂ p₂
         author-room = sheet-room author-lies (its-text s.author.from) t₂ p₂ zeros₂ (omega (arith, place₂-is, long-t₂, sizes.rows_short, fits.kept-a, fits.kept-u, fits.tokens-room))
 
         -- behind the contents of both there is room for those of the author's rules
-        pub author-contents-room : ContentsRoom c₂ f₂ (rules_contents_at (lent_from s.author.from) s.author.count (drop s.author.place rows))
+        pub author-contents-room : ContentsRoom c₂ f₂ (rules_contents_at (lent_from front s.author.from) s.author.count (drop s.author.place rows))
         author-contents-room =
             sheet-contents-room author-lies (its-text s.author.from) c₂ f₂ (omega (arith, fill₂-is, long-c₂, end_is, sizes.texts-short, fits.contents-a, fits.contents-u, fits.contents-w, fits.texts-room))
             (omega (arith, fill₂-is, sizes.texts-short, sizes.few, fits.contents-a, fits.contents-u, fits.contents-w))

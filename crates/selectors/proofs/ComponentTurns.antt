@@ -6,14 +6,14 @@ use Prim.Native.Nat.{ℕ, zero, suc, ◌+◌, ◌-◌, ◌*◌, ◌^◌, ◌≤�
 use native.Mathlib.Numerals.{unary_clauses}
 use native.Mathlib.Omega.{arith}
 use lib.Dec.{eqb}
-use lib.ListN.{length, take, drop, length-drop, length-append}
+use lib.ListN.{length, drop, length-drop, length-append}
 use lib.Seq.{sets, drop-drop}
 use Rattle.std.specs.Prelude.{Some, None, Ok, Err, ltb}
 use Rattle.std.specs.Bool.{then_some}
 use Rattle.std.proofs.lemmas.Bool.{ltb-true, ltb-false}
 use Rattle.combinators.specs.Choice.{pick, is}
 use Rattle.combinators.specs.Store.{wiped}
-use Rattle.combinators.proofs.Lists.{rest}
+use Rattle.combinators.proofs.Lists.{lent_from, rest}
 use Rattle.combinators.proofs.Rules.{is_true, is-yes, is-no}
 use Rattle.lexer.proofs.Bounds.{Fits, bound-two, bound-short}
 use Rattle.syntax.specs.RuleLayout.{component_width, descendant_kind, component_kind, component_first, component_second, component_text, component_row, component_rows, component_texts}
@@ -229,12 +229,8 @@ Ends s rules place store fill r y z = Left length (component_rows fill) componen
 
 module _ {s rules₀ : List ℕ} {place : ℕ} {store₀ : List ℕ} {fill : ℕ} {rules store : List ℕ} {taken count numbers text : ℕ}
     (i : Reading-on s rules₀ place store₀ fill rules store taken count numbers text) (r : RowRoom 0 s rules₀ place) (q : TextRoom 4 s store₀ fill) where
-  -- the rest as the code lends it
-  abbrev lent : List ℕ
-  lent = take (length s - taken) (drop taken s)
-
   -- the store has room for the next component, behind the texts so far
-  pub next-room : Clean (length lent) (fill + text) store
+  pub next-room : Clean (length (lent_from s taken)) (fill + text) store
   next-room =
       rw (rest s taken)
       (record { zeros = store-zeros i.gathered q.zeros; room = omega (arith, q.for-texts, i.long, i.within, length-drop taken s, store_long i.gathered) })
@@ -243,7 +239,7 @@ module _ {s rules₀ : List ℕ} {place : ℕ} {store₀ : List ℕ} {fill : ℕ
   pub fill-fits : fill + text < 2 ^ 64
   fill-fits = omega (arith, q.bits, i.long, i.within)
 
-  module _ {a : components.ComponentAnswer} {store₁ : List ℕ} (e : components.Left (next_of (eqb taken 0) lent) store (fill + text) a store₁) where
+  module _ {a : components.ComponentAnswer} {store₁ : List ℕ} (e : components.Left (next_of (eqb taken 0) (lent_from s taken)) store (fill + text) a store₁) where
     abbrev found : Outcome Component
     found = next_of (is taken 0) (drop taken s)
 

@@ -5,13 +5,13 @@ use mathlib.Core.List.{List, [], ◌∷◌}
 use Prim.Native.Nat.{ℕ, zero, suc, ◌+◌, ◌-◌, ◌*◌, ◌≤◌, ◌<◌}
 use native.Mathlib.Nat.{zero-add}
 use native.Mathlib.Omega.{arith}
-use lib.ListN.{length, take, drop, get_or, length-drop}
+use lib.ListN.{length, drop, get_or, length-drop}
 use lib.Seq.{drop-drop}
 use Rattle.std.specs.Prelude.{Some, None, Ok, Err}
 use Rattle.combinators.specs.Ascii as ascii
 use Rattle.combinators.specs.Choice.{pick, is}
 use Rattle.combinators.specs.Store.{wiped}
-use Rattle.combinators.proofs.Lists.{rest, first, byte-there}
+use Rattle.combinators.proofs.Lists.{lent_from, rest, first, byte-there, length-rest}
 use Rattle.combinators.proofs.Rules.{pick-holds}
 use Rattle.lexer.specs.Whitespace.{skip_whitespace}
 use Rattle.syntax.specs.RuleLayout.{component_width, selector_head, selector_row, selector_text, selector_rows, selector_texts}
@@ -134,25 +134,17 @@ Ends s rules place store fill r y z = LeftMany length (selector_rows fill) selec
 
 module _ {s rules₀ : List ℕ} {place : ℕ} {store₀ : List ℕ} {fill : ℕ} {rules store : List ℕ} {taken count numbers text next : ℕ}
     (i : Reading-on s rules₀ place store₀ fill rules store taken count numbers text next) (u : RowRoom selector_head s rules₀ place) (v : TextRoom 4 s store₀ fill) where
-  -- the rest as the code lends it
+  -- the rest that is lent
   abbrev lent : List ℕ
-  lent = take (length s - next) (drop next s)
-
-  -- the rest that is lent is the text from `next` on
-  lent_is : lent ≡ drop next s
-  lent_is = rest s next
-
-  -- the rest that is lent has the bytes from `next` on
-  lent-long : length lent ≡ length s - next
-  lent-long = ap length lent_is ∙ length-drop next s
+  lent = lent_from s next
 
   -- the rows have room for the rest, behind those so far
   pub next-rows : RowRoom selector_head lent rules (place + numbers)
   next-rows =
       record {
         zeros = rules-zeros i.gathered u.zeros;
-        for-rows = omega (arith, u.for-rows, i.wide, i.within, lent-long, rules-long i.gathered);
-        bits = omega (arith, u.bits, i.wide, i.within, lent-long);
+        for-rows = omega (arith, u.for-rows, i.wide, i.within, length-rest s next, rules-long i.gathered);
+        bits = omega (arith, u.bits, i.wide, i.within, length-rest s next);
       }
 
   -- the text store has room for the rest, behind the texts so far
@@ -160,8 +152,8 @@ module _ {s rules₀ : List ℕ} {place : ℕ} {store₀ : List ℕ} {fill : ℕ
   next-texts =
       record {
         zeros = store-zeros i.gathered v.zeros;
-        for-texts = omega (arith, v.for-texts, i.long, i.within, lent-long, store_long i.gathered);
-        bits = omega (arith, v.bits, i.long, i.within, lent-long);
+        for-texts = omega (arith, v.for-texts, i.long, i.within, length-rest s next, store_long i.gathered);
+        bits = omega (arith, v.bits, i.long, i.within, length-rest s next);
       }
 
   module _ {r : Reading} {y z : List ℕ} (e : Left (λ _. 1) (selector_row (fill + text)) selector_text (selector_of lent) rules (place + numbers) store (fill + text) r y z) where
@@ -170,13 +162,13 @@ module _ {s rules₀ : List ℕ} {place : ℕ} {store₀ : List ℕ} {fill : ℕ
     unfolding next_of on_outcome selector_rows selector_texts
     no-selector g =
         let n = nothing _ _ _ _ _ _ _ _ e g in
-        rw (n.1.0, n.1.1) (many_read i.gathered 0 taken (rw (← lent_is, n.0)) (omega arith))
+        rw (n.1.0, n.1.1) (many_read i.gathered 0 taken (rw (← rest s next, n.0)) (omega arith))
 
     -- the crate panics in the selector: what was read before is wiped
     module _ {p : ℕ} (g : r ≡ Err (panic_at p)) where
       -- the panic lies within the text
       pub panic-within : next + p ≤ length s
-      panic-within = omega (arith, where-panics (length lent) _ (selector_of lent) p (panicked _ _ _ _ _ _ _ _ e g).0 (selector-keeps lent), lent-long, i.within)
+      panic-within = omega (arith, where-panics (length lent) _ (selector_of lent) p (panicked _ _ _ _ _ _ _ _ e g).0 (selector-keeps lent), length-rest s next, i.within)
 
       -- the return where the crate panics: rows and texts are wiped, and the byte is counted from the start of the list
       pub panics-left : {y' z' : List ℕ} → y' ≡ wiped place numbers y → z' ≡ wiped fill text z → Ends s rules₀ place store₀ fill (Err (panic_at (next + p))) y' z'
@@ -184,7 +176,7 @@ module _ {s rules₀ : List ℕ} {place : ℕ} {store₀ : List ℕ} {fill : ℕ
       panics-left ey ez =
           let n = panicked _ _ _ _ _ _ _ _ e g in
           many-panics i.gathered u.zeros v.zeros (ey ∙ ap (wiped place numbers) n.1.0) (ez ∙ ap (wiped fill text) n.1.1)
-          (i.gap + p) (next + p) (rw (← lent_is, n.0)) (omega (arith, i.next-is))
+          (i.gap + p) (next + p) (rw (← rest s next, n.0)) (omega (arith, i.next-is))
 
     -- a selector reads: it is gathered with those before it
     module _ {n o row more : ℕ} (g : r ≡ Ok (Some (sized n o row more))) where
@@ -198,7 +190,7 @@ module _ {s rules₀ : List ℕ} {place : ℕ} {store₀ : List ℕ} {fill : ℕ
 
       -- the selector ends within the text
       pub taken-within : next + n ≤ length s
-      taken-within = omega (arith, keeps.within, lent-long, i.within)
+      taken-within = omega (arith, keeps.within, length-rest s next, i.within)
 
       -- there are no more selectors than bytes taken
       pub count-few : count + 1 ≤ next + n
@@ -217,7 +209,7 @@ module _ {s rules₀ : List ℕ} {place : ℕ} {store₀ : List ℕ} {fill : ℕ
       read-on : Gathered selector_row selector_text (selectors_of s) (more_selectors (i.turns n) (drop (next + n) s)) rules₀ place store₀ fill (next + n) y z (count + 1) (numbers + row) (text + more)
       unfolding next_of on_outcome
       read-on =
-          gathered-as (gathered_next i.gathered (i.gap + n) one.value _ y z (rw (← lent_is, one.reads-it)) one.rules-are one.store_is)
+          gathered-as (gathered_next i.gathered (i.gap + n) one.value _ y z (rw (← rest s next, one.reads-it)) one.rules-are one.store_is)
           (omega (arith, i.next-is)) refl (omega (arith, one.rows)) (omega (arith, one.texts))
 
       module _ {b : Bool} (eb : b ≡ is (get_or s (next + n) 0) ascii.comma) where
@@ -248,7 +240,7 @@ module _ {s rules₀ : List ℕ} {place : ℕ} {store₀ : List ℕ} {fill : ℕ
                 within = l;
                 counted = omega (arith, count-few, en);
                 wide = omega (arith, numbers-few, en);
-                long = omega (arith, i.long, one.texts, keeps.sharp (omega (arith, there, lent-long)), en);
+                long = omega (arith, i.long, one.texts, keeps.sharp (omega (arith, there, length-rest s next)), en);
               }
 
 -- ---- reading selectors never fails

@@ -4,7 +4,7 @@ use mathlib.Core.Bool.{Bool, true, false}
 use mathlib.Core.List.{List}
 use Prim.Native.Nat.{ℕ, ◌+◌, ◌-◌, ◌*◌, ◌^◌, ◌≤◌, ◌<◌}
 use native.Mathlib.Omega.{arith}
-use lib.ListN.{length, get_or, take, drop, length-drop}
+use lib.ListN.{length, get_or, drop, length-drop}
 use lib.Seq.{sets}
 use Rattle.selectors.proofs.ReadingLaws as readings
 use Rattle.selectors.specs.declared.readings.Read.{Read}
@@ -13,7 +13,7 @@ use Rattle.combinators.specs.Ascii as ascii
 use Rattle.combinators.specs.Choice.{pick, is}
 use Rattle.combinators.specs.Parsed.{on_parsed}
 use Rattle.combinators.specs.Store.{wiped}
-use Rattle.combinators.proofs.Lists.{rest, byte-there}
+use Rattle.combinators.proofs.Lists.{lent_from, rest, byte-there}
 use Rattle.lexer.specs.Name.{ident_of, name_answer, name_text}
 use Rattle.lexer.specs.TokenRow.{token_width}
 use Rattle.lexer.specs.Whitespace.{skip_whitespace}
@@ -56,10 +56,6 @@ unsaid-by false x y got e = (refl, cc)
 
 -- ---- `parse_statement_end`: the tokens of the statement are wiped again, and the stores are as they were
 module _ (s : List ℕ) (n : ℕ) (tokens brackets store : List ℕ) (fill : ℕ) (o : WorkRoom s tokens brackets store fill) (h : n ≤ length s) where
-  -- the rest as the code lends it
-  abbrev lent : List ℕ
-  lent = take (length s - n) (drop n s)
-
   -- the statement that the lent text means
   abbrev stated : Statement
   stated = statement_of true (drop n s)
@@ -70,7 +66,7 @@ module _ (s : List ℕ) (n : ℕ) (tokens brackets store : List ℕ) (fill : ℕ
 
   -- what was left of it
   module _ {a : Result declared.Statement Unbalanced} {x b z : List ℕ}
-      (e : record { answer = a; rows = x; brackets = b; store = z } ≡ left (statement_of true lent) tokens brackets store fill) where
+      (e : record { answer = a; rows = x; brackets = b; store = z } ≡ left (statement_of true (lent_from s n)) tokens brackets store fill) where
     -- what was left is what the statement leaves
     left_is : record { answer = a; rows = x; brackets = b; store = z } ≡ left stated tokens brackets store fill
     left_is = e ∙ ap (λ l. left (statement_of true l) tokens brackets store fill) (rest s n)
@@ -192,16 +188,12 @@ module _ (s tokens brackets store : List ℕ) (fill : ℕ) (o : WorkRoom s token
         unfolding at_rule_of pick spaced
         rule-is = rw (← ea, ← et, f, ← ei)
 
-        -- the rest as the code lends it
-        abbrev behind-at : List ℕ
-        behind-at = take (length s - i) (drop i s)
-
-        module _ {x : Option Written} (ex : x ≡ name_answer (ident_of behind-at)) {z : List ℕ} (ez : z ≡ sets store fill (name_text (ident_of behind-at))) where
+        module _ {x : Option Written} (ex : x ≡ name_answer (ident_of (lent_from s i))) {z : List ℕ} (ez : z ≡ sets store fill (name_text (ident_of (lent_from s i)))) where
           -- without a name behind `@` nothing is read
           pub name-missing : x ≡ None → Told None tokens brackets z
           unfolding reading on_outcome on_parsed name_text
           name-missing q =
-              let p = unnamed-from (ident_of behind-at) (sym q ∙ ex) in
+              let p = unnamed-from (ident_of (lent_from s i)) (sym q ∙ ex) in
               let u = ap ident_of (sym (rest s i)) ∙ p in
               (rw (rule-is, u), (refl, (refl, ez ∙ rw p)))
 
@@ -219,7 +211,7 @@ module _ (s tokens brackets store : List ℕ) (fill : ℕ) (o : WorkRoom s token
             name-end = omega (arith, name-fits.within_text, length-drop i s)
 
             -- what was written of it
-            text-is : name_text (ident_of behind-at) ≡ named.name
+            text-is : name_text (ident_of (lent_from s i)) ≡ named.name
             unfolding name_text
             text-is = ap (λ l. name_text (ident_of l)) (rest s i) ∙ ap name_text named.reads
 

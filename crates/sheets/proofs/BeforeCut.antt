@@ -117,7 +117,7 @@ sheet_before s = sheet_from_before (length s) s 0
 
 -- it panicked at the `=`
 test-before : sheet_before (text "[a=") ≡ panics 2
-unfolding sheet_before sheet_from_before statements_before ruleset_before selectors_before selector_before body_before components_before component_before component_with attr_before value_before closed some_of marked blank_of class_of on_outcome or_else behind parsed on_parsed text utf8 taken_of name.is_nmstart name.is_nmchar name.lower name.folded_char name.ident_escape_of name.nmstart_of name.nmchar_of name.bytes_of name.char_taken name.char_text name.chars_end name.chars_text name.name_from name.dash name.name_of name.ident_of parser.behind skip_whitespace many took texts whitespace_item is_whitespace comment_of pick or and within is
+unfolding sheet_before sheet_from_before statements_before ruleset_before selectors_before selector_before body_before components_before component_before component_with attr_before value_before closed some_of marked blank_of class_of on_outcome or_else behind parsed on_parsed text utf8 taken_of name.is_nmstart name.is_nmchar is_digit name.lower name.folded_char name.ident_escape_of name.nmstart_of name.nmchar_of name.bytes_of name.char_taken name.char_text name.chars_end name.chars_text name.name_from name.dash name.name_of name.ident_of parser.behind skip_whitespace many took texts whitespace_item is_whitespace comment_of pick or and within is
 test-before = refl
 
 -- ---- one outcome before, and one now

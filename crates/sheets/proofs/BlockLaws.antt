@@ -4,13 +4,13 @@ use mathlib.Core.Bool.{Bool, true, false}
 use mathlib.Core.List.{List, [], ◌∷◌, map}
 use Prim.Native.Nat.{ℕ, ◌+◌, ◌-◌, ◌*◌, ◌^◌, ◌≤◌, ◌<◌}
 use native.Mathlib.Omega.{arith}
-use lib.ListN.{length, get_or, take, drop, length-drop, length-map}
+use lib.ListN.{length, get_or, drop, length-drop, length-map}
 use lib.Seq.{sets}
 use Rattle.std.specs.Prelude.{Option, Some, None, Ok}
 use Rattle.combinators.specs.Ascii as ascii
 use Rattle.combinators.specs.Choice.{pick, is}
 use Rattle.combinators.specs.Store.{wiped}
-use Rattle.combinators.proofs.Lists.{rest, byte-there}
+use Rattle.combinators.proofs.Lists.{lent_from, rest, byte-there}
 use Rattle.lexer.specs.Whitespace.{skip_whitespace}
 use Rattle.syntax.specs.Declaration.{Decl, color, background_color, height, max_height, overflow, overflow_y, display, white_space, content, visibility, unknown, Declaration}
 use Rattle.syntax.specs.Layout.{declaration_width, declaration_rows, declaration_texts}
@@ -112,10 +112,6 @@ module _ (s : List ℕ) (n at : ℕ) (rules : List ℕ) (place : ℕ) (tokens br
 
       -- declarations from d on
       module _ {d : ℕ} (ed : d ≡ w + 1 + skip_whitespace (drop (w + 1) s)) (hd : d ≤ length s) where
-        -- the rest as the code lends it
-        abbrev lent : List ℕ
-        lent = take (length s - d) (drop d s)
-
         -- the declarations, by where they start in the whole text
         abbrev found : Rules
         found = declarations_of (drop d s)
@@ -126,7 +122,7 @@ module _ (s : List ℕ) (n at : ℕ) (rules : List ℕ) (place : ℕ) (tokens br
 
         -- what `parse_rules` left: the declarations of the block, written at the place
         module _ {r : RulesRead} {y x b z : List ℕ}
-            (e : record { answer = r; rules = y; tokens = x; brackets = b; store = z } ≡ rules_left true (at + d) lent rules place tokens brackets store fill) where
+            (e : record { answer = r; rules = y; tokens = x; brackets = b; store = z } ≡ rules_left true (at + d) (lent_from s d) rules place tokens brackets store fill) where
           -- what was left is what these declarations leave
           left_is : record { answer = r; rules = y; tokens = x; brackets = b; store = z } ≡ leaves (rules_answer found.taken ds) ds (used_rules true (drop d s)) rules place tokens brackets store fill
           unfolding rules_left rules_of

@@ -3,11 +3,11 @@ use mathlib.Core.Path.{◌≡◌, refl, sym, ap, ◌∙◌}
 use mathlib.Core.List.{List, [], ◌∷◌, ◌++◌, map}
 use Prim.Native.Nat.{ℕ, ◌+◌, ◌-◌, ◌*◌, ◌^◌, ◌≤◌, ◌<◌}
 use native.Mathlib.Omega.{arith}
-use lib.ListN.{length, take, drop, length-drop, length-append}
+use lib.ListN.{length, drop, length-drop, length-append}
 use lib.Seq.{sets, length-sets}
 use Rattle.std.specs.Prelude.{Option, Some, None, Ok, Err}
 use Rattle.combinators.specs.Store.{wiped, Zeros}
-use Rattle.combinators.proofs.Lists.{rest}
+use Rattle.combinators.proofs.Lists.{lent_from, rest, length-rest}
 use Rattle.combinators.proofs.Wiped.{sets-append}
 use Rattle.lexer.specs.Whitespace.{skip_whitespace}
 use Rattle.syntax.specs.Declaration.{Declaration}
@@ -86,18 +86,10 @@ module _ (s : List ℕ) (at : ℕ) (rules : List ℕ) (place : ℕ) (tokens brac
   ruled l ex eb = (l.0, (l.1.0, (ex, (eb, l.1.1))))
 
   module _ {w : ℕ} (ew : w ≡ skip_whitespace s) (hw : w ≤ length s) where
-    -- the rest as the code lends it
-    abbrev lent : List ℕ
-    lent = take (length s - w) (drop w s)
-
-    -- how long it is
-    lent-long : length lent ≡ length s - w
-    lent-long = ap length (rest s w) ∙ length-drop w s
-
     -- room for the selectors
-    pub rows-room : RowRoom selector_head lent rules (place + rule_head)
+    pub rows-room : RowRoom selector_head (lent_from s w) rules (place + rule_head)
     rows-room =
-        let l = lent-long in
+        let l = length-rest s w in
         record {
           zeros = zeros-later rules place o.rules-zeros rule_head;
           for-rows = omega (arith, o.for-rules);
@@ -105,9 +97,9 @@ module _ (s : List ℕ) (at : ℕ) (rules : List ℕ) (place : ℕ) (tokens brac
         }
 
     -- there is room for the texts of the selectors
-    pub texts-room : TextRoom 4 lent store fill
+    pub texts-room : TextRoom 4 (lent_from s w) store fill
     texts-room =
-        let l = lent-long in
+        let l = length-rest s w in
         record { zeros = o.work.store-zeros; for-texts = omega (arith, o.work.for-texts); bits = omega (arith, o.work.text-bits) }
 
     -- the selectors that the lent text means
@@ -120,7 +112,7 @@ module _ (s : List ℕ) (at : ℕ) (rules : List ℕ) (place : ℕ) (tokens brac
     ruleset-is = rw (← ew)
 
     -- what `parse_selectors` left: the selectors, written behind the head of the rule
-    module _ {r : ManyReading} {y z : List ℕ} (e : LeftMany length (selector_rows fill) selector_texts (selectors_of lent) rules (place + rule_head) store fill r y z) where
+    module _ {r : ManyReading} {y z : List ℕ} (e : LeftMany length (selector_rows fill) selector_texts (selectors_of (lent_from s w)) rules (place + rule_head) store fill r y z) where
       -- what was left is what the selectors of the text behind white space leave
       said : LeftMany length (selector_rows fill) selector_texts list rules (place + rule_head) store fill r y z
       said = rw (← rest s w) e

@@ -4,7 +4,7 @@ use mathlib.Core.List.{List, [], ◌++◌, map}
 use Prim.Native.Nat.{ℕ, zero, suc, ◌+◌, ◌-◌, ◌*◌, ◌≤◌, ◌<◌}
 use native.Mathlib.Nat.{zero-add}
 use native.Mathlib.Omega.{arith}
-use lib.ListN.{length, take, drop, length-drop}
+use lib.ListN.{length, drop, length-drop}
 use lib.Seq.{sets, drop-drop}
 use Rattle.std.specs.Prelude.{Some, None, Ok, Err}
 use Rattle.combinators.specs.Choice.{pick, or, and, is, within}
@@ -14,7 +14,7 @@ use Rattle.combinators.specs.Repeat.{many, took}
 use Rattle.combinators.specs.Lent.{SameStores}
 use Rattle.combinators.specs.declared.lent.Stores.{Stores}
 use Rattle.combinators.specs.Store.{wiped, Zeros}
-use Rattle.combinators.proofs.Lists.{rest, nil-of}
+use Rattle.combinators.proofs.Lists.{lent_from, rest, nil-of, length-rest}
 use Rattle.characters.specs.Utf8 as utf8
 use Rattle.lexer.specs.Name as name
 use Rattle.lexer.specs.Whitespace.{skip_whitespace, whitespace_item, is_whitespace, comment_of}
@@ -183,17 +183,9 @@ module _ {s rules₀ tokens₀ brackets₀ store₀ rules tokens brackets store 
       (a.0, (a.1.0, (i.tokens-kept, (i.brackets-kept, a.1.1))))
 
   module _ (l : taken < length s) (o : SheetRoom s rules₀ tokens₀ brackets₀ store₀) where
-    -- the rest as the code lends it
+    -- the rest that is lent
     abbrev lent : List ℕ
-    lent = take (length s - taken) (drop taken s)
-
-    -- the rest that is lent is what stands behind the bytes taken
-    lent_is : lent ≡ drop taken s
-    lent_is = rest s taken
-
-    -- it is as long as the text without the bytes taken
-    lent-long : length lent ≡ length s - taken
-    lent-long = ap length lent_is ∙ length-drop taken s
+    lent = lent_from s taken
 
     -- where bytes are left, turns are left
     some-turns : 0 < i.turns
@@ -206,18 +198,18 @@ module _ {s rules₀ tokens₀ brackets₀ store₀ rules tokens brackets store 
         let h = i.long in
         record {
           rules-zeros = subst (Zeros rules) (zero-add numbers) (rules-zeros i.gathered o.rules-zeros);
-          for-rules = omega (arith, o.for-rules, i.wide, lent-long, rules-kept);
+          for-rules = omega (arith, o.for-rules, i.wide, length-rest s taken, rules-kept);
           row-bits = omega (arith, o.row-bits, rules-kept);
-          start-bits = omega (arith, w.text-bits, lent-long);
+          start-bits = omega (arith, w.text-bits, length-rest s taken);
           work =
               record {
                 tokens-zeros = rw i.tokens-kept w.tokens-zeros;
                 brackets-zeros = rw i.brackets-kept w.brackets-zeros;
                 store-zeros = subst (Zeros store) (zero-add text) (store-zeros i.gathered w.store-zeros);
-                for-tokens = omega (arith, w.for-tokens, lent-long, tokens-long);
-                for-brackets = omega (arith, w.for-brackets, lent-long, brackets-long);
-                for-texts = omega (arith, w.for-texts, h, lent-long, store_kept);
-                text-bits = omega (arith, w.text-bits, h, lent-long);
+                for-tokens = omega (arith, w.for-tokens, length-rest s taken, tokens-long);
+                for-brackets = omega (arith, w.for-brackets, length-rest s taken, brackets-long);
+                for-texts = omega (arith, w.for-texts, h, length-rest s taken, store_kept);
+                text-bits = omega (arith, w.text-bits, h, length-rest s taken);
               };
         }
 
@@ -243,21 +235,21 @@ module _ {s rules₀ tokens₀ brackets₀ store₀ rules tokens brackets store 
       pub no_more : r ≡ Ok None → Ends s rules₀ tokens₀ brackets₀ store₀ (Ok (sized taken count numbers text)) y x b z
       no_more g =
           let n = nothing _ _ _ _ _ _ _ _ left g in
-          let a = all_read (ap (λ (t : List ℕ). sheet_from i.turns t taken) (sym lent_is) ∙ turn-fails lent taken n.0 i.turns) in
+          let a = all_read (ap (λ (t : List ℕ). sheet_from i.turns t taken) (sym (rest s taken)) ∙ turn-fails lent taken n.0 i.turns) in
           (a.0, (n.1.0 ∙ a.1.0, (tokens-same, (brackets-same, n.1.1 ∙ a.1.1))))
 
       -- the crate panics in the statement: what was read before is wiped
       module _ {p : ℕ} (g : r ≡ Err (panic_at p)) where
         -- the byte where it panics lies within the text
         pub panic-fits : taken + p ≤ length s
-        panic-fits = omega (arith, where-panics (length lent) _ statements p (panicked _ _ _ _ _ _ _ _ left g).0 (moved_keeps taken lent), lent-long, i.within)
+        panic-fits = omega (arith, where-panics (length lent) _ statements p (panicked _ _ _ _ _ _ _ _ left g).0 (moved_keeps taken lent), length-rest s taken, i.within)
 
         -- the return where the crate panics: what was written is wiped, and nothing is kept
         pub panics-left : {y' z' : List ℕ} → y' ≡ wiped 0 numbers y → z' ≡ wiped 0 text z → Ends s rules₀ tokens₀ brackets₀ store₀ (Err (panic_at (taken + p))) y' x b z'
         unfolding rule_rows rule_texts
         panics-left ey ez =
             let n = panicked _ _ _ _ _ _ _ _ left g in
-            let h = ap (λ (t : List ℕ). sheet_from i.turns t taken) (sym lent_is) ∙ turn-panics lent taken p n.0 i.turns some-turns in
+            let h = ap (λ (t : List ℕ). sheet_from i.turns t taken) (sym (rest s taken)) ∙ turn-panics lent taken p n.0 i.turns some-turns in
             let a = many-panics i.gathered o.rules-zeros o.work.store-zeros (ey ∙ ap (wiped 0 numbers) n.1.0) (ez ∙ ap (wiped 0 text) n.1.1) (taken + p) (taken + p) h (omega arith) in
             (a.0, (a.1.0, (tokens-same, (brackets-same, a.1.1))))
 
@@ -277,7 +269,7 @@ module _ {s rules₀ tokens₀ brackets₀ store₀ rules tokens brackets store 
 
         -- it ends within the text
         pub next_fits : taken + n ≤ length s
-        next_fits = omega (arith, keeps.within, lent-long, i.within)
+        next_fits = omega (arith, keeps.within, length-rest s taken, i.within)
 
         -- there are no more rules than bytes taken
         pub next-count : count + more ≤ taken + n
@@ -296,9 +288,9 @@ module _ {s rules₀ tokens₀ brackets₀ store₀ rules tokens brackets store 
         unfolding rule_rows rule_texts
         next-gathered =
             let rs = got.value in
-            let q : drop n lent ≡ drop (taken + n) s = ap (drop n) lent_is ∙ drop-drop n taken s in
+            let q : drop n lent ≡ drop (taken + n) s = ap (drop n) (rest s taken) ∙ drop-drop n taken s in
             gathered-as (gathered-more i.gathered 0 rs (sheet_from (i.turns - 1) (drop (taken + n) s) (taken + n)) y z
-            (ap (λ (t : List ℕ). sheet_from i.turns t taken) (sym lent_is) ∙ turn-reads lent taken n rs got.reads-it i.turns some-turns ∙ rw q refl)
+            (ap (λ (t : List ℕ). sheet_from i.turns t taken) (sym (rest s taken)) ∙ turn-reads lent taken n rs got.reads-it i.turns some-turns ∙ rw q refl)
             (rw (zero-add numbers, zero-add text) got.rules-are) (rw (zero-add text) got.store_is))
             refl (omega (arith, got.counts)) (omega (arith, got.rows, ap (λ (f : ℕ). length (rows_many rule_row rule_text f rs)) (zero-add text))) (omega (arith, got.texts))
 

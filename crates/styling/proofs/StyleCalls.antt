@@ -5,7 +5,7 @@ use Rattle.std.proofs.Common.{Option, Some, None, Result, Ok, Err}
 use Rattle.std.proofs.lemmas.List.{drop-replicate}
 use Rattle.std.specs.Result.{IsErrAnd}
 use mathlib.Core.List.{List, ◌++◌}
-use Prim.Native.Nat.{ℕ, suc, ◌+◌, ◌-◌, ◌^◌, ◌≤◌, ◌<◌}
+use Prim.Native.Nat.{ℕ, suc, ◌+◌, ◌-◌, ◌≤◌, ◌<◌}
 use native.Mathlib.Omega.{arith}
 use borrow.Author.Tests.{ltb-true, leb-true}
 use lib.Dec.{leb, ltb}
@@ -22,11 +22,11 @@ use Rattle.combinators.proofs.Rules.{pick_true, pick-false, pick-holds, is-yes, 
 use Rattle.syntax.specs.Selector.{RuleSet}
 use Rattle.sheets.specs.SheetAnswer.{sheet_limit, padded}
 use Rattle.origins.specs.Checks.{any_too_long, all_valid, Lent}
-use Rattle.origins.specs.Reading.{Sheets, panicked, sheets_of, sheets_rows, sheets_texts, sheets_answer, SheetsRoom}
+use Rattle.origins.specs.Reading.{Sheets, panicked, sheets_of, sheets_rows, sheets_texts, sheets_answer}
 use Rattle.origins.specs.Reading.{SheetsRules}
 use Rattle.origins.specs.declared.reading.SheetPanic.{SheetPanic}
 use Rattle.origins.proofs.ChecksLaws.{none-long}
-use Rattle.origins.proofs.SheetsKnown.{zeros_of, room-cleared, panic-known}
+use Rattle.origins.proofs.SheetsKnown.{zeros-kept, panic-known}
 use Rattle.cascade.specs.declared.slots.Cascade.{Cascade}
 use Rattle.cascade.specs.Row.{style_row_width}
 use Rattle.page.specs.Accepted.{first_bad_row, first_bad_text, refused_row, error_refusal, refusal_of, page_refusal}
@@ -93,13 +93,19 @@ pub left_by : {a a' : TextsAnswer} {o o' t t' y y' x x' b b' : List ℕ} → a �
     → ◌≡◌ {A = StyleLeft} (record { answer = a; row = o; texts = t; rules = y; tokens = x; brackets = b }) (record { answer = a'; row = o'; texts = t'; rules = y'; tokens = x'; brackets = b' })
 left_by p q r s t u = rw (p, q, r, s, t, u) refl
 
+-- an answer beside stores that stay as they were
+abbrev refuses : (out texts rules₀ tokens brackets : List ℕ) → TextsAnswer → StyleLeft
+refuses out texts rules₀ tokens brackets a = record { answer = a; row = out; texts = texts; rules = rules₀; tokens = tokens; brackets = brackets }
+
+-- where it has a refusal, that is what the definition refuses with
+refused_as : {out texts rules₀ tokens brackets : List ℕ} {a : TextsAnswer} {q r : Refusal} → q ≡ r → a ≡ record { refusal = q; texts = 0 }
+    → refuses out texts rules₀ tokens brackets a ≡ unchanged out texts rules₀ tokens brackets r
+unfolding unchanged
+refused_as eq ea = left_by (ea ∙ ap (λ (z : Refusal). record { refusal = z; texts = 0 }) eq) refl refl refl refl refl
+
 module _ (c : Cascade) (settings : Settings) (p : Path) {agent user author rules₀ tokens₀ brackets₀ texts₀ : List ℕ} (o : Lent agent user author rules₀ tokens₀ brackets₀ texts₀) (out₀ : List ℕ)
     (l : CallLent (length agent + length user + length author) p out₀ rules₀ tokens₀ brackets₀ texts₀)
     {o₁ t₁ y₁ x₁ b₁ : List ℕ} (co : o₁ ≡ cleared 0 out₀) (ct : t₁ ≡ cleared 0 texts₀) (cy : y₁ ≡ cleared 0 rules₀) (cx : x₁ ≡ cleared 0 tokens₀) (cb : b₁ ≡ cleared 0 brackets₀) where
-  -- room for the three sheets
-  pub sheets-room : length rules₀ < 2 ^ 64 → SheetsRoom agent user author y₁ x₁ b₁ t₁
-  sheets-room h = rw (ct, cy, cx, cb) (room-cleared o h)
-
   abbrev meant : Sheets
   meant = sheets_of agent user author
 
@@ -115,8 +121,7 @@ module _ (c : Cascade) (settings : Settings) (p : Path) {agent user author rules
         let k : meant ≡ panicked at.text at.place = panic-known meant at (sym g ∙ er) in
         let ey' : y₂ ≡ y₁ = ey ∙ ap (λ (s : Sheets). sets y₁ 0 (sheets_rows s)) k in
         let et' : t₂ ≡ t₁ = et ∙ ap (λ (s : Sheets). sets t₁ 0 (sheets_texts s)) k in
-        left_by (ea ∙ ap (λ (z : Refusal). record { refusal = z; texts = 0 }) eq) (co ∙ zeros_of out₀ out₀ refl) (et' ∙ ct ∙ zeros_of texts₀ texts₀ refl) (ey' ∙ cy ∙ zeros_of rules₀ rules₀ refl)
-        (ex ∙ cx ∙ zeros_of tokens₀ tokens₀ refl) (eb ∙ cb ∙ zeros_of brackets₀ brackets₀ refl)
+        left_by (ea ∙ ap (λ (z : Refusal). record { refusal = z; texts = 0 }) eq) (zeros-kept out₀ co refl) (zeros-kept texts₀ ct et') (zeros-kept rules₀ cy ey') (zeros-kept tokens₀ cx ex) (zeros-kept brackets₀ cb eb)
         ∙ ap (styled_left out₀ texts₀ rules₀ tokens₀ brackets₀ c settings p) (sym k)
 
     module _ {s : SheetsRules} (g : r ≡ Ok s) where
@@ -189,7 +194,7 @@ module _ (c : Cascade) (settings : Settings) (p : Path) {agent user author rules
           let row = call_row c R settings p in
           let store = call_store R settings p in
           let are = held.sheets-are lies in
-          let rest : drop style_row_width o₁ ≡ replicate (length out₀ - length row) 0 = ap (drop style_row_width) (co ∙ zeros_of out₀ out₀ refl) ∙ drop-replicate style_row_width (length out₀) 0 ∙ ap (λ (i : ℕ). replicate (length out₀ - i) 0) (sym (call-row-long c R settings p)) in
+          let rest : drop style_row_width o₁ ≡ replicate (length out₀ - length row) 0 = ap (drop style_row_width) (zeros-kept out₀ co refl) ∙ drop-replicate style_row_width (length out₀) 0 ∙ ap (λ (i : ℕ). replicate (length out₀ - i) 0) (sym (call-row-long c R settings p)) in
           left_by
           (ea ∙ ap (λ (i : ℕ). record { refusal = no_refusal; texts = i }) (en ∙ ap (λ (q : Rules RuleSet). length (call_store q settings p)) are))
           (eo ∙ ap (λ (q : Rules RuleSet). call_row c q settings p ++ drop style_row_width o₁) are ∙ ap (λ (z : List ℕ). row ++ z) rest)
@@ -244,13 +249,10 @@ module _ (c : Cascade) (settings : Settings) (s : SheetTexts) (g : Page) (row : 
   abbrev Asked : StyleLeft → Type 0
   Asked z = z ≡ asked_left out texts rules₀ tokens brackets c settings g row (sheets_of s.agent s.user s.author)
 
-  abbrev refuses : TextsAnswer → StyleLeft
-  refuses a = record { answer = a; row = out; texts = texts; rules = rules₀; tokens = tokens; brackets = brackets }
-
   -- a page that is refused is answered with that refusal, and the stores stay
-  pub page-refused : ¬ (r.number ≡ 0) → {a : TextsAnswer} → a ≡ record { refusal = r; texts = 0 } → Asked (refuses a)
-  unfolding asked_left unchanged
-  page-refused h {a} ea = pick-false _ _ _ _ (is-no _ _ (λ e. h (ap (λ (q : Refusal). q.number) er ∙ e))) (left_by (ea ∙ ap (λ (q : Refusal). record { refusal = q; texts = 0 }) er) refl refl refl refl refl)
+  pub page-refused : ¬ (r.number ≡ 0) → {a : TextsAnswer} → a ≡ record { refusal = r; texts = 0 } → Asked (refuses out texts rules₀ tokens brackets a)
+  unfolding asked_left
+  page-refused h {a} ea = pick-false _ _ _ _ (is-no _ _ (λ e. h (ap (λ (q : Refusal). q.number) er ∙ e))) (refused_as er ea)
 
   module _ (h : r.number ≡ 0) where
     -- the refusal of the page has the number 0
@@ -263,10 +265,9 @@ module _ (c : Cascade) (settings : Settings) (s : SheetTexts) (g : Page) (row : 
 
     module _ {t : Bool} (et : t ≡ is_element g.nodes row) where
       -- a row that is no element is refused, and the stores stay
-      pub no-element : t ≡ false → {a : TextsAnswer} {q : Refusal} → q ≡ refused no_element → a ≡ record { refusal = q; texts = 0 } → Asked (refuses a)
-      unfolding asked_left unchanged
-      no-element f {a} {q} eq ea =
-          pick_true _ _ _ _ (is-yes _ _ no_number) (pick-false _ _ _ _ (sym et ∙ f) (left_by (ea ∙ ap (λ (z : Refusal). record { refusal = z; texts = 0 }) eq) refl refl refl refl refl))
+      pub no-element : t ≡ false → {a : TextsAnswer} {q : Refusal} → q ≡ refused no_element → a ≡ record { refusal = q; texts = 0 } → Asked (refuses out texts rules₀ tokens brackets a)
+      unfolding asked_left
+      no-element f eq ea = pick_true _ _ _ _ (is-yes _ _ no_number) (pick-false _ _ _ _ (sym et ∙ f) (refused_as eq ea))
 
       module _ (f : t ≡ true) where
         -- the row is one of the page, and its kind is that of elements
@@ -346,7 +347,7 @@ module _ (c : Cascade) (settings : Settings) (s : SheetTexts) (g : Page) (row : 
   told-page q h = ap style_refusal h
 
   pub page-answered : (o : Result ℕ StyleError) → IsErrAnd o (λ q. q ≡ BadPage e)
-      → record { answer = numbers_of o; row = out; texts = texts; rules = rules₀; tokens = tokens; brackets = brackets } ≡ asked_left out texts rules₀ tokens brackets c settings g row (sheets_of s.agent s.user s.author)
+      → refuses out texts rules₀ tokens brackets (numbers_of o) ≡ asked_left out texts rules₀ tokens brackets c settings g row (sheets_of s.agent s.user s.author)
   page-answered (Err q) h = page-refused c settings s g row out texts rules₀ tokens brackets l (page-failed was (told-page q h) er) (error-loud e (told-page q h)) (refused-numbers q)
   page-answered (Ok n) h = absurd h
 
@@ -355,19 +356,11 @@ module _ (c : Cascade) (settings : Settings) (s : SheetTexts) (g : Page) (row : 
   abbrev Called : StyleLeft → Type 0
   Called z = z ≡ style_of c settings s g row out texts rules₀ tokens brackets
 
-  abbrev refuse : TextsAnswer → StyleLeft
-  refuse a = record { answer = a; row = out; texts = texts; rules = rules₀; tokens = tokens; brackets = brackets }
-
-  -- an answer with a refusal and the stores as they were is what the definition refuses with
-  refused_as : {a : TextsAnswer} {q : Refusal} (n : ℕ) → q ≡ refused n → a ≡ record { refusal = q; texts = 0 } → refuse a ≡ unchanged out texts rules₀ tokens brackets (refused n)
-  unfolding unchanged
-  refused_as n eq ea = left_by (ea ∙ ap (λ (z : Refusal). record { refusal = z; texts = 0 }) eq) refl refl refl refl refl
-
   module _ {t : Bool} (e : t ≡ any_too_long (length s.agent) (length s.user) (length s.author)) where
     -- a sheet that is too long is refused, and the stores stay
-    pub too_long_lem : t ≡ true → {a : TextsAnswer} {q : Refusal} → q ≡ refused too_long → a ≡ record { refusal = q; texts = 0 } → Called (refuse a)
+    pub too_long_lem : t ≡ true → {a : TextsAnswer} {q : Refusal} → q ≡ refused too_long → a ≡ record { refusal = q; texts = 0 } → Called (refuses out texts rules₀ tokens brackets a)
     unfolding style_of
-    too_long_lem f eq ea = pick_true _ _ _ _ (sym e ∙ f) (refused_as too_long eq ea)
+    too_long_lem f eq ea = pick_true _ _ _ _ (sym e ∙ f) (refused_as eq ea)
 
     module _ (f : t ≡ false) where
       -- each of the three sheets is within its limit
@@ -380,9 +373,9 @@ module _ (c : Cascade) (settings : Settings) (s : SheetTexts) (g : Page) (row : 
 
       module _ {v : Bool} (ev : v ≡ and (leb style_row_width (length out)) (stores_suffice (call_bytes s g) (length rules₀) (length tokens) (length brackets) (length texts))) where
         -- a row or a store that is too short is refused, and all of them stay
-        pub short-store : v ≡ false → {a : TextsAnswer} {q : Refusal} → q ≡ refused short_store → a ≡ record { refusal = q; texts = 0 } → Called (refuse a)
+        pub short-store : v ≡ false → {a : TextsAnswer} {q : Refusal} → q ≡ refused short_store → a ≡ record { refusal = q; texts = 0 } → Called (refuses out texts rules₀ tokens brackets a)
         unfolding style_of
-        short-store h eq ea = pick-false _ _ _ _ (sym e ∙ f) (pick-false _ _ _ _ (sym ev ∙ h) (refused_as short_store eq ea))
+        short-store h eq ea = pick-false _ _ _ _ (sym e ∙ f) (pick-false _ _ _ _ (sym ev ∙ h) (refused_as eq ea))
 
         module _ (h : v ≡ true) where
           -- the row is long enough, and the stores suffice
@@ -395,9 +388,9 @@ module _ (c : Cascade) (settings : Settings) (s : SheetTexts) (g : Page) (row : 
 
           module _ {x : Bool} (i : x ≡ all_valid s.agent s.user s.author) where
             -- sheets that are no UTF-8 are refused, and the stores stay
-            pub not-utf8 : x ≡ false → {a : TextsAnswer} {q : Refusal} → q ≡ refused not_utf8 → a ≡ record { refusal = q; texts = 0 } → Called (refuse a)
+            pub not-utf8 : x ≡ false → {a : TextsAnswer} {q : Refusal} → q ≡ refused not_utf8 → a ≡ record { refusal = q; texts = 0 } → Called (refuses out texts rules₀ tokens brackets a)
             unfolding style_of
-            not-utf8 j eq ea = pick-false _ _ _ _ (sym e ∙ f) (pick_true _ _ _ _ (sym ev ∙ h) (pick-false _ _ _ _ (sym i ∙ j) (refused_as not_utf8 eq ea)))
+            not-utf8 j eq ea = pick-false _ _ _ _ (sym e ∙ f) (pick_true _ _ _ _ (sym ev ∙ h) (pick-false _ _ _ _ (sym i ∙ j) (refused_as eq ea)))
 
             -- behind all these tests the call leaves what it leaves by page and row
             pub called : x ≡ true → {z : StyleLeft} → z ≡ asked_left out texts rules₀ tokens brackets c settings g row (sheets_of s.agent s.user s.author) → Called z

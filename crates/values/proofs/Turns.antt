@@ -5,7 +5,7 @@ use mathlib.Core.Bool.{Bool, true, false}
 use Prim.Native.Nat.{ℕ, zero, suc, ◌+◌, ◌-◌, ◌^◌, ◌<◌, ◌≤◌}
 use native.Mathlib.Nat.{add-zero}
 use native.Mathlib.Omega.{arith}
-use lib.ListN.{length, get_or, take, drop, length-drop, length-append}
+use lib.ListN.{length, get_or, drop, length-drop, length-append}
 use lib.Seq.{sets, drop-drop, get_or-drop}
 use Rattle.combinators.specs.Lent.{SameStores}
 use Rattle.combinators.specs.declared.lent.Stores.{Stores}
@@ -30,7 +30,7 @@ use Rattle.values.specs.Layout.{awaited, pushed, depth, step_to, deep, rows_of, 
 use Rattle.values.specs.declared.statements.Step as declared-step
 use Rattle.values.specs.declared.statements.Step.TheVariants.{Next, Before, Behind, Wrong}
 use Rattle.std.specs.Prelude.{Option, Some, None, Result, Ok, Err}
-use Rattle.combinators.proofs.Lists.{rest}
+use Rattle.combinators.proofs.Lists.{lent_from, rest}
 use Rattle.values.specs.declared.statements.Statement as declared
 use Rattle.values.specs.declared.statements.Unbalanced.{Unbalanced}
 use Rattle.values.proofs.Nesting.{Moves, no_text, unpushed, depth_le}
@@ -212,10 +212,7 @@ more-turns n taken (suc j) h g = (j, refl)
 
 module _ {s : List ℕ} {include : Bool} {rows₀ brackets₀ store₀ : List ℕ} {fill : ℕ} {rows brackets store : List ℕ} {taken count place d text : ℕ}
     (c : Running s include rows₀ brackets₀ store₀ fill rows brackets store taken count place d text) where
-  -- the text that is ahead, which is lent to the lexer, the brackets awaited, the rows
-  abbrev pub lent : List ℕ
-  lent = take (length s - taken) (drop taken s)
-
+  -- the text that is ahead, the brackets awaited, the rows
   abbrev ahead : List ℕ
   ahead = drop taken s
 
@@ -244,8 +241,8 @@ module _ {s : List ℕ} {include : Bool} {rows₀ brackets₀ store₀ : List �
   place-fits r = omega (arith, c.long, c.within, slack-two s taken, r.bits)
 
   -- no token; z is the store that the lexer left
-  pub ends-none : {z : List ℕ} → z ≡ sets store (fill + text) (token_text (token_of lent)) → (r : Option Lexed)
-      → r ≡ lexed_answer (skip_whitespace lent) (token_of lent) → r ≡ None → Ends (Ok (record { taken = taken; count = count; text = text })) rows brackets z
+  pub ends-none : {z : List ℕ} → z ≡ sets store (fill + text) (token_text (token_of (lent_from s taken))) → (r : Option Lexed)
+      → r ≡ lexed_answer (skip_whitespace (lent_from s taken)) (token_of (lent_from s taken)) → r ≡ None → Ends (Ok (record { taken = taken; count = count; text = text })) rows brackets z
   unfolding token_text
   ends-none {z} ez r er e =
       let x = reads_none (token_of ahead) _ (rw rest at (sym e ∙ er)) in
@@ -255,7 +252,7 @@ module _ {s : List ℕ} {include : Bool} {rows₀ brackets₀ store₀ : List �
       )
 
   -- ---- a token was read: what its turn leaves
-  module _ {a : Option Lexed} (ea : a ≡ lexed_answer (skip_whitespace lent) (token_of lent)) {w m : ℕ} {k : lexer.Token}
+  module _ {a : Option Lexed} (ea : a ≡ lexed_answer (skip_whitespace (lent_from s taken)) (token_of (lent_from s taken))) {w m : ℕ} {k : lexer.Token}
       (e : a ≡ Some (record { start = w; end = m; token = k })) where
     -- the token, its bounds, and the code's token
     read : Reads ahead w m k
@@ -330,7 +327,7 @@ module _ {s : List ℕ} {include : Bool} {rows₀ brackets₀ store₀ : List �
     brackets-are : (b : List ℕ) (r : declared-step.Step) → Moves include k brackets d b r → b ≡ pushed (bracket_of t) brackets d
     brackets-are b r v = (v t (sym read.same)).store
 
-    module _ {z : List ℕ} (ez : z ≡ sets store (fill + text) (token_text (token_of lent))) where
+    module _ {z : List ℕ} (ez : z ≡ sets store (fill + text) (token_text (token_of (lent_from s taken)))) where
       -- its text is in the store
       text-is : z ≡ sets store (fill + text) (text_of t)
       unfolding token_text

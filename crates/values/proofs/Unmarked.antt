@@ -14,16 +14,17 @@ use Rattle.combinators.proofs.Wiped.{sets-apart, wiped-over, wiped-add, take-set
 use Rattle.lexer.specs.Token.{Token, text_of}
 use Rattle.lexer.specs.TokenRow.{token_width}
 use Rattle.syntax.specs.Stream.{texts_many}
-use Rattle.values.specs.Value.{Placed, Bracket, opens, closes, ends, none, bracket_of, is_mark, is_important, without_mark, tokens_of}
+use Rattle.values.specs.Value.{Placed, Bracket, opens, closes, ends, none, bracket_of, is_mark, marked, tokens_of}
 use Rattle.values.specs.Layout.{pushed, depth, texts_of, brackets_after}
 use Rattle.values.specs.View.{tokens_at}
+use Rattle.values.proofs.Marks.{two_marked}
 use Rattle.values.proofs.Nesting.{depth_le}
 use Rattle.values.proofs.TokenViews.{tokens-here, tokens_none}
 
 -- ---- the tokens that are left
 -- how many they are
 abbrev unmarked_count : List Token → ℕ
-unmarked_count ks = pick (is_important ks) (length ks - 2) (length ks)
+unmarked_count ks = pick (marked ks).important (length ks - 2) (length ks)
 
 -- one token more before three and more
 unmarked-more : (t : Bool) (n : ℕ) → pick t (suc (suc (suc n)) - 2) (suc (suc (suc n))) ≡ suc (pick t (suc (suc n) - 2) (suc (suc n)))
@@ -32,23 +33,23 @@ unmarked-more true n = omega arith
 unmarked-more false n = refl
 
 -- of two tokens a mark leaves none, and what is no mark leaves both
-mark-take : (t : Bool) (a b : Token) → pick t [] (a ∷ b ∷ []) ≡ take (pick t 0 2) (a ∷ b ∷ [])
+mark-take : (t : Bool) (a b : Token) → (two_marked t a b).tokens ≡ take (pick (two_marked t a b).important 0 2) (a ∷ b ∷ [])
 unfolding pick
 mark-take true a b = refl
 mark-take false a b = refl
 
 -- they are the first of all
-pub unmarked-take : (ks : List Token) → without_mark ks ≡ take (unmarked_count ks) ks
-unfolding without_mark is_important pick
+pub unmarked-take : (ks : List Token) → (marked ks).tokens ≡ take (unmarked_count ks) ks
+unfolding marked pick
 unmarked-take [] = refl
 unmarked-take (a ∷ []) = refl
 unmarked-take (a ∷ b ∷ []) = mark-take (is_mark a b) a b
 unmarked-take (a ∷ b ∷ c ∷ ks) =
-    rw (unmarked-more (is_important (b ∷ c ∷ ks)) (length ks)) (ap {B = List Token} (λ r. a ∷ r) (unmarked-take (b ∷ c ∷ ks)))
+    rw (unmarked-more (marked (b ∷ c ∷ ks)).important (length ks)) (ap {B = List Token} (λ r. a ∷ r) (unmarked-take (b ∷ c ∷ ks)))
 
 -- without its mark a value has no more tokens
 unmarked-le : (ks : List Token) → unmarked_count ks ≤ length ks
-unmarked-le ks = pick-holds (λ m. m ≤ length ks) (is_important ks) _ _ (λ _. omega arith) (λ _. omega arith)
+unmarked-le ks = pick-holds (λ m. m ≤ length ks) (marked ks).important _ _ (λ _. omega arith) (λ _. omega arith)
 
 -- the first tokens of rows
 module _ (rows store : List ℕ) where
@@ -59,7 +60,7 @@ module _ (rows store : List ℕ) where
   tokens-take (suc m) (suc n) p h = rw (tokens-here rows store p m, tokens-here rows store p n, tokens-take m n (p + token_width) (omega arith))
 
   -- the tokens that are read by the count without the mark are the tokens without it
-  pub tokens-unmarked : (n : ℕ) (ks : List Token) → tokens_at rows store n ≡ ks → n ≡ length ks → (m : ℕ) → m ≡ pick (is_important ks) (n - 2) n → tokens_at rows store m ≡ without_mark ks
+  pub tokens-unmarked : (n : ℕ) (ks : List Token) → tokens_at rows store n ≡ ks → n ≡ length ks → (m : ℕ) → m ≡ pick (marked ks).important (n - 2) n → tokens_at rows store m ≡ (marked ks).tokens
   tokens-unmarked n ks e en m em =
       let h : m ≡ unmarked_count ks = em ∙ rw en in
       let l = unmarked-le ks in
@@ -78,20 +79,20 @@ pub record Begins (xs ys : List ℕ) : Type 0 where
   pub whole : xs ≡ ys ++ more
 
 -- the texts of a value begin with those of the tokens that are left
-begins-mark : (t : Bool) (a b : Token) → Begins (texts_many text_of (a ∷ b ∷ [])) (texts_many text_of (pick t [] (a ∷ b ∷ [])))
+begins-mark : (t : Bool) (a b : Token) → Begins (texts_many text_of (a ∷ b ∷ [])) (texts_many text_of (two_marked t a b).tokens)
 unfolding texts_many pick
 begins-mark true a b = record { more = texts_many text_of (a ∷ b ∷ []); whole = refl }
 begins-mark false a b = record { more = []; whole = sym (append-nil _) }
 
 -- the texts of a value begin with those of its tokens without the mark
-pub texts-begin : (ks : List Token) → Begins (texts_many text_of ks) (texts_many text_of (without_mark ks))
-unfolding without_mark texts_many
+pub texts-begin : (ks : List Token) → Begins (texts_many text_of ks) (texts_many text_of (marked ks).tokens)
+unfolding marked texts_many
 texts-begin [] = record { more = []; whole = refl }
 texts-begin (a ∷ []) = record { more = []; whole = sym (append-nil _) }
 texts-begin (a ∷ b ∷ []) = begins-mark (is_mark a b) a b
 texts-begin (a ∷ b ∷ c ∷ ks) =
     let h = texts-begin (b ∷ c ∷ ks) in
-    record { more = h.more; whole = ap (λ r. text_of a ++ r) h.whole ∙ sym (append_assoc (text_of a) (texts_many text_of (without_mark (b ∷ c ∷ ks))) h.more) }
+    record { more = h.more; whole = ap (λ r. text_of a ++ r) h.whole ∙ sym (append_assoc (text_of a) (texts_many text_of (marked (b ∷ c ∷ ks)).tokens) h.more) }
 
 -- ---- stores
 -- zeros over a name of n bytes and what was stored behind it

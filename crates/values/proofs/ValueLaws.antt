@@ -7,7 +7,7 @@ use native.Mathlib.Omega.{arith}
 use lib.ListN.{length}
 use lib.Seq.{length-sets}
 use Rattle.combinators.specs.Choice.{pick}
-use Rattle.values.specs.Value.{Statement, statement_of, tokens_of, is_important}
+use Rattle.values.specs.Value.{Statement, statement_of, tokens_of, marked}
 use Rattle.values.specs.Layout.{rows_of, texts_of, Left, left, statement_answer, value_answer, value_left, Room}
 use Rattle.lexer.specs.TokenRow.{token_width}
 use Rattle.values.specs.View.{tokens_at}
@@ -49,7 +49,7 @@ broken r n = go r.balanced refl
     go false b e = unfold pick in let q : n ≡ record { 0 = record { taken = r.taken; count = length r.tokens; text = length (texts_of r.tokens) } } = cc in record { balanced = b; taken = ap (λ (m : Unbalanced). m.0.taken) q; count = ap (λ (m : Unbalanced). m.0.count) q; text = ap (λ (m : Unbalanced). m.0.text) q }
 
 -- the answer of a value
-value-whole : (r : Statement) (n : declared.Statement) → Whole r n → (i : Bool) → i ≡ is_important (tokens_of r.tokens)
+value-whole : (r : Statement) (n : declared.Statement) → Whole r n → (i : Bool) → i ≡ (marked (tokens_of r.tokens)).important
     → Ok (record { statement = n; important = i }) ≡ value_answer r
 unfolding value_answer pick
 value-whole r n h i e = rw (h.balanced, e, ← h.taken, ← h.count, ← h.text)
@@ -119,9 +119,9 @@ module _ (include : Bool) (s rows brackets store : List ℕ) (fill : ℕ) (room 
           (statement-back include s rows brackets store fill rows-room texts-room texts-bits)
 
       -- the return where the brackets are right: a value, with the mark that its last tokens say
-      pub value-left : {i : Bool} → i ≡ is_important (tokens_at x z n.count)
+      pub value-left : {i : Bool} → i ≡ (marked (tokens_at x z n.count)).important
           → record { answer = Ok (record { statement = n; important = i }); rows = x; brackets = b; store = z } ≡ value_left r rows brackets store fill
-      value-left {i} ei = left_as _ (value-whole r n numbers i (ei ∙ ap is_important back))
+      value-left {i} ei = left_as _ (value-whole r n numbers i (ei ∙ ap (λ ks. (marked ks).important) back))
 
     -- the return where a bracket was wrong: no value
     pub no-value-left : {n : Unbalanced} → a ≡ Err n → record { answer = Err n; rows = x; brackets = b; store = z } ≡ value_left r rows brackets store fill

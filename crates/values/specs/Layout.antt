@@ -7,7 +7,7 @@ use Rattle.combinators.specs.declared.lent.Stores.{Stores}
 use Rattle.lexer.specs.Token.{function, number, close_round, coded, text_of}
 use Rattle.lexer.specs.TokenRow.{token_width, function_kind, number_kind, close_round_kind, columns_of, word, row_of, token_row}
 use Rattle.syntax.specs.Stream.{rows_many, texts_many}
-use Rattle.values.specs.Value.{Placed, Bracket, opens, closes, ends, none, bracket_of, Step, next, before, behind, wrong, step_of, Statement, tokens_of, is_important}
+use Rattle.values.specs.Value.{Placed, Bracket, opens, closes, ends, none, bracket_of, Step, next, before, behind, wrong, step_of, Statement, tokens_of, marked}
 use Rattle.values.specs.declared.statements.Bracket as declared-bracket
 use Rattle.values.specs.declared.statements.Bracket.TheVariants.{Opens, Closes, Ends, NoBracket}
 use Rattle.values.specs.declared.statements.Step as declared-step
@@ -120,7 +120,7 @@ left r rows brackets store fill =
 unfoldable pub value_answer : Statement → Result declared-value.Value Unbalanced
 value_answer r =
     pick r.balanced
-    (Ok (record { statement = record { taken = r.taken; count = length r.tokens; text = length (texts_of r.tokens) }; important = is_important (tokens_of r.tokens) }))
+    (Ok (record { statement = record { taken = r.taken; count = length r.tokens; text = length (texts_of r.tokens) }; important = (marked (tokens_of r.tokens)).important }))
     (Err (record { 0 = record { taken = r.taken; count = length r.tokens; text = length (texts_of r.tokens) } }))
 
 -- how many tokens a value has without the two of its mark

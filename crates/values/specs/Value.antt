@@ -102,25 +102,18 @@ tokens_of (t ∷ ts) = t.token ∷ tokens_of ts
 unfoldable pub is_mark : Token → Token → Bool
 is_mark a b = and (is_delim exclamation_mark a) (is_word (text "important") b)
 
-unfoldable pub is_important : List Token → Bool
-is_important (a ∷ b ∷ []) = is_mark a b
-is_important (a ∷ b ∷ c ∷ ts) = is_important (b ∷ c ∷ ts)
-is_important _ = false
-
-unfoldable pub without_mark : List Token → List Token
-without_mark (a ∷ b ∷ []) = pick (is_mark a b) [] (a ∷ b ∷ [])
-without_mark (a ∷ b ∷ c ∷ ts) = a ∷ without_mark (b ∷ c ∷ ts)
-without_mark ts = ts
-
 pub record Value : Type 0 where
   pub tokens : List Token
   pub important : Bool
 
+-- the tokens without the mark at their end, and whether it stood there
+unfoldable pub marked : List Token → Value
+marked (a ∷ b ∷ []) = pick (is_mark a b) (record { tokens = []; important = true }) (record { tokens = a ∷ b ∷ []; important = false })
+marked (a ∷ b ∷ c ∷ ts) = let r = marked (b ∷ c ∷ ts) in record { tokens = a ∷ r.tokens; important = r.important }
+marked ts = record { tokens = ts; important = false }
+
 unfoldable pub value_from : Statement → Parsed Value
-value_from r =
-    pick r.balanced
-    (ok r.taken (record { tokens = without_mark (tokens_of r.tokens); important = is_important (tokens_of r.tokens) }))
-    err
+value_from r = pick r.balanced (ok r.taken (marked (tokens_of r.tokens))) err
 
 unfoldable pub value_of : List ℕ → Parsed Value
 value_of s = value_from (statement_of false s)

@@ -2,7 +2,7 @@
 // So does the depth, how many brackets are awaited: they are a stack at the start of a lent store, and the next one is written behind them.
 ghost use Rattle.std.specs.Prelude.{◌≡◌, false, ◌-◌, ◌*◌, ◌^◌, ◌≤◌, ◌<◌, length};
 ghost use Rattle.combinators.specs.Lent.{SameStores};
-ghost use Rattle.values.specs.Value.{is_important, bracket_of, closing, statement_of};
+ghost use Rattle.values.specs.Value.{marked, bracket_of, closing, statement_of};
 ghost use Rattle.lexer.specs.Token as lexer;
 ghost use Rattle.lexer.specs.Token.{coded, length_by};
 ghost use Rattle.lexer.specs.TokenRow.{token_width};
@@ -195,7 +195,7 @@ pub fn parse_to_end_of_statement(
 
 // Whether the last two tokens are the mark `!important`.
 fn is_important(tokens: Tokens) -> bool
-    ensures { result ≡ is_important (value_tokens tokens.entry) }
+    ensures { result ≡ (marked (value_tokens tokens.entry)).important }
 {
     let count = tokens.count();
     count >= MARK_TOKENS

@@ -5,7 +5,7 @@ use Rattle.combinators.proofs.Repeating.{repeat-more, repeat-stop, repeat-end, l
 use Rattle.characters.specs.Trim.{word_taken}
 use Rattle.characters.proofs.Scalars.{scalar-some}
 use Rattle.characters.proofs.Trimming as laws
-use Rattle.characters.proofs.Trimming.{length-rest}
+use Rattle.combinators.proofs.Lists.{length-rest}
 use Rattle.characters.proofs.trim.word_end.Goals as goal
 
 pub overflow_add-i : goal.overflow_add-i

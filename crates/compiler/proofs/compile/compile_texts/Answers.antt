@@ -5,11 +5,12 @@ use native.Mathlib.Omega.{arith}
 use borrow.Author.Rules.{rules}
 use Rattle.std.proofs.lemmas.Result.{err_from_is_err_and}
 use Rattle.combinators.proofs.Cleared.{all_cleared}
+use Rattle.origins.proofs.SheetsKnown.{room-cleared}
 use Rattle.compiler.proofs.CompileTurns as laws
 use Rattle.compiler.proofs.compile.compile_texts.Goals as goal
 
 pub read_sheets-requires : goal.read_sheets-requires
-read_sheets-requires c = laws.room c.requires c.args.compiled.now (all_cleared _ _ (c.fill.ensures.after (search rules))) c.clear.ensures.texts_after c.clear.ensures.rules_after c.clear.ensures.tokens_after c.clear.ensures.brackets_after (omega arith)
+read_sheets-requires c = room-cleared c.requires c.clear.ensures.texts_after c.clear.ensures.rules_after c.clear.ensures.tokens_after c.clear.ensures.brackets_after (omega arith)
 
 pub returns-in_err-read-clause-buffers_after : goal.returns-in_err-read-clause-buffers_after
 returns-in_err-read-clause-buffers_after c = let p = err_from_is_err_and c.from_residual.result c.from_residual.ensures.1 in rw (p.1, p.2) (laws.panics c.requires c.args.compiled.now (all_cleared _ _ (c.fill.ensures.after (search rules))) c.clear.ensures.texts_after c.clear.ensures.rules_after c.clear.ensures.tokens_after c.clear.ensures.brackets_after c.read_sheets.ensures.value c.read_sheets.ensures.rules_after c.read_sheets.ensures.work_unchanged.tokens c.read_sheets.ensures.work_unchanged.brackets c.read_sheets.ensures.texts_after c.in_err-read.was)

@@ -2,6 +2,7 @@
 use mathlib.Core.Path.{refl}
 use native.Mathlib.Omega.{arith}
 use Rattle.combinators.proofs.LentLaws.{same-none, same-then}
+use Rattle.declarations.proofs.LeastLengths.{semicolon-there}
 use Rattle.declarations.proofs.RuleTurns as laws
 use Rattle.declarations.proofs.rules.more_rules.Goals as goal
 
@@ -9,10 +10,10 @@ pub loop-w-init : goal.loop-w-init
 loop-w-init c = record { same = same-none; reading = laws.begin _ _ _ _ _ _ _ _ _ _ c.requires }
 
 pub overflow_add-taken : goal.overflow_add-taken
-overflow_add-taken c = omega (arith, laws.semicolon-there c.loop-w.invariant.reading c.requires c.byte_is.ensures c.loop-w-test.true)
+overflow_add-taken c = omega (arith, semicolon-there c.args.s.now c.loop-w.taken c.byte_is.ensures c.loop-w-test.true)
 
 pub skip_from-w-requires : goal.skip_from-w-requires
-skip_from-w-requires c = omega (arith, laws.semicolon-there c.loop-w.invariant.reading c.requires c.byte_is.ensures c.loop-w-test.true)
+skip_from-w-requires c = omega (arith, semicolon-there c.args.s.now c.loop-w.taken c.byte_is.ensures c.loop-w-test.true)
 
 pub overflow_mul-row : goal.overflow_mul-row
 overflow_mul-row c = omega (arith, laws.rows_fit c.loop-w.invariant.reading c.requires c.byte_is.ensures c.loop-w-test.true)
