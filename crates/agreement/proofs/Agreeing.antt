@@ -1,5 +1,5 @@
--- Demand 3 over the calls: where sheets compile, their bytes are run down a page with all that a run needs, and the style call styles some row of that page, the run
--- agrees with every style call.
+-- Demand 3 over the calls: where sheets compile, and their bytes are run down an accepted page with all that a run needs, the run agrees with every style call; and a
+-- page of which the style call styles some row is accepted.
 use Prim.Native.Nat.{ℕ, suc, ◌<◌}
 use mathlib.Core.Path.{◌≡◌, refl, ap, ap₂, sym, subst, ◌∙◌}
 use mathlib.Core.List.{List, ◌++◌}
@@ -14,7 +14,6 @@ use Rattle.cascade.specs.Record.{Formed}
 use Rattle.cascade.specs.Related.{Each, none, next, SameStyle}
 use Rattle.cascade.specs.Row.{row_of, style_at}
 use Rattle.cascade.proofs.RowBack.{row_back, style-back, view-formed}
-use Rattle.page.specs.Accepted.{page_refusal}
 use Rattle.page.specs.Path.{Path}
 use Rattle.page.specs.PathOf.{path_of}
 use Rattle.page.specs.Rows.{node_count, node_at, element_kind}
@@ -31,12 +30,12 @@ use Rattle.styling.proofs.Claiming.{padded-long}
 use Rattle.runner.specs.PageRows.{style_row_at, page_contents, page_row, page_rows}
 use Rattle.runner.proofs.PageRowLaws.{row-there}
 use Rattle.running.specs.RunAnswer.{RunLeft, ran}
-use Rattle.agreement.specs.Calls.{CompileBuffers, RunBuffers, StyleBuffers, compile_with, run_with, style_with, code_of, texts_of, StyleLent, SameLengths}
+use Rattle.agreement.specs.Calls.{CompileBuffers, RunBuffers, StyleBuffers, compile_with, run_with, style_with, code_of, texts_of, AcceptedPage, StyleLent, SameLengths}
 use Rattle.agreement.specs.ComputedRows.{RowComputed, ComputedRows}
 use Rattle.agreement.specs.Demand.{AllRows, Agreement, Demand3}
 use Rattle.agreement.specs.SameRow.{SameRow}
 use Rattle.agreement.proofs.CompileTells.{padded-front, Compiled, compile-tells, bytes-taken}
-use Rattle.agreement.proofs.Demand.{demand-3}
+use Rattle.agreement.proofs.Demand.{every-row}
 use Rattle.agreement.proofs.OwnSlots.{computed-own}
 use Rattle.agreement.proofs.RunTells.{RunTakes, run-leaves, not_short, never-refused, runs-free}
 use Rattle.agreement.proofs.SameRows.{rows_same}
@@ -81,7 +80,7 @@ module _ (s : SheetTexts) (g : Page) (settings : Settings) (code : List ℕ) (c 
   all-rows =
       let l = none-long (length s.agent) (length s.user) (length s.author) c.short in
       let m = c.sheets in
-      rw c.bytes (demand-3 s.agent s.user s.author m.agent m.user m.author c.read l.0 l.1 l.2 g t.page settings)
+      rw c.bytes (every-row s.agent s.user s.author m.agent m.user m.author c.read l.0 l.1 l.2 g t.page settings)
 
   abbrev leaves : RunLeft
   leaves = ran b.rows b.texts b.state b.rules b.tokens b.brackets code settings g
@@ -142,23 +141,24 @@ module _ (s : SheetTexts) (g : Page) (settings : Settings) (code : List ℕ) (c 
         contents = texts-there;
       }
 
--- where compiling and a style call refuse nothing and the run is lent enough, the run agrees with every style call of the page
+-- where compiling refuses nothing, the page is accepted and the run is lent enough, the run agrees with every style call of the page; and where a style call refuses
+-- nothing the page is accepted
 pub demand3 : Demand3
 demand3 =
     record {
-      agrees = λ s g settings b w j v e n f.
+      agrees = λ s g settings b w e page n.
           let code = code_of (compile_with s b) in
           let c : Compiled s code = compile-tells s b e in
-          let a = style-tells settings s g j v f in
-          let t : RunTakes code g w = record { few = c.few; suffices = not_short code settings g w c.few n; page = a.page; bytes = bytes-taken s code c } in
+          let t : RunTakes code g w = record { few = c.few; suffices = not_short code settings g w c.few n; page = page; bytes = bytes-taken s code c } in
           subst (Agreement settings s g code) (sym (run-leaves code settings g w t)) (leaves-agree s g settings code c w t);
+      accepts = λ s g settings j v f. (style-tells settings s g j v f).page;
     }
 
 -- ---- beside it: what else holds of sheets that compile, and of runs
 -- three sheets that were compiled without a refusal
 module _ (s : SheetTexts) (b : CompileBuffers) (compiles : (compile_with s b).answer.refusal ≡ no_refusal) where
   -- every element of an accepted page is styled, by every style call that is lent enough: so the rows that `agrees` speaks of are those of all elements
-  pub elements-styled : (settings : Settings) (g : Page) → page_refusal g.nodes g.attributes g.text ≡ no_refusal
+  pub elements-styled : (settings : Settings) (g : Page) → AcceptedPage g
       → (i : ℕ) → i < node_count g.nodes → (node_at g.nodes i).kind ≡ element_kind → (v : StyleBuffers) → StyleLent s g v → (style_with settings s g i v).answer.refusal ≡ no_refusal
   elements-styled settings g page i there element v l =
       element-styled settings s g i v (code_of (compile_with s b)) (compile-tells s b compiles) (record { page = page; there = there; element = element }) l

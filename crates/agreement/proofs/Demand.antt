@@ -37,8 +37,8 @@ module _ (agent user author : List ℕ) (a u w : List RuleSet) (read : sheets_of
   sheets = record { agent = a; user = u; author = w }
 
   -- the bytes of the sheets: every row of the page is right
-  pub demand-3 : AllRows sheets settings g (encode (selectors_of a u w))
-  demand-3 =
+  pub every-row : AllRows sheets settings g (encode (selectors_of a u w))
+  every-row =
       let k = sheets-known agent user author a u w read in
       let fits = sheets-fit agent user author k.agent-read k.user-read k.author-read agent-within user-within author-within in
       rows-computed sheets fits settings g (accepted g.nodes g.attributes g.text ok)

@@ -81,6 +81,6 @@ calls-agree s g settings b w row v {c} {r} {l} e f h =
     (subst (λ (x : StyleLeft). Agreed (compile_with s b) (run_with (code_of (compile_with s b)) settings g w) x row) (sym h)
     (record {
       agree = λ compiles lent styles.
-          let a = demand3.agrees s g settings b w row v compiles lent styles in
+          let a = demand3.agrees s g settings b w compiles (demand3.accepts s g settings row v styles) lent in
           record { answered = a.answered; same_row = a.styled-rows row v styles };
     })))

@@ -1,11 +1,13 @@
 -- The three calls that demand 3 is about, each with all that it is lent: what they answer and leave is what their contracts say.
 use Rattle.std.specs.Prelude.{ℕ, ◌≤◌, ◌≡◌, List, length, take}
 use Rattle.combinators.specs.LeastLengths.{Least}
+use Rattle.combinators.specs.Refusal.{no_refusal}
 use Rattle.cascade.specs.declared.slots.Cascade.TheVariants.{Crate}
 use Rattle.cascade.specs.Row.{style_row_width}
 use Rattle.compiler.specs.CompileAnswer.{CompileLeft, compile_of}
 use Rattle.combinators.specs.declared.lent.Stores.{Stores}
 use Rattle.styles.specs.declared.settings.Settings.{Settings}
+use Rattle.page.specs.Accepted.{page_refusal}
 use Rattle.page.specs.Lent.{Page}
 use Rattle.styles.specs.Lent.{SheetTexts}
 use Rattle.styling.specs.StyleAnswer.{StyleLeft, call_bytes, style_of}
@@ -61,6 +63,10 @@ code_of c = take c.answer.bytes c.compiled
 
 abbrev pub texts_of : RunLeft → List ℕ
 texts_of r = take r.answer.texts r.texts
+
+-- ---- a page that is accepted
+abbrev pub AcceptedPage : Page → Type 0
+AcceptedPage g = page_refusal g.nodes g.attributes g.text ≡ no_refusal
 
 -- ---- a style call is lent enough: a style row, and stores of the least lengths
 pub record StyleLent (s : SheetTexts) (g : Page) (v : StyleBuffers) : Type 0 where

@@ -18,7 +18,7 @@ use Rattle.runner.specs.PageRows.{no_style, style_row_at, page_contents, page_ro
 use Rattle.combinators.specs.Refusal.{no_refusal, short_store}
 use Rattle.running.specs.RunAnswer.{RunLeft}
 use Rattle.styling.specs.Claim.{row_left, texts_left}
-use Rattle.agreement.specs.Calls.{CompileBuffers, RunBuffers, StyleBuffers, compile_with, run_with, style_with, code_of, texts_of}
+use Rattle.agreement.specs.Calls.{CompileBuffers, RunBuffers, StyleBuffers, compile_with, run_with, style_with, code_of, texts_of, AcceptedPage}
 use Rattle.agreement.specs.ComputedRows.{RowComputed, ComputedRows}
 use Rattle.agreement.specs.SameRow.{SameRow}
 
@@ -52,13 +52,18 @@ pub record Agreement (settings : Settings) (s : SheetTexts) (g : Page) (code : L
   pub within : r.answer.texts ≤ length r.texts
   pub contents : texts_of r ≡ page_contents settings g
 
--- sheets that compile, a run of their bytes that is not lent too little, and a page of which the style call styles some row: then the run agrees with every style call.
 -- "In demand 3 sheets and page are accepted where the compiler and the style call refuse nothing and the run does not return 2; the run then refuses nothing, so never 9."
 -- "Demand 3 is a single claim about all steps of a run, on every page, and not one for each step."
 -- "As soon as compiler, run and style call can be called, the whole of demand 3 is owed of them."
 pub record Demand3 : Type 0 where
-  pub agrees : (s : SheetTexts) (g : Page) (settings : Settings) (b : CompileBuffers) (w : RunBuffers) (j : ℕ) (v : StyleBuffers)
+  -- sheets that compile, an accepted page, also one without elements, and a run of their bytes down it that does not return 2: the run refuses nothing, its rows are
+  -- those computed from the sheets' texts, and each is that of every style call that styles it
+  pub agrees : (s : SheetTexts) (g : Page) (settings : Settings) (b : CompileBuffers) (w : RunBuffers)
       → (compile_with s b).answer.refusal ≡ no_refusal
+      → AcceptedPage g
       → ¬ ((run_with (code_of (compile_with s b)) settings g w).answer.refusal.number ≡ short_store)
-      → (style_with settings s g j v).answer.refusal ≡ no_refusal
       → Agreement settings s g (code_of (compile_with s b)) (run_with (code_of (compile_with s b)) settings g w)
+  -- a page is accepted where the style call refuses nothing at some row of it, whatever its sheets, settings and buffers are: so `agrees` holds where the scope asks for it
+  pub accepts : (s : SheetTexts) (g : Page) (settings : Settings) (j : ℕ) (v : StyleBuffers)
+      → (style_with settings s g j v).answer.refusal ≡ no_refusal
+      → AcceptedPage g
