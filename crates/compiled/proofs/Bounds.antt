@@ -18,9 +18,9 @@ use Rattle.compiled.specs.Decoded.{Decoded, read, fault, and_then, mapped, count
 use Rattle.compiled.specs.Number.{group_values, most_groups, number_limit, limited, groups_at, number_at, ranged_at}
 use Rattle.compiled.specs.Text.{span_at}
 use Rattle.compiled.specs.declared.texts.Span.{Span}
-use Rattle.compiled.specs.Component.{is_mark, name_at, second_number_at, numbers_at, second_name_at, names_at, body_at, written_at, component_at, component_in}
-use Rattle.compiled.specs.Style.{greatest_colour, content_at, number_up_to, value_at, valued_at, slot_at, started_at, style_numbers_at, style_at}
-use Rattle.compiled.specs.Sheet.{CompiledSelector, count_at, pseudo_at, head_at, styles_at, selector_at, selectors_at, whole_at, decode, decode_by}
+use Rattle.compiled.specs.Component.{is_mark, name_at, numbers_at, names_at, body_at, written_at, component_at, component_in}
+use Rattle.compiled.specs.Style.{greatest_colour, content_at, number_up_to, value_at, style_numbers_at, style_at}
+use Rattle.compiled.specs.Sheet.{CompiledSelector, head_at, styles_at, selector_at, selectors_at, whole_at, decode, decode_by}
 
 -- what was read from i on takes at least `least` bytes and ends within the `len` bytes that there are; a fault lies within them or at their end
 unfoldable pub Reaches : {A : Type 0} → ℕ → ℕ → ℕ → Decoded A → Type 0
@@ -125,7 +125,7 @@ module _ (t : List ℕ) where
   -- ---- components
   -- what stands behind a component's kind ends within the bytes
   body-reaches : (kind n : ℕ) → n ≤ length t → Reaches 0 (length t) n (body_at t kind n)
-  unfolding body_at name_at second_number_at numbers_at second_name_at names_at
+  unfolding body_at name_at numbers_at names_at
   body-reaches kind n l =
       pick-holds (Reaches 0 (length t) n) (is_mark kind) _ _ (λ _. reaches-read (length t) n 0 n _ (omega arith) l)
       (λ _. pick-holds (Reaches 0 (length t) n) (is kind nth_kind) _ _
@@ -166,7 +166,7 @@ module _ (t : List ℕ) where
 
   -- what the bytes of a style say
   pub style-numbers-reach : (i : ℕ) → Reaches 1 (length t) i (style_numbers_at t i)
-  unfolding style_numbers_at started_at slot_at valued_at
+  unfolding style_numbers_at
   style-numbers-reach i =
       reaches_then (length t) (ranged_at t i 0 1) _ 1 0 i (ranged-reaches i 0 1)
       (λ n important _. weaker 1 n _ (reaches_then (length t) (number_at t n) _ 1 0 n (number-reaches n)
@@ -181,7 +181,7 @@ module _ (t : List ℕ) where
   -- ---- selectors
   -- the numbers before the components
   pub head-reaches : (least i : ℕ) → Reaches 3 (length t) i (head_at t least i)
-  unfolding head_at pseudo_at count_at
+  unfolding head_at
   head-reaches least i =
       reaches_then (length t) (ranged_at t i least author_origin) _ 1 2 i (ranged-reaches i least author_origin)
       (λ n origin _. reaches_then (length t) (ranged_at t n (pseudo_number none) (pseudo_number after)) _ 1 1 n (ranged-reaches n (pseudo_number none) (pseudo_number after))

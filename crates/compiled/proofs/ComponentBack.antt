@@ -15,7 +15,7 @@ use Rattle.syntax.proofs.Streams.{Held, held-left, held-right}
 use Rattle.compiled.specs.Decoded.{read, and_then, mapped}
 use Rattle.compiled.specs.Number.{number_limit, number_bytes, number_at, ranged_at}
 use Rattle.compiled.specs.Text.{text_bytes, span_at}
-use Rattle.compiled.specs.Component.{component_body, component_bytes, is_mark, name_at, second_number_at, numbers_at, second_name_at, names_at, body_at, written_at, mark_of, named_of, component_in, component_at}
+use Rattle.compiled.specs.Component.{component_body, component_bytes, is_mark, name_at, numbers_at, names_at, body_at, written_at, mark_of, named_of, component_in, component_at}
 use Rattle.compiled.specs.declared.components.Written.TheVariants.{Name, Numbers, Names}
 use Rattle.compiled.proofs.Fits.{TextFits, ComponentFits}
 use Rattle.compiled.proofs.Following.{then-read, mapped-read, ends_at}
@@ -74,7 +74,7 @@ module _ (t : List ℕ) where
   -- what stands behind the kind is read back
   body_back : (c : Component) (n : ℕ) → ComponentFits c → Held t n (component_body c)
       → mapped (component_in t) (body_at t (component_kind c) n) ≡ read (n + length (component_body c)) c
-  unfolding body_at name_at second_number_at numbers_at second_name_at names_at is_mark component_kind component_body pick or is mapped component_in mark_of named_of
+  unfolding body_at name_at numbers_at names_at is_mark component_kind component_body pick or is mapped component_in mark_of named_of
   body_back star n f h = ends_at star _ _ (sym (add-zero n))
   body_back (class x) n f h = one-text _ x n f h
   body_back (element x) n f h = one-text _ x n f h

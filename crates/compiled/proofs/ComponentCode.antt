@@ -11,7 +11,7 @@ use Rattle.syntax.specs.RuleLayout.{star_kind, nth_kind, attribute_equal_kind}
 use Rattle.compiled.specs.Decoded.{Decoded, read, fault}
 use Rattle.compiled.specs.Number.{number_at, ranged_at}
 use Rattle.compiled.specs.Text.{span_at}
-use Rattle.compiled.specs.Component.{is_mark, name_at, second_number_at, numbers_at, second_name_at, names_at, body_at, written_at, component_in, component_at}
+use Rattle.compiled.specs.Component.{is_mark, name_at, numbers_at, names_at, body_at, written_at, component_in, component_at}
 use Rattle.compiled.specs.Answer.{read_answer, place_answer, Inside, component_within}
 use Rattle.compiled.specs.declared.places.Fault.{Fault}
 use Rattle.compiled.specs.declared.places.Read.{Read}
@@ -25,7 +25,7 @@ use Rattle.compiled.proofs.Bounds.{Reaches, written-reaches, Holds, holds-value,
 module _ (s : List ℕ) where
   -- the texts behind a component's kind lie within the bytes
   body-inside : (kind n : ℕ) → Holds (λ m w. Inside (length s) w) (body_at s kind n)
-  unfolding body_at name_at second_number_at numbers_at second_name_at names_at
+  unfolding body_at name_at numbers_at names_at
   body-inside kind n =
       pick-holds (Holds (λ m w. Inside (length s) w)) (is_mark kind) _ _ (λ _. holds-value (λ m w. Inside (length s) w) n _ tt)
       (λ _. pick-holds (Holds (λ m w. Inside (length s) w)) (is kind nth_kind) _ _
@@ -110,11 +110,11 @@ module _ (s : List ℕ) (at : ℕ) where
     module _ (x : Read Span) (p : r ≡ Ok x) (q : Result (Read Span) Fault) (h : q ≡ read_answer (span_at s x.next)) where
       -- both texts are there
       pub names-read : (y : Read Span) → q ≡ Ok y → got y.next (Names x.value y.value) ≡ read_answer (names_at s at)
-      unfolding names_at second_name_at
+      unfolding names_at
       names-read y k = then_answer (span_at s at) _ r e x p _ (mapped_answer (λ z. Names x.value z) (span_at s x.next) q h y k)
 
       pub second-name-fault : (f : Fault) → q ≡ Err f → Err f ≡ read_answer (names_at s at)
-      unfolding names_at second_name_at
+      unfolding names_at
       second-name-fault f k = then_answer (span_at s at) _ r e x p _ (mapped-answer (λ z. Names x.value z) (span_at s x.next) q h f k)
 
   module _ (r : Result (Read ℕ) Fault) (e : r ≡ read_answer (number_at s at)) where
@@ -126,11 +126,11 @@ module _ (s : List ℕ) (at : ℕ) where
     module _ (x : Read ℕ) (p : r ≡ Ok x) (q : Result (Read ℕ) Fault) (h : q ≡ read_answer (number_at s x.next)) where
       -- both numbers are there
       pub numbers-read : (y : Read ℕ) → q ≡ Ok y → got y.next (Numbers x.value y.value) ≡ read_answer (numbers_at s at)
-      unfolding numbers_at second_number_at
+      unfolding numbers_at
       numbers-read y k = then_answer (number_at s at) _ r e x p _ (mapped_answer (λ z. Numbers x.value z) (number_at s x.next) q h y k)
 
       pub second-number-fault : (f : Fault) → q ≡ Err f → Err f ≡ read_answer (numbers_at s at)
-      unfolding numbers_at second_number_at
+      unfolding numbers_at
       second-number-fault f k = then_answer (number_at s at) _ r e x p _ (mapped-answer (λ z. Numbers x.value z) (number_at s x.next) q h f k)
 
 -- ---- `skip_component`

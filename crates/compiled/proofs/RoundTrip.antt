@@ -16,7 +16,7 @@ use Rattle.compiled.specs.Decoded.{read, counted}
 use Rattle.compiled.specs.Number.{number_limit, number_bytes, number_at, ranged_at}
 use Rattle.compiled.specs.Component.{component_bytes, component_at}
 use Rattle.compiled.specs.Style.{style_bytes, style_at}
-use Rattle.compiled.specs.Sheet.{CompiledSelector, head_bytes, styles_bytes, selector_bytes, encode, count_at, pseudo_at, head_at, styles_at, selector_at, selectors_at, decode}
+use Rattle.compiled.specs.Sheet.{CompiledSelector, head_bytes, styles_bytes, selector_bytes, encode, head_at, styles_at, selector_at, selectors_at, decode}
 use Rattle.compiled.proofs.Fits.{ComponentFits, StyleFits, SelectorFits, NotFalling, SheetFits}
 use Rattle.compiled.proofs.Following.{then-read, mapped-read, ends_at, counted_back, selector-made, sheet-made}
 use Rattle.compiled.proofs.NumberBack.{number-back, ranged-back}
@@ -59,7 +59,7 @@ module _ (t : List ℕ) where
   pub head-back : (origin : ℕ) (p : PseudoElement) (count least i : ℕ) → least ≤ origin → origin ≤ author_origin → count < number_limit
       → Held t i (head_bytes origin (pseudo_number p) count)
       → head_at t least i ≡ read (i + length (head_bytes origin (pseudo_number p) count)) (record { origin = origin; pseudo = pseudo_number p; count = count })
-  unfolding head_at pseudo_at count_at head_bytes
+  unfolding head_at head_bytes
   head-back origin p count least i lo hi l h =
       let a : List ℕ = number_bytes origin in
       let b : List ℕ = number_bytes (pseudo_number p) in

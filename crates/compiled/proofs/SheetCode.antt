@@ -18,7 +18,7 @@ use Rattle.compiled.specs.Decoded.{Decoded, read, fault, on_decoded, mapped, cou
 use Rattle.compiled.specs.Number.{group_values, number_at, ranged_at}
 use Rattle.compiled.specs.Component.{component_at}
 use Rattle.std.proofs.Common.{Result, Ok, Err}
-use Rattle.compiled.specs.Sheet.{CompiledSelector, count_at, pseudo_at, head_at, styles_at, selector_at, selectors_at, whole_at, decode, decode_by}
+use Rattle.compiled.specs.Sheet.{CompiledSelector, head_at, styles_at, selector_at, selectors_at, whole_at, decode, decode_by}
 use Rattle.compiled.specs.Answer.{read_answer, read_within, place_answer, selector_answer, check_answer, refusal_of, bytes_refusal, check_within}
 use Rattle.compiled.specs.declared.places.Fault.{Fault}
 use Rattle.compiled.specs.declared.places.Read.{Read}
@@ -41,15 +41,15 @@ module _ (s : List ℕ) (at least : ℕ) where
     module _ (o : Read ℕ) (p : r ≡ Ok o) (r₁ : Result (Read ℕ) Fault) (e₁ : r₁ ≡ read_answer (ranged_at s o.next (pseudo_number none) (pseudo_number after))) where
       module _ (x : Read ℕ) (p₁ : r₁ ≡ Ok x) (r₂ : Result (Read ℕ) Fault) (e₂ : r₂ ≡ read_answer (number_at s x.next)) where
         pub whole-head : (y : Read ℕ) → r₂ ≡ Ok y → got y.next (record { origin = o.value; pseudo = x.value; count = y.value }) ≡ read_answer (head_at s least at)
-        unfolding head_at pseudo_at count_at
+        unfolding head_at
         whole-head y p₂ = then_answer _ _ r e o p _ (then_answer _ _ r₁ e₁ x p₁ _ (mapped_answer (λ k. record { origin = o.value; pseudo = x.value; count = k }) (number_at s x.next) r₂ e₂ y p₂))
 
         pub count-fault : (f : Fault) → r₂ ≡ Err f → Err f ≡ read_answer (head_at s least at)
-        unfolding head_at pseudo_at count_at
+        unfolding head_at
         count-fault f p₂ = then_answer _ _ r e o p _ (then_answer _ _ r₁ e₁ x p₁ _ (mapped-answer (λ k. record { origin = o.value; pseudo = x.value; count = k }) (number_at s x.next) r₂ e₂ f p₂))
 
       pub pseudo-fault : (f : Fault) → r₁ ≡ Err f → Err f ≡ read_answer (head_at s least at)
-      unfolding head_at pseudo_at
+      unfolding head_at
       pseudo-fault f p₁ = then_answer _ _ r e o p _ (then-answer _ _ r₁ e₁ f p₁)
 
     pub origin-fault : (f : Fault) → r ≡ Err f → Err f ≡ read_answer (head_at s least at)

@@ -8,16 +8,17 @@ use native.Mathlib.Omega.{arith}
 use lib.ListN.{length, drop, length-append}
 use Rattle.combinators.specs.Choice.{pick, is}
 use Rattle.syntax.specs.Declaration.{Colour, WhiteSpace, normal, pre, pre_wrap}
-use Rattle.syntax.specs.Layout.{flag, flag_of, colour_number, white_space_number, colour_slot, last_slot, style_text_of, style_text, style_slot_of, number_from, value_from, numbers_from, style_in}
+use Rattle.syntax.specs.Layout.{flag, colour_number, white_space_number, colour_slot, last_slot, style_text_of, style_text, style_slot_of, number_from, value_from, numbers_from, style_in}
 use Rattle.syntax.specs.Style as style
 use Rattle.syntax.specs.Style.{Style, StyleDecl}
+use Rattle.syntax.specs.declared.styles.StyleNumbers.{StyleNumbers}
 use Rattle.syntax.proofs.Back as back
 use Rattle.syntax.proofs.Back.{OfBytes}
 use Rattle.syntax.proofs.Streams.{Held, held-left, held-right}
-use Rattle.compiled.specs.Decoded.{read}
+use Rattle.compiled.specs.Decoded.{Decoded, read, and_then, mapped}
 use Rattle.compiled.specs.Number.{number_bytes, number_at, ranged_at}
 use Rattle.compiled.specs.Text.{span_at}
-use Rattle.compiled.specs.Style.{greatest_colour, style_body, style_bytes, content_at, number_up_to, value_at, valued_at, slot_at, started_at, style_numbers_at, style_at}
+use Rattle.compiled.specs.Style.{greatest_colour, style_body, style_bytes, content_at, number_up_to, value_at, style_numbers_at, style_at}
 use Rattle.compiled.proofs.Fits.{TextFits, StyleFits}
 use Rattle.compiled.proofs.Following.{then-read, mapped-read, ends_at}
 use Rattle.compiled.proofs.NumberBack.{number-some, number-back, ranged-back}
@@ -146,18 +147,24 @@ module _ (t : List ℕ) where
     unfolding style_text
     text-there = body-text d.value.style body (held-right t (i + length a + length f) b c behind-start)
 
+    -- what is read behind the flag
+    abbrev flagged : Bool → Decoded StyleNumbers
+    flagged x =
+        and_then (number_at t (i + length a)) (λ m start. and_then (ranged_at t m colour_slot last_slot) (λ k slot.
+        mapped (λ v. record { slot = slot; important = x; value = v }) (value_at t start slot k)))
+
     -- a style is read as its numbers
     pub numbers-back : StyleFits d → style_numbers_at t i ≡ read (i + length (style_bytes d)) (numbers_from place d)
-    unfolding style_numbers_at started_at slot_at valued_at style_bytes style_text numbers_from value_from
+    unfolding style_numbers_at style_bytes style_text numbers_from value_from
     numbers-back k =
         let s = d.value.style in
         let e : body + length c ≡ i + length (a ++ (f ++ (b ++ c))) = omega (arith, length-append a (f ++ (b ++ c)), length-append f (b ++ c), length-append b c) in
-        then-read (ranged_at t i 0 1) (λ n important. started_at t (flag_of important) n) _ (flag d.important)
+        then-read (ranged_at t i 0 1) _ _ (flag d.important)
         (ranged-back t i 0 1 (flag d.important) (omega (arith, flag-le d.important)) (omega arith) (flag-le d.important) (held-left t i a (f ++ (b ++ c)) h))
-        ∙ ap (λ (f : Bool). started_at t f (i + length a)) (back.flag-back d.important)
-        ∙ then-read (number_at t (i + length a)) (λ m start. slot_at t d.important start m) _ d.value.start
+        ∙ ap flagged (back.flag-back d.important)
+        ∙ then-read (number_at t (i + length a)) _ _ d.value.start
         (number-back t (i + length a) d.value.start k.start (held-left t (i + length a) f (b ++ c) behind-flag))
-        ∙ then-read (ranged_at t (i + length a + length f) colour_slot last_slot) (λ m slot. valued_at t d.important d.value.start slot m) _ (style_slot_of s)
+        ∙ then-read (ranged_at t (i + length a + length f) colour_slot last_slot) _ _ (style_slot_of s)
         (ranged-back t (i + length a + length f) colour_slot last_slot (style_slot_of s) (omega (arith, slot-le s)) (omega arith) (slot-le s) (held-left t (i + length a + length f) b c behind-start))
         ∙ mapped-read _ (value_at t d.value.start (style_slot_of s) body) _ _
         (body-value s d.value.start body k.colour k.text (held-right t (i + length a + length f) b c behind-start))

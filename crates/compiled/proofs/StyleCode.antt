@@ -12,7 +12,7 @@ use Rattle.syntax.specs.declared.styles.StyleNumbers.{StyleNumbers}
 use Rattle.syntax.specs.Declaration.{pre_wrap}
 use Rattle.compiled.specs.Decoded.{counted}
 use Rattle.compiled.specs.Number.{number_limit, number_at, ranged_at}
-use Rattle.compiled.specs.Style.{greatest_colour, content_at, number_up_to, value_at, valued_at, slot_at, started_at, style_numbers_at, style_at}
+use Rattle.compiled.specs.Style.{greatest_colour, content_at, number_up_to, value_at, style_numbers_at, style_at}
 use Rattle.compiled.specs.Sheet.{styles_at}
 use Rattle.std.proofs.Common.{Result, Ok, Err}
 use Rattle.compiled.specs.Answer.{read_answer, read_within, text_within, place_answer}
@@ -74,24 +74,24 @@ module _ (s : List ℕ) (at : ℕ) where
 
     module _ (i : Read ℕ) (p : r ≡ Ok i) (r₁ : Result (Read ℕ) Fault) (e₁ : r₁ ≡ read_answer (number_at s i.next)) where
       pub start-fault : (f : Fault) → r₁ ≡ Err f → Err f ≡ read_answer (style_numbers_at s at)
-      unfolding style_numbers_at started_at
+      unfolding style_numbers_at
       start-fault f p₁ = then_answer _ _ r e i p _ (then-answer _ _ r₁ e₁ f p₁)
 
       module _ (b : Read ℕ) (p₁ : r₁ ≡ Ok b) (r₂ : Result (Read ℕ) Fault) (e₂ : r₂ ≡ read_answer (ranged_at s b.next colour_slot last_slot)) where
         pub slot-fault : (f : Fault) → r₂ ≡ Err f → Err f ≡ read_answer (style_numbers_at s at)
-        unfolding style_numbers_at started_at slot_at
+        unfolding style_numbers_at
         slot-fault f p₂ = then_answer _ _ r e i p _ (then_answer _ _ r₁ e₁ b p₁ _ (then-answer _ _ r₂ e₂ f p₂))
 
         module _ (k : Read ℕ) (p₂ : r₂ ≡ Ok k) (r₃ : Result (Read Value) Fault) (e₃ : r₃ ≡ read_answer (value_at s b.value k.value k.next)) where
           pub value-fault : (f : Fault) → r₃ ≡ Err f → Err f ≡ read_answer (style_numbers_at s at)
-          unfolding style_numbers_at started_at slot_at valued_at
+          unfolding style_numbers_at
           value-fault f p₃ =
               then_answer _ _ r e i p _ (then_answer _ _ r₁ e₁ b p₁ _ (then_answer _ _ r₂ e₂ k p₂ _
               (mapped-answer (λ (v : Value). record { slot = k.value; important = flag_of i.value; value = v }) (value_at s b.value k.value k.next) r₃ e₃ f p₃)))
 
           pub whole-style : (v : Read Value) → r₃ ≡ Ok v → (m : Bool) → m ≡ flag_of i.value
               → got v.next (record { slot = k.value; important = m; value = v.value }) ≡ read_answer (style_numbers_at s at)
-          unfolding style_numbers_at started_at slot_at valued_at
+          unfolding style_numbers_at
           whole-style v p₃ m h =
               rw h (then_answer _ _ r e i p _ (then_answer _ _ r₁ e₁ b p₁ _ (then_answer _ _ r₂ e₂ k p₂ _
               (mapped_answer (λ (w : Value). record { slot = k.value; important = flag_of i.value; value = w }) (value_at s b.value k.value k.next) r₃ e₃ v p₃))))

@@ -14,7 +14,7 @@ use Rattle.compiled.specs.Decoded.{Decoded, read, fault, and_then, mapped, count
 use Rattle.compiled.specs.Number.{number_at, ranged_at}
 use Rattle.compiled.specs.Component.{written_at, component_in, component_at}
 use Rattle.compiled.specs.declared.components.Written.{Written}
-use Rattle.compiled.specs.Sheet.{CompiledSelector, head_at, styles_at, selector_at, selectors_at, whole_at, decode, decode_by, pseudo_at, count_at}
+use Rattle.compiled.specs.Sheet.{CompiledSelector, head_at, styles_at, selector_at, selectors_at, whole_at, decode, decode_by}
 use Rattle.compiled.specs.declared.sheets.Head.{Head}
 use Rattle.compiled.specs.Answer.{read_answer}
 use Rattle.compiled.specs.declared.places.Fault.{Fault}
@@ -133,7 +133,7 @@ pseudo-numbered (suc (suc (suc n))) l = absurd (omega arith)
 
 -- so is that of a head
 pub head-pseudo : (t : List ℕ) (least i n : ℕ) (h : Head) → head_at t least i ≡ read n h → pseudo_number (pseudo_from h.pseudo) ≡ h.pseudo
-unfolding head_at pseudo_at count_at
+unfolding head_at
 head-pseudo t least i n h e =
     let o = steps (ranged_at t i least author_origin) _ n h e in
     let p = steps (ranged_at t o.place (pseudo_number none) (pseudo_number after)) _ n h o.rest in

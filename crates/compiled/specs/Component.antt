@@ -7,7 +7,6 @@ use Rattle.syntax.specs.RuleLayout.{star_kind, class_kind, element_kind, hash_ki
 use Rattle.compiled.specs.Decoded.{Decoded, read, fault, and_then, mapped}
 use Rattle.compiled.specs.Number.{group_bytes, number_bytes, limited, groups_at, number_at, ranged_at}
 use Rattle.compiled.specs.Text.{text_bytes, span_at, text_in}
-use Rattle.compiled.specs.declared.texts.Span.{Span}
 use Rattle.compiled.specs.declared.components.Written.{Written}
 use Rattle.compiled.specs.declared.components.Written.TheVariants.{Mark, Name, Numbers, Names}
 
@@ -40,17 +39,11 @@ is_name kind = or (is kind class_kind) (or (is kind element_kind) (or (is kind h
 unfoldable pub name_at : List ℕ → ℕ → ℕ → Decoded Written
 name_at t kind n = mapped (λ x. Name kind x) (span_at t n)
 
-unfoldable pub second_number_at : List ℕ → ℕ → ℕ → Decoded Written
-second_number_at t a n = mapped (λ b. Numbers a b) (number_at t n)
-
 unfoldable pub numbers_at : List ℕ → ℕ → Decoded Written
-numbers_at t n = and_then (number_at t n) (λ m a. second_number_at t a m)
-
-unfoldable pub second_name_at : List ℕ → Span → ℕ → Decoded Written
-second_name_at t x n = mapped (λ y. Names x y) (span_at t n)
+numbers_at t n = and_then (number_at t n) (λ m a. mapped (λ b. Numbers a b) (number_at t m))
 
 unfoldable pub names_at : List ℕ → ℕ → Decoded Written
-names_at t n = and_then (span_at t n) (λ m x. second_name_at t x m)
+names_at t n = and_then (span_at t n) (λ m x. mapped (λ y. Names x y) (span_at t m))
 
 unfoldable pub body_at : List ℕ → ℕ → ℕ → Decoded Written
 body_at t kind n =
@@ -88,7 +81,7 @@ unfolding component_bytes component_kind component_body signed_number number_byt
 case-nth = refl
 
 pub case-read : component_at (0x06 ∷ 0x01 ∷ 0x06 ∷ []) 0 ≡ read 3 (nth (negsuc 0) (pos 3))
-unfolding component_at component_in written_at body_at numbers_at second_number_at is_mark signed_of ranged_at number_at groups_at limited and_then mapped pick or and is within
+unfolding component_at component_in written_at body_at numbers_at is_mark signed_of ranged_at number_at groups_at limited and_then mapped pick or and is within
 case-read = refl
 
 -- a kind past the last

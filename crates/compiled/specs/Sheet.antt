@@ -14,7 +14,7 @@ use Rattle.compiled.specs.Number.{group_bytes, number_bytes, limited, groups_at,
 use Rattle.compiled.specs.Text.{text_bytes, span_at, text_in}
 use Rattle.compiled.specs.Component.{component_body, component_bytes, is_mark, name_at, body_at, written_at, mark_of, named_of, component_in, component_at}
 use Rattle.compiled.specs.declared.sheets.Head.{Head}
-use Rattle.compiled.specs.Style.{style_body, style_bytes, number_up_to, value_at, valued_at, slot_at, started_at, style_numbers_at, style_at}
+use Rattle.compiled.specs.Style.{style_body, style_bytes, number_up_to, value_at, style_numbers_at, style_at}
 
 -- "compiled bytes over 65,536" are refused
 abbrev pub compiled_limit : ℕ
@@ -47,16 +47,11 @@ encode ss = number_bytes (length ss) ++ texts_many selector_bytes ss
 
 -- ---- read
 
--- the numbers before a selector's components
-unfoldable pub count_at : List ℕ → ℕ → ℕ → ℕ → Decoded Head
-count_at t origin pseudo n = mapped (λ count. record { origin = origin; pseudo = pseudo; count = count }) (number_at t n)
-
-unfoldable pub pseudo_at : List ℕ → ℕ → ℕ → Decoded Head
-pseudo_at t origin n = and_then (ranged_at t n (pseudo_number none) (pseudo_number after)) (λ m pseudo. count_at t origin pseudo m)
-
--- where the selector before is of the origin `least`
+-- the numbers before a selector's components, where the selector before is of the origin `least`
 unfoldable pub head_at : List ℕ → ℕ → ℕ → Decoded Head
-head_at t least i = and_then (ranged_at t i least author_origin) (λ n origin. pseudo_at t origin n)
+head_at t least i =
+    and_then (ranged_at t i least author_origin) (λ n origin. and_then (ranged_at t n (pseudo_number none) (pseudo_number after)) (λ m pseudo.
+    mapped (λ count. record { origin = origin; pseudo = pseudo; count = count }) (number_at t m)))
 
 -- "style count, styles", by what reads a style at a place of t
 module _ {A : Type 0} (style : ℕ → Decoded A) (t : List ℕ) where
@@ -106,7 +101,7 @@ unfolding encode selector_bytes head_bytes styles_bytes texts_many pseudo_number
 case-encode = refl
 
 pub case-decode : decode red_bytes ≡ read 15 (red_selector ∷ [])
-unfolding decode decode_by whole_at selectors_at selector_at head_at pseudo_at pseudo_number count_at styles_at pseudo_from counted component_at component_in written_at body_at name_at is_mark mark_of named_of text_in span_at part style_at style_in value_in style_numbers_at started_at slot_at valued_at value_at number_up_to style_of flag_of colour_of ranged_at number_at groups_at limited and_then mapped pick or and is within
+unfolding decode decode_by whole_at selectors_at selector_at head_at pseudo_number styles_at pseudo_from counted component_at component_in written_at body_at name_at is_mark mark_of named_of text_in span_at part style_at style_in value_in style_numbers_at value_at number_up_to style_of flag_of colour_of ranged_at number_at groups_at limited and_then mapped pick or and is within
 case-decode = refl
 
 -- no selector; of the program that compiles one sheet "The other two sheets are empty; empty input prints `00`."
@@ -116,12 +111,12 @@ case-empty = refl
 
 -- an origin that goes back: a user selector behind an author one, neither with components or styles
 pub case-origin : decode (0x02 ∷ 0x03 ∷ 0x00 ∷ 0x00 ∷ 0x00 ∷ 0x02 ∷ 0x00 ∷ 0x00 ∷ 0x00 ∷ []) ≡ fault 5
-unfolding decode decode_by whole_at selectors_at selector_at head_at pseudo_at pseudo_number count_at styles_at counted ranged_at number_at groups_at limited and_then mapped pick and is within
+unfolding decode decode_by whole_at selectors_at selector_at head_at pseudo_number styles_at counted ranged_at number_at groups_at limited and_then mapped pick and is within
 case-origin = refl
 
 -- a class whose name runs out
 pub case-text : decode (0x01 ∷ 0x01 ∷ 0x00 ∷ 0x01 ∷ 0x01 ∷ 0x05 ∷ 0x61 ∷ 0x00 ∷ []) ≡ fault 5
-unfolding decode decode_by whole_at selectors_at selector_at head_at pseudo_at pseudo_number count_at styles_at counted component_at component_in written_at body_at name_at is_mark span_at ranged_at number_at groups_at limited and_then mapped pick or and is within
+unfolding decode decode_by whole_at selectors_at selector_at head_at pseudo_number styles_at counted component_at component_in written_at body_at name_at is_mark span_at ranged_at number_at groups_at limited and_then mapped pick or and is within
 case-text = refl
 
 -- a byte left over, and no byte at all

@@ -1,5 +1,5 @@
 -- Styles of a compiled sheet: whether it is important, where its declaration starts, the slot, and the slot's value.
-use Rattle.std.specs.Prelude.{ℕ, ◌≡◌, refl, Bool, true, false, List, [], ◌∷◌, ◌++◌}
+use Rattle.std.specs.Prelude.{ℕ, ◌≡◌, refl, true, false, List, [], ◌∷◌, ◌++◌}
 use Rattle.combinators.specs.Choice.{pick, and, is, within}
 use Rattle.syntax.specs.Declaration.{pre_wrap}
 use Rattle.syntax.specs.Layout.{flag, flag_of, colour_number, white_space_number, colour_slot, display_slot, white_space_slot, content_slot, visibility_slot, last_slot, style_slot_of, style_of, value_in, style_in}
@@ -48,19 +48,11 @@ value_at t start slot n =
     (pick (is slot visibility_slot) (number_up_to (flag true) t start n)
     (number_up_to greatest_colour t start n))))
 
-unfoldable pub valued_at : List ℕ → Bool → ℕ → ℕ → ℕ → Decoded StyleNumbers
-valued_at t important start slot n = mapped (λ v. record { slot = slot; important = important; value = v }) (value_at t start slot n)
-
-unfoldable pub slot_at : List ℕ → Bool → ℕ → ℕ → Decoded StyleNumbers
-slot_at t important start n = and_then (ranged_at t n colour_slot last_slot) (λ m slot. valued_at t important start slot m)
-
--- at n, behind the mark: any start of 32 bits, and the slot behind it
-unfoldable pub started_at : List ℕ → Bool → ℕ → Decoded StyleNumbers
-started_at t important n = and_then (number_at t n) (λ m start. slot_at t important start m)
-
--- what the bytes of a style say
+-- what the bytes of a style say: the mark, any start of 32 bits, the slot and its value
 unfoldable pub style_numbers_at : List ℕ → ℕ → Decoded StyleNumbers
-style_numbers_at t i = and_then (ranged_at t i 0 1) (λ n important. started_at t (flag_of important) n)
+style_numbers_at t i =
+    and_then (ranged_at t i 0 1) (λ n important. and_then (number_at t n) (λ m start. and_then (ranged_at t m colour_slot last_slot) (λ k slot.
+    mapped (λ v. record { slot = slot; important = flag_of important; value = v }) (value_at t start slot k))))
 
 -- the style that they say, its text being a part of the same bytes
 unfoldable pub style_at : List ℕ → ℕ → Decoded StyleDecl
@@ -72,25 +64,25 @@ unfolding style_bytes style_slot_of style_body flag colour_number number_bytes g
 case-red = refl
 
 pub case-display : style_at (0x01 ∷ 0xac ∷ 0x02 ∷ 0x02 ∷ []) 0 ≡ read 4 (record { value = record { style = style.display_none; start = 300 }; important = true })
-unfolding style_at style_in value_in style_numbers_at started_at slot_at valued_at value_at content_at number_up_to style_of flag_of ranged_at number_at groups_at limited and_then mapped pick and is within
+unfolding style_at style_in value_in style_numbers_at value_at content_at number_up_to style_of flag_of ranged_at number_at groups_at limited and_then mapped pick and is within
 case-display = refl
 
 -- a colour of 2^24
 pub case-colour : style_at (0x00 ∷ 0x02 ∷ 0x01 ∷ 0x80 ∷ 0x80 ∷ 0x80 ∷ 0x08 ∷ []) 0 ≡ fault 3
-unfolding style_at style_in value_in style_numbers_at started_at slot_at valued_at value_at content_at number_up_to style_of flag_of ranged_at number_at groups_at limited and_then mapped pick and is within
+unfolding style_at style_in value_in style_numbers_at value_at content_at number_up_to style_of flag_of ranged_at number_at groups_at limited and_then mapped pick and is within
 case-colour = refl
 
 -- `visibility: hidden`, from byte 2 on
 pub case-hidden : style_at (0x00 ∷ 0x02 ∷ 0x05 ∷ 0x01 ∷ []) 0 ≡ read 4 (record { value = record { style = style.visibility true; start = 2 }; important = false })
-unfolding style_at style_in value_in style_numbers_at started_at slot_at valued_at value_at content_at number_up_to style_of flag flag_of ranged_at number_at groups_at limited and_then mapped pick and is within
+unfolding style_at style_in value_in style_numbers_at value_at content_at number_up_to style_of flag flag_of ranged_at number_at groups_at limited and_then mapped pick and is within
 case-hidden = refl
 
 -- a visibility of 2
 pub case-visibility : style_at (0x00 ∷ 0x02 ∷ 0x05 ∷ 0x02 ∷ []) 0 ≡ fault 3
-unfolding style_at style_in value_in style_numbers_at started_at slot_at valued_at value_at content_at number_up_to style_of flag flag_of ranged_at number_at groups_at limited and_then mapped pick and is within
+unfolding style_at style_in value_in style_numbers_at value_at content_at number_up_to style_of flag flag_of ranged_at number_at groups_at limited and_then mapped pick and is within
 case-visibility = refl
 
 -- slot 6, which there is not
 pub case-slot : style_at (0x00 ∷ 0x02 ∷ 0x06 ∷ 0x01 ∷ []) 0 ≡ fault 2
-unfolding style_at style_in value_in style_numbers_at started_at slot_at valued_at value_at content_at number_up_to style_of flag_of ranged_at number_at groups_at limited and_then mapped pick and is within
+unfolding style_at style_in value_in style_numbers_at value_at content_at number_up_to style_of flag_of ranged_at number_at groups_at limited and_then mapped pick and is within
 case-slot = refl

@@ -18,7 +18,7 @@ use Rattle.lexer.specs.Token.{is_quote, string_of}
 use Rattle.lexer.specs.Whitespace.{is_whitespace, comment_of, whitespace_item, skip_whitespace}
 use Rattle.lexer.proofs.SyntaxName.{IdentSequence, started, dashed, ident_start, ident_code_point, letter, start-code-point, hyphen-code-point, sequence-unskipped, ident-sequence, ident-string}
 use Rattle.lexer.proofs.SyntaxWhitespace.{Blank, none, skips-blank}
-use Rattle.syntax.specs.Selector.{Component, star, class, element, hash, child, descendant, nth, attribute, attribute_equal}
+use Rattle.syntax.specs.Selector.{Component, star, class, element, hash, child, descendant, attribute, attribute_equal}
 use Rattle.selectors.specs.Outcome.{reads, fails, parsed, or_else}
 use Rattle.selectors.specs.Selector.{class_of, hash_of, closed, quoted_from, quoted_of, value_of, attr_of, pseudo_class_of, marked, blank_of, component_of}
 use Rattle.grammar.specs.Nth.{Blanks, Argument, written_argument, means_argument}
@@ -262,5 +262,5 @@ colon-component l n c e = rw (colon-unnamed l, e)
 -- `:nth-child()` with an argument of the grammar
 pub nth-child-read : (b : Blanks) (x : Argument) (c : Blanks) (t : List ℕ)
     → component_of (ascii.colon ∷ (text "nth-child" ++ (ascii.left_parenthesis ∷ (b.bytes ++ (written_argument x ++ (c.bytes ++ (ascii.right_parenthesis ∷ t)))))))
-    ≡ reads (10 + (1 + length b.bytes + length (written_argument x) + length c.bytes + 1)) (nth (means_argument x).a (means_argument x).b)
+    ≡ reads (10 + (1 + length b.bytes + length (written_argument x) + length c.bytes + 1)) (means_argument x)
 nth-child-read b x c t = colon-component _ _ _ (pseudo-by _ _ _ (args_read b x c t))

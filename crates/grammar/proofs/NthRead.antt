@@ -20,7 +20,7 @@ use Rattle.combinators.proofs.Rules.{is-no}
 use Rattle.characters.specs.Literal.{text}
 use Rattle.characters.specs.Utf8.{utf8, continuation}
 use Rattle.lexer.specs.Name.{hex_digit, lower, ident_of}
-use Rattle.lexer.specs.Number.{is_digit, one_digit, digits}
+use Rattle.lexer.specs.Number.{sign, is_digit, one_digit, digits}
 use Rattle.lexer.specs.Whitespace.{is_whitespace, comment_of, whitespace_item, skip_whitespace}
 use Rattle.lexer.proofs.SyntaxName.{Each, none, more, started, ident_start, ident_code_point, letter, ident-sequence}
 use Rattle.lexer.proofs.SyntaxWhitespace.{skips-blank}
@@ -28,7 +28,8 @@ use Rattle.syntax.specs.Selector.{Component, nth}
 use Rattle.values.specs.Colour.{numeral}
 use Rattle.selectors.specs.Outcome as outcome
 use Rattle.selectors.specs.Outcome.{Outcome, reads, fails, on_outcome, or_else}
-use Rattle.selectors.specs.Selector.{Nth, is_minus, is_sign, sign_taken, signed, greatest, digits_worth, converted, both_of, just_a, just_b, worded, nth_of, nth_args_of, nth_child_args, pseudo_class_of}
+use Rattle.selectors.specs.Selector.{is_minus, is_sign, signed, greatest, converted, both_of, just_a, just_b, worded, nth_of, nth_args_of, pseudo_class_of}
+use Rattle.selectors.proofs.NthNumbers.{digits_worth, converted-is}
 use Rattle.grammar.specs.Nth.{Blanks, Sign, unsigned, plus, minus, worth, Count, Integer, Argument, even, odd, multiple, sum, number, written_sign, sign_byte, written_argument, negative, means_argument}
 use Rattle.grammar.proofs.Places.{differs, Unblank, blank-first, unblank-item, rest-on, rest-one, byte-on}
 
@@ -67,8 +68,8 @@ worth-on t i (x ∷ ds) r h e =
 -- so digits that stand in a text are converted to the number that they write
 converted-on : {A : Type 0} (t : List ℕ) (i : ℕ) (c : Count) (r : List ℕ) (m : Bool) (f : ℤ → Outcome A) → drop i t ≡ c.bytes ++ r
     → converted t i (length c.bytes) m f ≡ f (signed m (worth c.bytes))
-unfolding converted pick
-converted-on t i c r m f e = rw (worth-on t i c.bytes r c.digits e, le-leb (worth c.bytes) greatest c.fits)
+unfolding pick
+converted-on t i c r m f e = converted-is t i (length c.bytes) m f ∙ rw (worth-on t i c.bytes r c.digits e, le-leb (worth c.bytes) greatest c.fits)
 
 -- ---- the sign
 -- a byte that begins what stands behind a sign, and one that begins an argument with numbers
@@ -84,13 +85,13 @@ unfolding unsigned_byte is_digit or and within is
 unsigned-others = (refl, refl)
 
 record Starts (t : List ℕ) (i : ℕ) (m : Bool) : Type 0 where
-  taken : sign_taken t ≡ i
+  taken : sign t ≡ i
   negates : is_minus t 0 ≡ m
   numeric : numeric_byte (get_or t 0 0) ≡ true
 
 -- a sign or none, before what begins without one
 sign_read : (s : Sign) (u : List ℕ) → unsigned_byte (get_or u 0 0) ≡ true → Starts (written_sign s ++ u) (length (written_sign s)) (negative s)
-unfolding written_sign negative sign_taken is_sign is_minus numeric_byte pick or
+unfolding written_sign negative sign is_sign is_minus numeric_byte pick or
 sign_read unsigned u e =
     let p = differs unsigned_byte (get_or u 0 0) ascii.plus_sign e unsigned-others.0 in
     let m = differs unsigned_byte (get_or u 0 0) ascii.hyphen_minus e unsigned-others.1 in
@@ -119,12 +120,12 @@ unworded t e =
     )
 
 -- ---- an+b, an and b, by what stands behind the sign and the digits
-module _ (t : List ℕ) (i n w m : ℕ) (minus₁ : Bool) (hi : sign_taken t ≡ i) (hn : digits (drop i t) ≡ n) (hm : is_minus t 0 ≡ minus₁) where
+module _ (t : List ℕ) (i n w m : ℕ) (minus₁ : Bool) (hi : sign t ≡ i) (hn : digits (drop i t) ≡ n) (hm : is_minus t 0 ≡ minus₁) where
   -- all of it is there
   both_by : get_or t (i + n) 0 ≡ ascii.small_n → skip_whitespace (drop (i + n + 1) t) ≡ w → digits (drop (i + n + 1 + w + 1) t) ≡ m → is_sign t (i + n + 1 + w) ≡ true → 1 ≤ m
       → both_of t
       ≡ converted t i n minus₁
-      (λ a. converted t (i + n + 1 + w + 1) m (is_minus t (i + n + 1 + w)) (λ b. reads (i + n + 1 + w + 1 + m) (record { a = a; b = b })))
+      (λ a. converted t (i + n + 1 + w + 1) m (is_minus t (i + n + 1 + w)) (λ b. reads (i + n + 1 + w + 1 + m) (nth a b)))
   unfolding both_of pick and is
   both_by b e d s l = rw (hi, hn, e, d, b, s, le-leb 1 m l, hm)
 
@@ -139,7 +140,7 @@ module _ (t : List ℕ) (i n w m : ℕ) (minus₁ : Bool) (hi : sign_taken t ≡
   both-none b = rw (hi, hn, b)
 
   -- with `n` behind the digits it is an
-  a-by : get_or t (i + n) 0 ≡ ascii.small_n → just_a t ≡ converted t i n minus₁ (λ a. reads (i + n + 1) (record { a = a; b = pos 0 }))
+  a-by : get_or t (i + n) 0 ≡ ascii.small_n → just_a t ≡ converted t i n minus₁ (λ a. reads (i + n + 1) (nth a (pos 0)))
   unfolding just_a pick is
   a-by b = rw (hi, hn, b, hm)
 
@@ -149,7 +150,7 @@ module _ (t : List ℕ) (i n w m : ℕ) (minus₁ : Bool) (hi : sign_taken t ≡
   a-none b = rw (hi, hn, b)
 
   -- digits alone are b
-  b-by : 1 ≤ n → just_b t ≡ converted t i n minus₁ (λ b. reads (i + n) (record { a = pos 0; b = b }))
+  b-by : 1 ≤ n → just_b t ≡ converted t i n minus₁ (λ b. reads (i + n) (nth (pos 0) b))
   unfolding just_b pick
   b-by l = rw (hi, hn, le-leb 1 n l, hm)
 
@@ -235,12 +236,12 @@ sign-item false l = refl
 
 -- ---- the argument
 -- where the first alternative fails the second decides
-or_else-second : (a b c : Outcome Nth) → a ≡ fails → b ≡ c → or_else a b ≡ c
+or_else-second : (a b c : Outcome Component) → a ≡ fails → b ≡ c → or_else a b ≡ c
 unfolding or_else
 or_else-second a b c e d = rw (e, d)
 
 -- where the first alternative reads it decides
-or_else-first : (a b : Outcome Nth) (n : ℕ) (x : Nth) → a ≡ reads n x → or_else a b ≡ reads n x
+or_else-first : (a b : Outcome Component) (n : ℕ) (x : Component) → a ≡ reads n x → or_else a b ≡ reads n x
 unfolding or_else
 or_else-first a b n x e = rw e
 
@@ -251,7 +252,7 @@ module _ (c : Blanks) (r : List ℕ) where
   -- an is read whole
   multiple-read : (s : Sign) (a : Count)
       → nth_of (written_sign s ++ (a.bytes ++ (ascii.small_n ∷ u)))
-      ≡ reads (length (written_sign s) + length a.bytes + 1) (record { a = signed (negative s) (worth a.bytes); b = pos 0 })
+      ≡ reads (length (written_sign s) + length a.bytes + 1) (nth (signed (negative s) (worth a.bytes)) (pos 0))
   multiple-read s a =
       let t = written_sign s ++ (a.bytes ++ (ascii.small_n ∷ u)) in
       let i = length (written_sign s) in
@@ -268,11 +269,11 @@ module _ (c : Blanks) (r : List ℕ) where
       ∙ or_else-second (both_of t) (or_else (just_a t) (just_b t)) _
       (both-unsigned t i n k 0 (negative s) g.taken hn g.negates b (ap skip_whitespace z ∙ behind-skips c r) (unsign-on t (i + n + 1 + k) v))
       (or_else-first (just_a t) (just_b t) _ _
-      (a-by t i n k 0 (negative s) g.taken hn g.negates b ∙ converted-on t i a (ascii.small_n ∷ u) (negative s) (λ a. reads (i + n + 1) (record { a = a; b = pos 0 })) x))
+      (a-by t i n k 0 (negative s) g.taken hn g.negates b ∙ converted-on t i a (ascii.small_n ∷ u) (negative s) (λ a. reads (i + n + 1) (nth a (pos 0))) x))
 
   -- b is read whole
   number_read : (s : Sign) (b : Integer)
-      → nth_of (written_sign s ++ (b.count.bytes ++ u)) ≡ reads (length (written_sign s) + length b.count.bytes) (record { a = pos 0; b = signed (negative s) (worth b.count.bytes) })
+      → nth_of (written_sign s ++ (b.count.bytes ++ u)) ≡ reads (length (written_sign s) + length b.count.bytes) (nth (pos 0) (signed (negative s) (worth b.count.bytes)))
   number_read s b =
       let d = b.count.bytes in
       let t = written_sign s ++ (d ++ u) in
@@ -286,13 +287,13 @@ module _ (c : Blanks) (r : List ℕ) where
       unworded t g.numeric
       ∙ or_else-second (both_of t) (or_else (just_a t) (just_b t)) _ (both-none t i n 0 0 (negative s) g.taken hn g.negates e)
       (or_else-second (just_a t) (just_b t) _ (a-none t i n 0 0 (negative s) g.taken hn g.negates e)
-      (b-by t i n 0 0 (negative s) g.taken hn g.negates b.some ∙ converted-on t i b.count u (negative s) (λ b. reads (i + n) (record { a = pos 0; b = b })) x))
+      (b-by t i n 0 0 (negative s) g.taken hn g.negates b.some ∙ converted-on t i b.count u (negative s) (λ b. reads (i + n) (nth (pos 0) b)) x))
 
   -- an+b is read whole
   sum-read : (s : Sign) (a : Count) (w : Blanks) (m : Bool) (b : Integer)
       → nth_of (written_sign s ++ (a.bytes ++ (ascii.small_n ∷ (w.bytes ++ (sign_byte m ∷ (b.count.bytes ++ u))))))
       ≡ reads (length (written_sign s) + length a.bytes + 1 + length w.bytes + 1 + length b.count.bytes)
-      (record { a = signed (negative s) (worth a.bytes); b = signed m (worth b.count.bytes) })
+      (nth (signed (negative s) (worth a.bytes)) (signed m (worth b.count.bytes)))
   sum-read s a w m b =
       let d = b.count.bytes in
       let v = sign_byte m ∷ (d ++ u) in
@@ -314,9 +315,9 @@ module _ (c : Blanks) (r : List ℕ) where
       ∙ or_else-first (both_of t) (or_else (just_a t) (just_b t)) _ _
       (both_by t i n k (length d) (negative s) g.taken hn g.negates (byte-on t (i + n) ascii.small_n q y) (ap skip_whitespace z ∙ skips-blank w.bytes v w.blank (sign-item m (d ++ u)))
       (ap digits f ∙ digits-read b.count.digits u (behind-digit c r)) h.0 b.some
-      ∙ converted-on t i a (ascii.small_n ∷ q) (negative s) (λ a. converted t (p + 1) (length d) (is_minus t p) (λ b. reads (p + 1 + length d) (record { a = a; b = b }))) x
-      ∙ converted-on t (p + 1) b.count u (is_minus t p) (λ y. reads (p + 1 + length d) (record { a = signed (negative s) (worth a.bytes); b = y })) f
-      ∙ ap (λ (l : Bool). reads (p + 1 + length d) (record { a = signed (negative s) (worth a.bytes); b = signed l (worth d) })) h.1)
+      ∙ converted-on t i a (ascii.small_n ∷ q) (negative s) (λ a. converted t (p + 1) (length d) (is_minus t p) (λ b. reads (p + 1 + length d) (nth a b))) x
+      ∙ converted-on t (p + 1) b.count u (is_minus t p) (λ y. reads (p + 1 + length d) (nth (signed (negative s) (worth a.bytes)) y)) f
+      ∙ ap (λ (l : Bool). reads (p + 1 + length d) (nth (signed (negative s) (worth a.bytes)) (signed l (worth d)))) h.1)
 
 -- ---- the whole argument
 -- white space and comments begin with no byte that begins numbers
@@ -334,8 +335,8 @@ unfolding whitespace_item is_whitespace comment_of text utf8 continuation pick o
 word-items l = (refl, refl)
 
 -- `even` is 2n, and `odd` is 2n+1
-words-read : (l : List ℕ) → (nth_of (text "even" ++ l) ≡ reads (length (text "even")) (record { a = pos 2; b = pos 0 }))
-    × (nth_of (text "odd" ++ l) ≡ reads (length (text "odd")) (record { a = pos 2; b = pos 1 }))
+words-read : (l : List ℕ) → (nth_of (text "even" ++ l) ≡ reads (length (text "even")) (nth (pos 2) (pos 0)))
+    × (nth_of (text "odd" ++ l) ≡ reads (length (text "odd")) (nth (pos 2) (pos 1)))
 unfolding nth_of worded or_else starts_with text utf8 continuation pick and is
 words-read l = (refl, refl)
 
@@ -399,30 +400,25 @@ argument-read even c r = unfold written_argument in (words-read (c.bytes ++ (asc
 argument-read odd c r = unfold written_argument in (words-read (c.bytes ++ (ascii.right_parenthesis ∷ r))).1
 argument-read (multiple s a) c r =
     ap nth_of (multiple-onto s a (c.bytes ++ (ascii.right_parenthesis ∷ r))) ∙ multiple-read c r s a
-    ∙ ap (λ (n : ℕ). reads n (record { a = signed (negative s) (worth a.bytes); b = pos 0 })) (multiple-length s a)
+    ∙ ap (λ (n : ℕ). reads n (nth (signed (negative s) (worth a.bytes)) (pos 0))) (multiple-length s a)
 argument-read (sum s a w m b) c r =
     ap nth_of (sum-onto s a w m b (c.bytes ++ (ascii.right_parenthesis ∷ r))) ∙ sum-read c r s a w m b
-    ∙ ap (λ (n : ℕ). reads n (record { a = signed (negative s) (worth a.bytes); b = signed m (worth b.count.bytes) })) (sum-length s a w m b)
+    ∙ ap (λ (n : ℕ). reads n (nth (signed (negative s) (worth a.bytes)) (signed m (worth b.count.bytes)))) (sum-length s a w m b)
 argument-read (number s b) c r =
     ap nth_of (number-onto s b (c.bytes ++ (ascii.right_parenthesis ∷ r))) ∙ number_read c r s b
-    ∙ ap (λ (n : ℕ). reads n (record { a = pos 0; b = signed (negative s) (worth b.count.bytes) })) (number-length s b)
+    ∙ ap (λ (n : ℕ). reads n (nth (pos 0) (signed (negative s) (worth b.count.bytes)))) (number-length s b)
 
 -- ---- `nth-child(`, the argument, and `)`
 -- a bracket, white space, an argument, white space and a bracket are read as the argument
-args_by : (t : List ℕ) (w n : ℕ) (x : Nth) (k : ℕ) → get_or t 0 0 ≡ ascii.left_parenthesis → 1 + skip_whitespace (drop 1 t) ≡ w → nth_of (drop w t) ≡ reads n x
+args_by : (t : List ℕ) (w n : ℕ) (x : Component) (k : ℕ) → get_or t 0 0 ≡ ascii.left_parenthesis → 1 + skip_whitespace (drop 1 t) ≡ w → nth_of (drop w t) ≡ reads n x
     → skip_whitespace (drop (w + n) t) ≡ k → get_or t (w + n + k) 0 ≡ ascii.right_parenthesis → nth_args_of t ≡ reads (w + n + k + 1) x
 unfolding nth_args_of on_outcome pick is
 args_by t w n x k o e p d b = rw (o, e, p, d, b)
 
--- the component that it is
-component-by : (t : List ℕ) (n : ℕ) (x : Nth) → nth_args_of t ≡ reads n x → nth_child_args t ≡ reads n (nth x.a x.b)
-unfolding nth_child_args outcome.behind on_outcome
-component-by t n x e = rw (e, zero-add n)
-
 -- so in brackets, with white space or none around it
 pub args_read : (b : Blanks) (x : Argument) (c : Blanks) (r : List ℕ)
-    → nth_child_args (ascii.left_parenthesis ∷ (b.bytes ++ (written_argument x ++ (c.bytes ++ (ascii.right_parenthesis ∷ r)))))
-    ≡ reads (1 + length b.bytes + length (written_argument x) + length c.bytes + 1) (nth (means_argument x).a (means_argument x).b)
+    → nth_args_of (ascii.left_parenthesis ∷ (b.bytes ++ (written_argument x ++ (c.bytes ++ (ascii.right_parenthesis ∷ r)))))
+    ≡ reads (1 + length b.bytes + length (written_argument x) + length c.bytes + 1) (means_argument x)
 args_read b x c r =
     let v = ascii.right_parenthesis ∷ r in
     let u = c.bytes ++ v in
@@ -431,10 +427,9 @@ args_read b x c r =
     let w = 1 + length b.bytes in
     let d : drop w t ≡ a ++ u = rest-on t 1 b.bytes (a ++ u) refl in
     let e : drop (w + length a) t ≡ u = rest-on t w a u d in
-    component-by t _ (means_argument x)
-    (args_by t w (length a) (means_argument x) (length c.bytes) refl (ap (λ (n : ℕ). 1 + n) (skips-blank b.bytes (a ++ u) b.blank (argument-item x u)))
+    args_by t w (length a) (means_argument x) (length c.bytes) refl (ap (λ (n : ℕ). 1 + n) (skips-blank b.bytes (a ++ u) b.blank (argument-item x u)))
     (ap nth_of d ∙ argument-read x c r) (ap skip_whitespace e ∙ skips-blank c.bytes v c.blank (round-item c r))
-    (byte-on t (w + length a + length c.bytes) ascii.right_parenthesis r (rest-on t (w + length a) c.bytes v e)))
+    (byte-on t (w + length a + length c.bytes) ascii.right_parenthesis r (rest-on t (w + length a) c.bytes v e))
 
 -- the name, before the bracket
 child-name : (l : List ℕ) → ident_of (text "nth-child" ++ (ascii.left_parenthesis ∷ l)) ≡ ok 9 (text "nth-child")
@@ -445,7 +440,7 @@ child-name l =
     refl (λ q. omega arith)
 
 -- so the pseudo class is read where its argument is
-pub pseudo-by : (l : List ℕ) (n : ℕ) (c : Component) → nth_child_args (ascii.left_parenthesis ∷ l) ≡ reads n c
+pub pseudo-by : (l : List ℕ) (n : ℕ) (c : Component) → nth_args_of (ascii.left_parenthesis ∷ l) ≡ reads n c
     → pseudo_class_of (ascii.colon ∷ (text "nth-child" ++ (ascii.left_parenthesis ∷ l))) ≡ reads (10 + n) c
 unfolding pseudo_class_of on_parsed outcome.behind on_outcome same_text text utf8 continuation pick and is
 pseudo-by l n c e = rw (child-name l, e)

@@ -1,7 +1,7 @@
 -- A selector of the grammar is read whole, and means what the grammar says.
 use mathlib.Core.Path.{◌≡◌, refl, ap, sym, subst, ◌∙◌}
 use mathlib.Core.Bool.{true, false}
-use mathlib.Core.List.{List, [], ◌∷◌, ◌++◌, map, append_assoc, append-nil, reverse, reverse-cons}
+use mathlib.Core.List.{List, [], ◌∷◌, ◌++◌, map, append_assoc, append-nil, reverse, reverse-append}
 use Prim.Native.Nat.{ℕ, zero, suc, ◌+◌, ◌≤◌}
 use native.Mathlib.Nat.{zero-add, add-zero}
 use native.Mathlib.Omega.{arith}
@@ -23,8 +23,9 @@ use Rattle.lexer.proofs.SyntaxWhitespace.{Newline, line-feed, carriage-return, f
 use Rattle.syntax.specs.Selector as syntax
 use Rattle.syntax.specs.Selector.{Component, PseudoElement}
 use Rattle.selectors.specs.Outcome.{reads, fails, on_outcome, behind, parsed, or_else}
-use Rattle.selectors.specs.Selector.{class_of, attr_of, hash_of, pseudo_class_of, marked, blank_of, component_of, components_of, components_from, some_of, with_element_of, without_element_of, body_of, is_descendant, without_blank, pseudo_of, pseudo_taken, selector_of}
-use Rattle.grammar.specs.Nth.{Blanks, Argument, written_argument, means_argument}
+use Rattle.selectors.specs.Selector.{class_of, attr_of, hash_of, pseudo_class_of, marked, blank_of, component_of, components_of, components_from, some_of, with_element_of, without_element_of, body_of, without_blank, pseudo_of, pseudo_taken, selector_of}
+use Rattle.selectors.proofs.BodyLaws.{is_descendant, blank-first}
+use Rattle.grammar.specs.Nth.{Blanks, Argument, even, odd, multiple, sum, number, written_argument, means_argument}
 use Rattle.grammar.proofs.Places.{differs}
 use Rattle.grammar.specs.Selectors.{Name, Spaces, Quoted, Simple, id, class, attribute, attribute_is, attribute_string, nth_child, Compound, typed, universal, untyped, Combinator, child, descendant, Complex, one, joined, written_simple, written_simples, written_compound, written_combinator, written, means_simple, means_compound, means_combinator, in_order, meaning, NoStarAtEnd, NoStarAtStart, first_compound, Agrees, written_pseudo}
 use Rattle.grammar.proofs.ComponentsRead.{Ended, marks, name-read, class-read, id-read, attribute-read, attribute-is-read, attribute-string-read, nth-child-read, element-read, child-read, star-read, blank-read}
@@ -229,7 +230,7 @@ simple-read (attribute_string n v) s h =
     ∙ ap (λ (m : ℕ). reads m (syntax.attribute_equal n.bytes v.body)) (length-attribute-string n v)
 simple-read (nth_child b x c) s h =
     ap component_of (nth-child-onto b x c s) ∙ nth-child-read b x c s
-    ∙ ap (λ (m : ℕ). reads m (syntax.nth (means_argument x).a (means_argument x).b)) (nth-child-length b x c)
+    ∙ ap (λ (m : ℕ). reads m (means_argument x)) (nth-child-length b x c)
 
 -- ---- simple selectors one behind the other
 -- where a name ends before s, it ends before simple selectors with s behind them
@@ -653,37 +654,45 @@ module _ {b t : List ℕ} (hb : Blank b) (ht : Stops t) where
   complex-body (joined k (descendant w) g) a = joined-body k (descendant w) g a.2 a.1 a.0
 
 -- ---- blanks at either end are dropped
--- a list of components does not end in a blank
-unfoldable Solid : List Component → Type 0
-Solid [] = ⊥
-Solid (c ∷ []) = is_descendant c ≡ false
-Solid (c ∷ d ∷ cs) = Solid (d ∷ cs)
+-- a first component that is no blank stays
+first-kept : (c : Component) (cs : List Component) → is_descendant c ≡ false → without_blank (c ∷ cs) ≡ c ∷ cs
+unfolding pick
+first-kept c cs e = blank-first c cs ∙ rw e
 
--- nothing is dropped from it
-kept : (cs : List Component) → Solid cs → without_blank cs ≡ cs
-unfolding Solid without_blank pick
-kept [] h = refl
-kept (c ∷ []) h = rw h
-kept (c ∷ d ∷ cs) h = ap (λ (r : List Component). c ∷ r) (kept (d ∷ cs) h)
+-- a list of components does not end in a blank
+record Solid (cs : List Component) : Type 0 where
+  front : List Component
+  last : Component
+  ends_in : cs ≡ front ++ last ∷ []
+  solid : is_descendant last ≡ false
+
+-- nothing is dropped from it, from its end on
+kept : (cs : List Component) → Solid cs → without_blank (reverse cs) ≡ reverse cs
+kept cs h = let e : reverse cs ≡ h.last ∷ reverse h.front = ap reverse h.ends_in ∙ reverse-append h.front (h.last ∷ []) in rw e (first-kept h.last (reverse h.front) h.solid)
 
 -- a blank behind it is
-dropped : (cs : List Component) → without_blank (cs ++ (syntax.descendant ∷ [])) ≡ cs
-unfolding without_blank is_descendant pick
-dropped [] = refl
-dropped (c ∷ []) = refl
-dropped (c ∷ d ∷ cs) = ap (λ (r : List Component). c ∷ r) (dropped (d ∷ cs))
+dropped : (cs : List Component) → without_blank (reverse (cs ++ (syntax.descendant ∷ []))) ≡ reverse cs
+unfolding without_blank
+dropped cs = ap without_blank (reverse-append cs (syntax.descendant ∷ []))
 
 -- the end of a list decides
-solid-behind : (cs : List Component) (d : Component) (ds : List Component) → Solid (d ∷ ds) → Solid (cs ++ (d ∷ ds))
-unfolding Solid
-solid-behind [] d ds h = h
-solid-behind (c ∷ []) d ds h = h
-solid-behind (c ∷ e ∷ cs) d ds h = solid-behind (e ∷ cs) d ds h
+solid-onto : (cs ds : List Component) → Solid ds → Solid (cs ++ ds)
+solid-onto cs ds h =
+    record { front = cs ++ h.front; last = h.last; ends_in = ap (λ (l : List Component). cs ++ l) h.ends_in ∙ sym (append_assoc cs h.front (h.last ∷ [])); solid = h.solid }
 
 -- so what the end left is dropped
-trail-dropped : (cs : List Component) {e : List Component} → Solid cs → Trail e → without_blank (cs ++ e) ≡ cs
-trail-dropped cs h no-blank = ap without_blank (append-nil cs) ∙ kept cs h
+trail-dropped : (cs : List Component) {e : List Component} → Solid cs → Trail e → without_blank (reverse (cs ++ e)) ≡ reverse cs
+trail-dropped cs h no-blank = ap (λ (l : List Component). without_blank (reverse l)) (append-nil cs) ∙ kept cs h
 trail-dropped cs h blank = dropped cs
+
+-- an argument of `:nth-child()` is no blank
+argument-solid : (x : Argument) → is_descendant (means_argument x) ≡ false
+unfolding means_argument is_descendant
+argument-solid even = refl
+argument-solid odd = refl
+argument-solid (multiple s a) = refl
+argument-solid (sum s a w m b) = refl
+argument-solid (number s b) = refl
 
 -- a selector of the grammar ends in no blank
 simple-solid : (p : Simple) → is_descendant (means_simple p) ≡ false
@@ -693,13 +702,12 @@ simple-solid (class n) = refl
 simple-solid (attribute n) = refl
 simple-solid (attribute_is n v) = refl
 simple-solid (attribute_string n v) = refl
-simple-solid (nth_child b x c) = refl
+simple-solid (nth_child b x c) = argument-solid x
 
 -- with simple selectors at its end
 simples-solid : (c : Component) (ps : List Simple) → is_descendant c ≡ false → Solid (c ∷ map means_simple ps)
-unfolding Solid
-simples-solid c [] h = h
-simples-solid c (p ∷ ps) h = simples-solid (means_simple p) ps (simple-solid p)
+simples-solid c [] h = record { front = []; last = c; ends_in = refl; solid = h }
+simples-solid c (p ∷ ps) h = solid-onto (c ∷ []) (means_simple p ∷ map means_simple ps) (simples-solid (means_simple p) ps (simple-solid p))
 
 -- of a compound selector
 compound-solid : (k : Compound) → Solid (means_compound k)
@@ -707,11 +715,6 @@ unfolding means_compound is_descendant
 compound-solid (typed n ps) = simples-solid (syntax.element n.bytes) ps refl
 compound-solid (universal ps) = simples-solid syntax.star ps refl
 compound-solid (untyped p ps) = simples-solid (means_simple p) ps (simple-solid p)
-
--- a list that ends in no blank does so behind any other
-solid-onto : (cs ds : List Component) → Solid ds → Solid (cs ++ ds)
-solid-onto cs [] h = absurd (unfold Solid in h)
-solid-onto cs (d ∷ ds) h = solid-behind cs d ds h
 
 -- no selector of the grammar ends in a blank
 complex-solid : (g : Complex) → Solid (in_order g)
@@ -739,16 +742,9 @@ unfolding in_order
 complex-headed (one k) = subst Headed (append-nil (means_compound k)) (compound-headed k [])
 complex-headed (joined k c g) = compound-headed k (means_combinator c ∷ in_order g)
 
--- one component that is no blank
-last-solid : (c : Component) → is_descendant c ≡ false → Solid (c ∷ [])
-unfolding Solid
-last-solid c h = h
-
--- so it ends in none the other way round
-reverse-solid : (cs : List Component) → Headed cs → Solid (reverse cs)
-reverse-solid cs h =
-    subst (λ (r : List Component). Solid (reverse r)) (sym h.heads)
-    (subst Solid (sym (reverse-cons h.head h.rest)) (solid-onto (reverse h.rest) (h.head ∷ []) (last-solid h.head h.solid)))
+-- so nothing is dropped at its start, whatever stands behind it
+head-kept : {cs : List Component} → Headed cs → (e : List Component) → without_blank (cs ++ e) ≡ cs ++ e
+head-kept h e = rw (h.heads) (first-kept h.head (h.rest ++ e) h.solid)
 
 -- ---- `selector_of`
 -- the components without blanks at both ends, and the pseudo element behind them, are the selector
@@ -764,7 +760,7 @@ stopped g b t p a hb ht e =
     let w = complex-body hb ht g a in
     selected (written g ++ (b ++ t)) (length (written g) + length b) (in_order g ++ w.trail) (reverse (in_order g)) p w.all
     (ap pseudo_of (drop-append-add (written g) (b ++ t) (length b) ∙ drop-append_seam b t) ∙ e)
-    (ap (λ (r : List Component). without_blank (reverse r)) (trail-dropped (in_order g) (complex-solid g) w.trails) ∙ kept (reverse (in_order g)) (reverse-solid (in_order g) (complex-headed g)))
+    (ap (λ (r : List Component). without_blank (reverse r)) (head-kept (complex-headed g) w.trail) ∙ trail-dropped (in_order g) (complex-solid g) w.trails)
 
 -- with white space or none behind it and then a byte that cannot continue it, it is read whole, with that white space, and means what it says
 pub selector-read : (g : Complex) (b t : List ℕ) → Agrees g → Blank b → Ends t

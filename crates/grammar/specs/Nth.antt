@@ -6,8 +6,9 @@ use Rattle.characters.specs.Literal.{text}
 use Rattle.lexer.specs.Number.{is_digit}
 use Rattle.lexer.proofs.SyntaxName.{Each}
 use Rattle.lexer.proofs.SyntaxWhitespace.{Blank}
+use Rattle.syntax.specs.Selector.{Component, nth}
 use Rattle.values.specs.Colour.{numeral}
-use Rattle.selectors.specs.Selector.{Nth, signed, greatest}
+use Rattle.selectors.specs.Selector.{signed, greatest}
 
 -- S*, with comments or none between
 pub record Blanks : Type 0 where
@@ -69,9 +70,9 @@ negative unsigned = false
 negative plus = false
 negative minus = true
 
-unfoldable pub means_argument : Argument → Nth
-means_argument even = record { a = pos 2; b = pos 0 }
-means_argument odd = record { a = pos 2; b = pos 1 }
-means_argument (multiple s a) = record { a = signed (negative s) (worth a.bytes); b = pos 0 }
-means_argument (sum s a w m b) = record { a = signed (negative s) (worth a.bytes); b = signed m (worth b.count.bytes) }
-means_argument (number s b) = record { a = pos 0; b = signed (negative s) (worth b.count.bytes) }
+unfoldable pub means_argument : Argument → Component
+means_argument even = nth (pos 2) (pos 0)
+means_argument odd = nth (pos 2) (pos 1)
+means_argument (multiple s a) = nth (signed (negative s) (worth a.bytes)) (pos 0)
+means_argument (sum s a w m b) = nth (signed (negative s) (worth a.bytes)) (signed m (worth b.count.bytes))
+means_argument (number s b) = nth (pos 0) (signed (negative s) (worth b.count.bytes))

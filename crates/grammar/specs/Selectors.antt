@@ -109,7 +109,7 @@ means_simple (class n) = syntax.class n.bytes
 means_simple (attribute n) = syntax.attribute n.bytes
 means_simple (attribute_is n v) = syntax.attribute_equal n.bytes v.bytes
 means_simple (attribute_string n v) = syntax.attribute_equal n.bytes v.body
-means_simple (nth_child b x c) = syntax.nth (means_argument x).a (means_argument x).b
+means_simple (nth_child b x c) = means_argument x
 
 unfoldable pub means_compound : Compound → List Component
 means_compound (typed n ps) = syntax.element n.bytes ∷ map means_simple ps

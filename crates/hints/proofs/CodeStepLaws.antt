@@ -15,7 +15,7 @@ use Rattle.page.specs.Path.{Path}
 use Rattle.compiled.specs.Decoded.{read, on_decoded, and_then, mapped}
 use Rattle.compiled.specs.Number.{group_values, ranged_at}
 use Rattle.compiled.specs.Text.{text_in}
-use Rattle.compiled.specs.Component.{is_mark, second_number_at, numbers_at, body_at, written_at, mark_of, named_of, component_in, component_at}
+use Rattle.compiled.specs.Component.{is_mark, numbers_at, body_at, written_at, mark_of, named_of, component_in, component_at}
 use Rattle.compiled.proofs.Following.{mapped-read}
 use Rattle.segments.specs.Segments.{Piece, test, direct, piece, tested}
 use Rattle.segments.specs.Sweep.{pair_at, pair_bytes, on_piece, piece_at, tests_pass, compound_at, with_tests, mark_bytes, marked_tests, sweep_at}
@@ -74,7 +74,7 @@ module _ (code : List ℕ) where
 
   -- an nth-child whose numbers are bytes without their top bits is a test too
   pub nth-there : (at a b : ℕ) → at + 2 < length code → get_or code at 0 ≡ nth_kind → a ≡ get_or code (at + 1) 0 → a < group_values → b ≡ get_or code (at + 2) 0 → b < group_values → TestThere code at 3
-  unfolding piece_at component_at written_at ranged_at and_then body_at is_mark numbers_at second_number_at component_in piece mapped pick or is
+  unfolding piece_at component_at written_at ranged_at and_then body_at is_mark numbers_at component_in piece mapped pick or is
   nth-there at a b l k ea fa eb fb =
       let x : at + 2 ≡ at + 1 + 1 = omega arith in
       let y : at + 1 + 1 + 1 ≡ at + 3 = omega arith in

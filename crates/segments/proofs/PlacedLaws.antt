@@ -12,7 +12,7 @@ use Rattle.syntax.specs.Style.{agent_origin, StyleDecl}
 use Rattle.compiled.specs.Decoded.{Decoded, read, on_decoded, mapped, counted}
 use Rattle.compiled.specs.Number.{number_at, ranged_at}
 use Rattle.compiled.specs.Component.{component_at}
-use Rattle.compiled.specs.Style.{value_at, valued_at, slot_at, started_at, style_numbers_at, style_at}
+use Rattle.compiled.specs.Style.{value_at, style_numbers_at, style_at}
 use Rattle.compiled.specs.Sheet.{CompiledSelector, head_at, styles_at, selector_at}
 use Rattle.compiled.specs.declared.sheets.Head.{Head}
 use Rattle.compiled.proofs.Bounds.{Reaches, reaches_end, reaches-less, reaches_then, reaches-mapped, reaches-counted, number-reaches, ranged-reaches, head-reaches, style-reaches, styles-reach, value-reaches}
@@ -33,7 +33,7 @@ module _ (t : List ℕ) where
 
   -- whether it is important, its start, and its slot
   style-long : (i : ℕ) → Reaches 2 (length t) i (style_at t i)
-  unfolding style_at style_numbers_at started_at slot_at valued_at
+  unfolding style_at style_numbers_at
   style-long i =
       reaches-mapped (length t) (style_in t) (style_numbers_at t i) 2 i
       (reaches_then (length t) (ranged_at t i 0 1) _ 1 1 i (ranged-reaches t i 0 1)

@@ -12,10 +12,10 @@ use Rattle.syntax.specs.Selector.{none, after}
 use Rattle.syntax.specs.Style.{agent_origin, author_origin, StyleDecl}
 use Rattle.page.specs.Path.{Path}
 use Rattle.matching.specs.Matches.{matches}
-use Rattle.compiled.specs.Decoded.{Decoded, read, fault, on_decoded, and_then, counted}
+use Rattle.compiled.specs.Decoded.{Decoded, read, fault, on_decoded, and_then, mapped, counted}
 use Rattle.compiled.specs.Style.{style_at}
 use Rattle.compiled.specs.Number.{number_at, ranged_at}
-use Rattle.compiled.specs.Sheet.{CompiledSelector, count_at, pseudo_at, head_at, styles_at, selector_at, selectors_at, decode}
+use Rattle.compiled.specs.Sheet.{CompiledSelector, head_at, styles_at, selector_at, selectors_at, decode}
 use Rattle.compiled.specs.declared.sheets.Head.{Head}
 use Rattle.compiled.proofs.Walking.{steps, source, counted_none, counted-length, selector-steps, selectors-first, selectors-none, sheet-steps}
 use Rattle.compiled.proofs.Following.{selector-made}
@@ -46,11 +46,16 @@ ranged-lower t i low least most n v l e =
         let d = a.1 in
         (rw f (sym (pick_true _ _ _ _ (within-yes x low most (omega arith) d) refl) ∙ p), omega arith)
 
+-- the pseudo element and the count that are read behind an origin
+abbrev behind_origin : List ℕ → ℕ → ℕ → Decoded Head
+behind_origin t m o =
+    and_then (ranged_at t m (pseudo_number none) (pseudo_number after)) (λ k pseudo.
+    mapped (λ count. record { origin = o; pseudo = pseudo; count = count }) (number_at t k))
+
 -- the origin that is read
-head-origin : (t : List ℕ) (o m n : ℕ) (h : Head) → pseudo_at t o m ≡ read n h → h.origin ≡ o
-unfolding pseudo_at count_at
+head-origin : (t : List ℕ) (o m n : ℕ) (h : Head) → behind_origin t m o ≡ read n h → h.origin ≡ o
 head-origin t o m n h e =
-    let w = steps (ranged_at t m (pseudo_number none) (pseudo_number after)) (λ k pseudo. count_at t o pseudo k) n h e in
+    let w = steps (ranged_at t m (pseudo_number none) (pseudo_number after)) _ n h e in
     let v = source (λ (count : ℕ). record { origin = o; pseudo = w.value; count = count }) (number_at t w.place) n h w.rest in
     ap (λ (x : Head). x.origin) v.made
 
@@ -58,7 +63,7 @@ head-origin t o m n h e =
 pub head-lower : (t : List ℕ) (least i n : ℕ) (h : Head) → agent_origin ≤ least → head_at t least i ≡ read n h → (head_at t agent_origin i ≡ read n h) × (least ≤ h.origin)
 unfolding head_at and_then
 head-lower t least i n h l e =
-    let w = steps (ranged_at t i least author_origin) (λ m o. pseudo_at t o m) n h e in
+    let w = steps (ranged_at t i least author_origin) (behind_origin t) n h e in
     let r = ranged-lower t i agent_origin least author_origin w.place w.value l w.first in
     let o = head-origin t w.value w.place n h w.rest in
     let a = r.1 in

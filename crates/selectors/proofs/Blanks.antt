@@ -10,9 +10,9 @@ use Rattle.syntax.specs.RuleLayout.{descendant_kind, component_kind, component_t
 use Rattle.syntax.specs.Selector.{Component, star, class, element, hash, child, descendant, nth, attribute, attribute_equal}
 use Rattle.syntax.specs.Stream.{rows_many, texts_many}
 use Rattle.syntax.proofs.Streams.{texts-append}
-use Rattle.selectors.specs.Selector.{is_descendant, without_blank, without_first}
+use Rattle.selectors.specs.Selector.{without_blank}
 use Rattle.selectors.specs.Components.{kept_of}
-use Rattle.selectors.proofs.BodyLaws.{blank-last, without-first, no_end, first-none}
+use Rattle.selectors.proofs.BodyLaws.{is_descendant, without_last, kept-is, blank-last, without-first, no_end, first-none}
 use Rattle.selectors.proofs.Gathering.{one-text}
 
 -- by the kind of its row
@@ -56,18 +56,15 @@ module _ (c : Component) (f : ℕ) where
   module _ (start : Bool) where
     -- none is kept of a blank at the start, and one of any other component
     pub kept-count : pick start (pick (is (component_kind c) descendant_kind) 0 1) 1 ≡ length (kept_of start c)
-    unfolding kept_of
-    kept-count = rw (blank-told c) (by-kept start (is_descendant c) refl).0
+    kept-count = rw (kept-is start c, blank-told c) (by-kept start (is_descendant c) refl).0
 
     -- the row of one that is kept
     pub kept_row : pick (is (length (kept_of start c)) 0) [] (component_row f c) ≡ rows_many component_row component_text f (kept_of start c)
-    unfolding kept_of
-    kept_row = (by-kept start (is_descendant c) refl).1
+    kept_row = rw (kept-is start c) (by-kept start (is_descendant c) refl).1
 
     -- the text, kept or not
     pub kept-text : texts_many component_text (kept_of start c) ≡ component_text c
-    unfolding kept_of
-    kept-text = (by-kept start (is_descendant c) refl).2
+    kept-text = rw (kept-is start c) (by-kept start (is_descendant c) refl).2
 
 -- ---- the last of a list
 pub data Ended (ds : List Component) : Type 0 where
@@ -92,7 +89,7 @@ by_end xs c true e = rw (append-nil xs) (sym (texts-append component_row compone
 by_end xs c false e = refl
 
 -- dropping a blank at the end changes no texts
-pub end-texts : (ds : List Component) → Ended ds → component_texts (without_blank ds) ≡ component_texts ds
+pub end-texts : (ds : List Component) → Ended ds → component_texts (without_last ds) ≡ component_texts ds
 end-texts ds (empty e) = rw e (ap component_texts no_end)
 end-texts ds (ends xs c e) = rw e (ap component_texts (blank-last xs c) ∙ by_end xs c (is_descendant c) refl)
 
@@ -102,6 +99,6 @@ unfolding component_texts texts_many
 kept-texts c cs = texts-append component_row component_text (kept_of true c) cs ∙ ap (λ (l : List ℕ). l ++ texts_many component_text cs) (kept-text c 0 true)
 
 -- dropping a blank at the start changes no texts
-pub first-texts : (cs : List Component) → component_texts (without_first cs) ≡ component_texts cs
+pub first-texts : (cs : List Component) → component_texts (without_blank cs) ≡ component_texts cs
 first-texts [] = ap component_texts first-none
 first-texts (c ∷ cs) = ap component_texts (without-first c cs) ∙ kept-texts c cs

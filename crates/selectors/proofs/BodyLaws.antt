@@ -1,7 +1,7 @@
 -- The components of a selector as the code reads them: a first one, and more behind it; a blank at either end is dropped.
 use mathlib.Core.Path.{◌≡◌, refl, sym, ap, ◌∙◌}
 use mathlib.Core.Bool.{Bool, true, false}
-use mathlib.Core.List.{List, [], ◌∷◌, ◌++◌, reverse, reverse-cons, reverse-append, reverse-reverse, append-nil}
+use mathlib.Core.List.{List, [], ◌∷◌, ◌++◌, reverse, reverse-append, reverse-reverse}
 use Prim.Native.Nat.{ℕ, zero, suc, ◌+◌}
 use native.Mathlib.Omega.{arith}
 use lib.ListN.{length, drop, length-drop}
@@ -9,21 +9,61 @@ use Rattle.combinators.specs.Choice.{pick, is}
 use Rattle.combinators.specs.Parsed.{Parsed, ok, err, on_parsed}
 use Rattle.combinators.proofs.Rules.{is-no, pick_true}
 use Rattle.lexer.specs.Name.{ident_of}
-use Rattle.syntax.specs.Selector.{Component, element}
+use Rattle.syntax.specs.Selector.{Component, star, class, element, hash, child, descendant, nth, attribute, attribute_equal}
 use Rattle.selectors.specs.Outcome.{Outcome, reads, fails, panics, on_outcome, behind, parsed, or_else}
-use Rattle.selectors.specs.Selector.{component_of, components_of, components_from, some_of, with_element_of, without_element_of, body_of, is_descendant, without_blank, without_first}
+use Rattle.selectors.specs.Selector.{component_of, components_of, components_from, some_of, with_element_of, without_element_of, body_of, without_blank}
 use Rattle.selectors.specs.Components.{first_component, started_of, kept_of}
 use Rattle.selectors.proofs.AllLaws.{reads-no, panics-no, behind-never, then_never}
 use Rattle.selectors.proofs.ComponentEnds.{component-some, none_left, enough_turns}
 use Rattle.selectors.proofs.ComponentLaws.{or-fails}
 
--- ---- a blank at the end
--- of components with one more behind them, that last one is dropped where it is a blank
-pub blank-last : (xs : List Component) (c : Component) → without_blank (xs ++ c ∷ []) ≡ xs ++ pick (is_descendant c) [] (c ∷ [])
+-- ---- a blank at the start
+-- whether a component is a blank
+unfoldable pub is_descendant : Component → Bool
+is_descendant descendant = true
+is_descendant _ = false
+
+-- of components with a first one, that first one is dropped where it is a blank
+pub blank-first : (c : Component) (cs : List Component) → without_blank (c ∷ cs) ≡ pick (is_descendant c) cs (c ∷ cs)
+unfolding without_blank is_descendant pick
+blank-first star cs = refl
+blank-first (class t) cs = refl
+blank-first (element t) cs = refl
+blank-first (hash t) cs = refl
+blank-first child cs = refl
+blank-first descendant cs = refl
+blank-first (nth a b) cs = refl
+blank-first (attribute n) cs = refl
+blank-first (attribute_equal n v) cs = refl
+
+-- of no components none is dropped
+pub first-none : without_blank [] ≡ []
 unfolding without_blank
-blank-last [] c = refl
-blank-last (x ∷ []) c = refl
-blank-last (x ∷ y ∷ xs) c = ap (λ (cs : List Component). x ∷ cs) (blank-last (y ∷ xs) c)
+first-none = refl
+
+-- what is kept of a component: nothing of a blank at the start, and else the component
+pub kept-is : (start : Bool) (c : Component) → kept_of start c ≡ pick start (pick (is_descendant c) [] (c ∷ [])) (c ∷ [])
+unfolding kept_of
+kept-is start c = ap (λ (cs : List Component). pick start cs (c ∷ [])) (blank-first c [])
+
+-- what is kept of a first component
+kept-first : (c : Component) → kept_of true c ≡ pick (is_descendant c) [] (c ∷ [])
+kept-first c = kept-is true c ∙ sym (pick_true _ _ _ _ refl refl)
+
+-- a component or none stands in front of others
+in_front : (b : Bool) (c : Component) (cs : List Component) → pick b cs (c ∷ cs) ≡ pick b [] (c ∷ []) ++ cs
+unfolding pick
+in_front true c cs = refl
+in_front false c cs = refl
+
+-- what is kept of a first component stands in front of the others
+pub without-first : (c : Component) (cs : List Component) → without_blank (c ∷ cs) ≡ kept_of true c ++ cs
+without-first c cs = blank-first c cs ∙ in_front (is_descendant c) c cs ∙ ap (λ (xs : List Component). xs ++ cs) (sym (kept-first c))
+
+-- ---- a blank at the end
+-- components without a blank at the end
+unfoldable pub without_last : List Component → List Component
+without_last cs = reverse (without_blank (reverse cs))
 
 -- one component or none is the same from either end
 reverse-one : (b : Bool) (c : Component) → reverse (pick b [] (c ∷ [])) ≡ pick b [] (c ∷ [])
@@ -31,65 +71,19 @@ unfolding pick
 reverse-one true c = refl
 reverse-one false c = refl
 
--- what is kept of a first component
-kept-first : (c : Component) → kept_of true c ≡ pick (is_descendant c) [] (c ∷ [])
-unfolding kept_of
-kept-first c = sym (pick_true _ _ _ _ refl refl)
+-- of components with a last one, that last one is dropped where it is a blank
+pub blank-last : (xs : List Component) (c : Component) → without_last (xs ++ c ∷ []) ≡ xs ++ pick (is_descendant c) [] (c ∷ [])
+unfolding without_last
+blank-last xs c =
+    ap (λ (cs : List Component). reverse (without_blank cs)) (reverse-append xs (c ∷ []))
+    ∙ ap reverse (without-first c (reverse xs))
+    ∙ reverse-append (kept_of true c) (reverse xs)
+    ∙ rw (kept-first c, reverse-one (is_descendant c) c, reverse-reverse xs)
 
--- ---- a blank at the start
--- of components with a first one, that first one is dropped where it is a blank
-pub without-first : (c : Component) (cs : List Component) → without_first (c ∷ cs) ≡ kept_of true c ++ cs
-unfolding without_first
-without-first c cs =
-    ap (λ (xs : List Component). reverse (without_blank xs)) (reverse-cons c cs)
-    ∙ ap reverse (blank-last (reverse cs) c)
-    ∙ reverse-append (reverse cs) (pick (is_descendant c) [] (c ∷ []))
-    ∙ rw (reverse-one (is_descendant c) c, reverse-reverse cs, kept-first c)
-
--- one component alone is dropped at the start where it is a blank
-first_one : (c : Component) → without_first (c ∷ []) ≡ pick (is_descendant c) [] (c ∷ [])
-first_one c = without-first c [] ∙ append-nil (kept_of true c) ∙ kept-first c
-
--- of no components none is dropped at the start
-pub first-none : without_first [] ≡ []
-unfolding without_first without_blank
-first-none = refl
-
--- one component alone is dropped at the end where it is a blank
-one_end : (c : Component) → without_blank (c ∷ []) ≡ pick (is_descendant c) [] (c ∷ [])
-unfolding without_blank
-one_end c = refl
-
--- dropping at the end leaves the first of two or more as it is
-more-end : (c d : Component) (cs : List Component) → without_blank (c ∷ d ∷ cs) ≡ c ∷ without_blank (d ∷ cs)
-unfolding without_blank
-more-end c d cs = refl
-
--- of no components nothing is dropped
-pub no_end : without_blank [] ≡ []
-unfolding without_blank
+-- of no components none is dropped at the end
+pub no_end : without_last [] ≡ []
+unfolding without_last without_blank
 no_end = refl
-
--- dropped at one end and then at the other
-either_end : (b : Bool) (c : Component) → without_first (c ∷ []) ≡ without_blank (c ∷ []) → without_first (pick b [] (c ∷ [])) ≡ without_blank (pick b [] (c ∷ []))
-unfolding pick
-either_end true c e = first-none ∙ sym no_end
-either_end false c e = e
-
--- a component in front of others, kept or not, changes nothing of what is dropped at the end
-longer : (b : Bool) (c d : Component) (cs : List Component) → pick b [] (c ∷ []) ++ without_blank (d ∷ cs) ≡ without_blank (pick b [] (c ∷ []) ++ d ∷ cs)
-unfolding pick without_blank
-longer true c d cs = refl
-longer false c d cs = refl
-
--- a blank dropped at the start and then at the end, or the other way round
-pub both_ends : (cs : List Component) → without_first (without_blank cs) ≡ without_blank (without_first cs)
-both_ends [] = ap without_first no_end ∙ first-none ∙ sym no_end ∙ ap without_blank (sym first-none)
-both_ends (c ∷ []) =
-    ap without_first (one_end c) ∙ either_end (is_descendant c) c (first_one c ∙ sym (one_end c)) ∙ ap without_blank (sym (first_one c))
-both_ends (c ∷ d ∷ cs) =
-    ap without_first (more-end c d cs) ∙ without-first c (without_blank (d ∷ cs)) ∙ rw (kept-first c) (longer (is_descendant c) c d cs)
-    ∙ ap without_blank (sym (without-first c (d ∷ cs)))
 
 -- ---- reading components never fails: where none reads there are none
 -- reading components, in any number of turns, reads or panics
@@ -103,7 +97,7 @@ unfoldable pub first_behind : Outcome Component → (ℕ → Outcome (List Compo
 first_behind o more = on_outcome o (λ n c. behind n (more n) (λ cs. kept_of true c ++ cs)) fails (λ p. panics p)
 
 -- a reading behind nothing, without a blank at the start
-behind-first : (n : ℕ) (o : Outcome (List Component)) (c : Component) → behind 0 (behind n o (λ cs. c ∷ cs)) without_first ≡ behind n o (λ cs. kept_of true c ++ cs)
+behind-first : (n : ℕ) (o : Outcome (List Component)) (c : Component) → behind 0 (behind n o (λ cs. c ∷ cs)) without_blank ≡ behind n o (λ cs. kept_of true c ++ cs)
 unfolding behind on_outcome
 behind-first n (reads m cs) c =
     let e : 0 + (n + m) ≡ n + m = omega arith in
@@ -149,12 +143,12 @@ without-panic [] p e = absurd (panics-no (sym e ∙ none_left))
 without-panic (x ∷ t) p e = rw e
 
 -- where nothing reads, nothing reads without a blank at the start
-nothing-behind : behind {A = List Component} 0 fails without_first ≡ fails
+nothing-behind : behind {A = List Component} 0 fails without_blank ≡ fails
 unfolding behind on_outcome
 nothing-behind = refl
 
 -- where the crate panics, it panics without a blank at the start at the same byte
-panic-behind : (p : ℕ) → behind {A = List Component} 0 (panics p) without_first ≡ panics p
+panic-behind : (p : ℕ) → behind {A = List Component} 0 (panics p) without_blank ≡ panics p
 unfolding behind on_outcome
 panic-behind p =
     let e : 0 + p ≡ p = omega arith in
@@ -167,11 +161,11 @@ unfolding first_behind on_outcome
 element-behind n name more = refl
 
 -- components without a type selector are the first one that reads, and those behind it
-by_first : (t : List ℕ) (o : Outcome Component) → component_of t ≡ o → behind 0 (without_element_of t) without_first ≡ first_behind o (λ n. components_from (drop n t))
+by_first : (t : List ℕ) (o : Outcome Component) → component_of t ≡ o → behind 0 (without_element_of t) without_blank ≡ first_behind o (λ n. components_from (drop n t))
 unfolding first_behind on_outcome
-by_first t (reads n c) e = ap (λ (o : Outcome (List Component)). behind 0 o without_first) (without-read t n c e) ∙ behind-first n (components_from (drop n t)) c
-by_first t fails e = ap (λ (o : Outcome (List Component)). behind 0 o without_first) (without-none t e) ∙ nothing-behind
-by_first t (panics p) e = ap (λ (o : Outcome (List Component)). behind 0 o without_first) (without-panic t p e) ∙ panic-behind p
+by_first t (reads n c) e = ap (λ (o : Outcome (List Component)). behind 0 o without_blank) (without-read t n c e) ∙ behind-first n (components_from (drop n t)) c
+by_first t fails e = ap (λ (o : Outcome (List Component)). behind 0 o without_blank) (without-none t e) ∙ nothing-behind
+by_first t (panics p) e = ap (λ (o : Outcome (List Component)). behind 0 o without_blank) (without-panic t p e) ∙ panic-behind p
 
 -- nor does it fail behind a first component
 never-behind : (n : ℕ) (t : List ℕ) (c : Component) → behind n (components_from t) (λ cs. c ∷ cs) ≡ fails → ⊥

@@ -22,12 +22,11 @@ use Rattle.syntax.specs.RuleLayout.{component_first, component_second, component
 use Rattle.syntax.specs.Selector.{Component, star, class, element, hash, child, descendant, nth, attribute, attribute_equal}
 use Rattle.syntax.specs.Signed.{signed_number}
 use Rattle.selectors.specs.Outcome.{Outcome, reads, fails, panics, parsed, or_else}
-use Rattle.selectors.specs.Selector as selector
 use Rattle.selectors.specs.Selector.{class_of, hash_of, closed, value_of, attr_of, nth_args_of, pseudo_class_of, marked, blank_of, component_of}
 use Rattle.selectors.specs.NthAnswer.{greatest_signed}
 use Rattle.selectors.specs.Components.{first_component, next_of}
 use Rattle.selectors.proofs.AllLaws.{Where, where-else}
-use Rattle.selectors.proofs.NthKeeps.{NthKeeps, args-keeps}
+use Rattle.selectors.proofs.NthKeeps.{Numbered, NthKeeps, args-keeps}
 use Rattle.selectors.proofs.AttrLaws.{quoted-keeps}
 use Rattle.selectors.proofs.PseudoLaws.{args, args_read, args-fail, args-panic}
 
@@ -150,11 +149,14 @@ attr-keeps s =
     pick-holds (ComponentKeeps s) _ _ _
     (λ _. on-holds (ComponentKeeps s) (ident_of (drop 1 s)) _ _ (λ n b e. named-keeps s n b (ident-fits (drop 1 s) n b e)) (λ _. tt)) (λ _. tt)
 
--- the arguments of `nth-child` keep to the bounds as a component
-args-component : (s : List ℕ) (k : ℕ) → 1 ≤ k → k ≤ length s → (o : Outcome selector.Nth) → nth_args_of (drop k s) ≡ o → NthKeeps (drop k s) o → ComponentKeeps s (args (drop k s) k)
+-- an+b has no text, and its numbers fit
+nth-keeps : (s : List ℕ) (n : ℕ) (c : Component) → Numbered c → 1 ≤ n → n ≤ length s → Fits s n (component_text c) × Small c
 unfolding component_text
-args-component s k h l (reads n x) e m =
-    rw (args_read (drop k s) k n x e) (short-fits s (k + n) [] (omega arith) (omega (arith, m.0, length-drop k s)) (omega arith), (m.1, m.2))
+nth-keeps s n c h l m = rw h.is-nth (short-fits s n [] l m (omega arith), (h.first_fits, h.second_fits))
+
+-- the arguments of `nth-child` keep to the bounds as a component
+args-component : (s : List ℕ) (k : ℕ) → 1 ≤ k → k ≤ length s → (o : Outcome Component) → nth_args_of (drop k s) ≡ o → NthKeeps (drop k s) o → ComponentKeeps s (args (drop k s) k)
+args-component s k h l (reads n c) e m = rw (args_read (drop k s) k n c e) (nth-keeps s (k + n) c m.1 (omega arith) (omega (arith, m.0, length-drop k s)))
 args-component s k h l fails e m = rw (args-fail (drop k s) k e) tt
 args-component s k h l (panics p) e m = rw (args-panic (drop k s) k p e) (omega (arith, length-drop k s))
 

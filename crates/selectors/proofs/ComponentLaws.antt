@@ -10,7 +10,7 @@ use lib.ListN.{length, get_or, take, drop}
 use lib.Seq.{sets}
 use lib.Pointwise.{pointwise}
 use lib.Dec.{eqb}
-use Rattle.std.specs.Prelude.{Option, Some, None, is_some, IfSome, MatchOption, Result, Ok, ltb, ◌&&◌}
+use Rattle.std.specs.Prelude.{Option, Some, None, is_some, IfSome, MatchOption, Result, Ok, Err, ltb, ◌&&◌}
 use Rattle.std.specs.Borrow.{Bor}
 use Rattle.std.specs.Bool.{then_some}
 use Rattle.std.proofs.lemmas.Bool.{ltb-true, ltb-false}
@@ -55,7 +55,7 @@ unfolding component_answer written on_outcome
 left-none o e st fill = rw (← e) (refl, refl)
 
 -- a component is answered as the code has it
-answer-bare : (o : Outcome syntax.Component) (n : ℕ) (c : syntax.Component) (d : declared.Component) → component_coded c ≡ d → reads n c ≡ o → Ok (Some (read_as n d)) ≡ component_answer o
+pub answer-bare : (o : Outcome syntax.Component) (n : ℕ) (c : syntax.Component) (d : declared.Component) → component_coded c ≡ d → reads n c ≡ o → Ok (Some (read_as n d)) ≡ component_answer o
 unfolding component_answer on_outcome
 answer-bare o n c d b e = rw (← e, b)
 
@@ -68,6 +68,33 @@ bare = (refl, refl, refl)
 pub answer-none : (o : Outcome syntax.Component) → fails ≡ o → Ok None ≡ component_answer o
 unfolding component_answer on_outcome
 answer-none o e = rw (← e)
+
+-- ---- what an answer says of the component
+pub record Read (o : Outcome syntax.Component) (n : ℕ) (d : declared.Component) : Type 0 where
+  pub component : syntax.Component
+  pub reads-it : o ≡ reads n component
+  pub coded : d ≡ component_coded component
+
+-- an answer with a component says that it was read
+pub read_by : (o : Outcome syntax.Component) (got : Taken declared.Component) → Ok (Some got) ≡ component_answer o → Read o got.taken got.value
+unfolding component_answer on_outcome
+read_by (reads m c) got e = let q : got.taken ≡ m = cc in record { component = c; reads-it = rw q; coded = cc }
+read_by fails got e = absurd (let z : ◌≡◌ {A = ℕ} 0 1 = cc in omega arith)
+read_by (panics p) got e = absurd (let z : ◌≡◌ {A = ℕ} 0 1 = cc in omega arith)
+
+-- an answer without a component says that none reads
+pub fails_by : (o : Outcome syntax.Component) → Ok None ≡ component_answer o → o ≡ fails
+unfolding component_answer on_outcome
+fails_by (reads m c) e = absurd (let z : ◌≡◌ {A = ℕ} 0 1 = cc in omega arith)
+fails_by fails e = refl
+fails_by (panics p) e = absurd (let z : ◌≡◌ {A = ℕ} 0 1 = cc in omega arith)
+
+-- an answer with a panic says where the crate panics
+pub panics-by : (o : Outcome syntax.Component) (p : Panic) → Err p ≡ component_answer o → o ≡ panics p.place
+unfolding component_answer on_outcome
+panics-by (reads m c) p e = absurd (let z : ◌≡◌ {A = ℕ} 0 1 = cc in omega arith)
+panics-by fails p e = absurd (let z : ◌≡◌ {A = ℕ} 0 1 = cc in omega arith)
+panics-by (panics q) p e = let h : p.place ≡ q = cc in rw h
 
 -- ---- the first of two that reads or panics
 module _ {A : Type 0} (o o' : Outcome A) where

@@ -18,84 +18,44 @@ use Rattle.combinators.proofs.Lists.{rest, first, byte-there}
 use Rattle.combinators.proofs.Rules.{pick_true, pick-false, told, and_both, and_left, and_right}
 use Rattle.characters.specs.Literal.{text}
 use Rattle.characters.specs.Utf8.{utf8}
-use Rattle.lexer.specs.Number.{digits}
+use Rattle.lexer.specs.Number.{sign, digits}
 use Rattle.lexer.specs.Whitespace.{skip_whitespace}
+use Rattle.syntax.specs.Selector.{Component, nth}
 use Rattle.syntax.specs.Signed.{signed_number}
-use Rattle.std.specs.Prelude.{Option, Some, None, Result, Ok, Err}
+use Rattle.std.specs.Prelude.{Some, None, Ok, Err}
 use Rattle.selectors.specs.Outcome.{Outcome, reads, fails, panics, on_outcome, or_else}
-use Rattle.selectors.specs.Selector as selector
-use Rattle.selectors.specs.Selector.{is_minus, is_sign, sign_taken, signed, greatest, digits_worth, converted, both_of, just_a, just_b, worded, nth_of, nth_args_of}
-use Rattle.selectors.specs.NthAnswer.{nth_answer, integer_by, integer_of}
-use Rattle.selectors.specs.declared.nth.Nth.{Nth}
-use Rattle.selectors.specs.declared.readings.Panic.{Panic}
+use Rattle.selectors.specs.Selector.{is_minus, is_sign, signed, greatest, converted, both_of, just_a, just_b, worded, nth_of, nth_args_of}
+use Rattle.selectors.specs.ComponentAnswer.{component_coded, component_answer}
+use Rattle.selectors.specs.NthAnswer.{integer_by, integer_of}
+use Rattle.selectors.specs.declared.components.Component as declared
+use Rattle.selectors.specs.declared.components.Component.TheVariants as code
 use Rattle.selectors.specs.declared.nth.SignedInteger.{SignedInteger}
-use Rattle.selectors.proofs.NthNumbers.{number_fits, number-over, goes_on, stops}
+use Rattle.selectors.proofs.NthNumbers.{digits_worth, integer-is, number_fits, number-over, goes_on, stops}
 use Rattle.selectors.proofs.NthKeeps.{nth-keeps}
+use Rattle.selectors.proofs.ComponentLaws.{ComponentAnswer, read_as, answer-bare, answer-none, Read, read_by, fails_by, panics-by}
 use Rattle.selectors.proofs.ReadingLaws.{panic_at}
 use Rattle.selectors.proofs.AllLaws.{where-read, where-panics}
 
 -- the bytes that an argument takes and its two numbers, as they are answered
-abbrev pub numbers : ℕ → ℕ → ℕ → Taken Nth
-numbers n a b = record { taken = n; value = record { a = a; b = b } }
+abbrev pub numbers : ℕ → ℕ → ℕ → Taken declared.Component
+numbers n a b = read_as n (code.Nth a b)
 
--- the bounds of what was read
-module _ (o : Outcome selector.Nth) where
-  -- an argument that reads is answered with its bytes and its two numbers
-  answer-nth : (n : ℕ) (x y : ℤ) → reads n (record { a = x; b = y }) ≡ o → (a b : ℕ) → a ≡ signed_number x → b ≡ signed_number y → Ok (Some (numbers n a b)) ≡ nth_answer o
-  unfolding nth_answer on_outcome
-  answer-nth n x y e a b ea eb = rw (← e, ea, eb)
+-- an argument that reads is answered with its bytes and its two numbers
+answer-nth : (o : Outcome Component) (n : ℕ) (x y : ℤ) → reads n (nth x y) ≡ o → (a b : ℕ) → a ≡ signed_number x → b ≡ signed_number y → Ok (Some (numbers n a b)) ≡ component_answer o
+unfolding component_coded
+answer-nth o n x y e a b ea eb = answer-bare o n (nth x y) (code.Nth a b) (rw (ea, eb)) e
 
-  -- one that does not is answered as none
-  answer-none : fails ≡ o → Ok None ≡ nth_answer o
-  unfolding nth_answer on_outcome
-  answer-none e = rw (← e)
-
-  -- one where the crate panics is answered with the place
-  answer-panic : (p : ℕ) → panics p ≡ o → Err (panic_at p) ≡ nth_answer o
-  unfolding nth_answer on_outcome
-  answer-panic p e = rw (← e)
-
--- what was read, from the answer
-pub record Read (o : Outcome selector.Nth) (n a b : ℕ) : Type 0 where
-  pub value : selector.Nth
-  pub reading : o ≡ reads n value
-  pub first-is : a ≡ signed_number value.a
-  pub second_is : b ≡ signed_number value.b
-
--- an answer with numbers says that the argument was read
-pub nth_read : (o : Outcome selector.Nth) (got : Taken Nth) → Ok (Some got) ≡ nth_answer o → Read o got.taken got.value.a got.value.b
-unfolding nth_answer on_outcome
-nth_read (reads i x) got e =
-    let g : got ≡ numbers i (signed_number x.a) (signed_number x.b) = cc in
-    record {
-      value = x;
-      reading = rw g;
-      first-is = ap (λ (r : Taken Nth). r.value.a) g;
-      second_is = ap (λ (r : Taken Nth). r.value.b) g;
-    }
-nth_read fails got e = absurd (let z : ◌≡◌ {A = ℕ} 0 1 = cc in omega arith)
-nth_read (panics p) got e = absurd (let z : ◌≡◌ {A = ℕ} 0 1 = cc in omega arith)
-
--- an answer without says that it was not
-pub not-read : (o : Outcome selector.Nth) → Ok None ≡ nth_answer o → o ≡ fails
-unfolding nth_answer on_outcome
-not-read (reads i x) e = absurd (let z : ◌≡◌ {A = ℕ} 0 1 = cc in omega arith)
-not-read fails e = refl
-not-read (panics p) e = absurd (let z : ◌≡◌ {A = ℕ} 0 1 = cc in omega arith)
-
--- an answer with a panic says where the crate panics
-pub panic-read : (o : Outcome selector.Nth) (p : Panic) → Err p ≡ nth_answer o → o ≡ panics p.place
-unfolding nth_answer on_outcome
-panic-read (reads i x) p e = absurd (let z : ◌≡◌ {A = ℕ} 0 1 = cc in omega arith)
-panic-read fails p e = absurd (let z : ◌≡◌ {A = ℕ} 0 1 = cc in omega arith)
-panic-read (panics i) p e = let q : p.place ≡ i = cc in rw q
+-- one where the crate panics is answered with the place
+pub answer-panic : (o : Outcome Component) (p : ℕ) → panics p ≡ o → Err (panic_at p) ≡ component_answer o
+unfolding component_answer on_outcome
+answer-panic o p e = rw (← e)
 
 -- the bytes of the first sign, and of the digits behind it
 abbrev i-of : List ℕ → ℕ
-i-of s = sign_taken s
+i-of s = sign s
 
 abbrev n-of : List ℕ → ℕ
-n-of s = digits (drop (sign_taken s) s)
+n-of s = digits (drop (sign s) s)
 
 -- a number that is not 0
 positive : (k : ℕ) → ¬ (k ≡ 0) → 1 ≤ k
@@ -115,7 +75,7 @@ none = refl
 -- ---- the returns of `just_a` and `just_b`
 module _ (s : List ℕ) (x : SignedInteger) (ex : x ≡ integer_of s) where
   abbrev i : ℕ
-  i = sign_taken s
+  i = sign s
 
   abbrev n : ℕ
   n = digits (drop i s)
@@ -146,25 +106,25 @@ module _ (s : List ℕ) (x : SignedInteger) (ex : x ≡ integer_of s) where
     letter-there e = let h = byte-there s x.taken ascii.small_n (omega arith) (told _ _ _ et e) in omega arith
 
     -- without the letter `n` there is no an
-    pub a-none : t ≡ false → Ok None ≡ nth_answer (just_a s)
+    pub a-none : t ≡ false → Ok None ≡ component_answer (just_a s)
     unfolding just_a
     a-none e = answer-none _ (pick-false _ _ _ _ (letter false e) refl)
 
     -- a letter, but the number is too great
-    pub a-over : t ≡ true → x.value ≡ None → Err (panic_at x.sign) ≡ nth_answer (just_a s)
+    pub a-over : t ≡ true → x.value ≡ None → Err (panic_at x.sign) ≡ component_answer (just_a s)
     unfolding just_a
     a-over e h =
         (rw sign-is (answer-panic _ _ (pick_true _ _ _ _ (letter true e) (stops s i n _ _ (number-over s i n _ _ value-is h)))))
 
     -- a letter, and it fits
-    pub a-number : t ≡ true → (w : ℕ) → x.value ≡ Some w → Ok (Some (numbers (x.taken + 1) w 0)) ≡ nth_answer (just_a s)
+    pub a-number : t ≡ true → (w : ℕ) → x.value ≡ Some w → Ok (Some (numbers (x.taken + 1) w 0)) ≡ component_answer (just_a s)
     unfolding just_a signed_number
     a-number e w h =
         let p = number_fits s i n _ _ value-is w h in
         rw taken_is (answer-nth _ _ _ (pos 0) (pick_true _ _ _ _ (letter true e) (goes_on s i n _ _ p.0)) w 0 p.1 refl)
 
   -- by whether there are digits
-  pub b-none : x.taken ≡ x.sign → Ok None ≡ nth_answer (just_b s)
+  pub b-none : x.taken ≡ x.sign → Ok None ≡ component_answer (just_b s)
   unfolding just_b
   b-none e = answer-none _ (pick-false _ _ _ _ (lt-leb 1 n (omega (arith, sign-is, taken_is))) refl)
 
@@ -174,12 +134,12 @@ module _ (s : List ℕ) (x : SignedInteger) (ex : x ≡ integer_of s) where
     some-digits = le-leb 1 n (positive n (λ e. d (omega (arith, e, sign-is, taken_is))))
 
     -- the number is too great
-    pub b-over : x.value ≡ None → Err (panic_at x.sign) ≡ nth_answer (just_b s)
+    pub b-over : x.value ≡ None → Err (panic_at x.sign) ≡ component_answer (just_b s)
     unfolding just_b
     b-over h = (rw sign-is (answer-panic _ _ (pick_true _ _ _ _ some-digits (stops s i n _ _ (number-over s i n _ _ value-is h)))))
 
     -- digits that fit are b
-    pub b-number : (w : ℕ) → x.value ≡ Some w → Ok (Some (numbers x.taken 0 w)) ≡ nth_answer (just_b s)
+    pub b-number : (w : ℕ) → x.value ≡ Some w → Ok (Some (numbers x.taken 0 w)) ≡ component_answer (just_b s)
     unfolding just_b signed_number
     b-number w h =
         let p = number_fits s i n _ _ value-is w h in
@@ -210,13 +170,13 @@ module _ (s : List ℕ) (p : ℕ) (x : SignedInteger) (ex : x ≡ integer_of (ta
   minus-of-rest = rw (first s p)
 
   -- the bytes of the sign
-  rest-sign : x.sign ≡ sign_taken u
+  rest-sign : x.sign ≡ sign u
   unfolding integer_of
   rest-sign = ap (λ (r : SignedInteger). r.sign) at_rest
 
   -- by whether there is one
   sign-by : (b : Bool) → is_sign u 0 ≡ b → x.sign ≡ pick b 1 0
-  unfolding sign_taken
+  unfolding sign is_sign is_minus
   sign-by b e = rest-sign ∙ rw e
 
   -- where no byte is taken for a sign, there is none at p
@@ -240,7 +200,7 @@ module _ (s : List ℕ) (p : ℕ) (x : SignedInteger) (ex : x ≡ integer_of (ta
     m = digits (drop (p + 1) s)
 
     -- the sign takes one byte
-    one-sign : sign_taken u ≡ 1
+    one-sign : sign u ≡ 1
     one-sign = sym rest-sign ∙ h
 
     -- the digits behind the sign
@@ -255,8 +215,10 @@ module _ (s : List ℕ) (p : ℕ) (x : SignedInteger) (ex : x ≡ integer_of (ta
 
     -- the number with its sign is that of the definition
     rest-value : x.value ≡ integer_by s (p + 1) m (is_minus s p)
-    unfolding integer_of integer_by
-    rest-value = ap (λ (r : SignedInteger). r.value) at_rest ∙ rw (one-sign, drop-drop 1 p s, worth-at m, minus-of-rest)
+    unfolding integer_of
+    rest-value =
+        ap (λ (r : SignedInteger). r.value) at_rest
+        ∙ rw (one-sign, drop-drop 1 p s, minus-of-rest) (integer-is u 1 m (is_minus s p) ∙ rw (worth-at m) (sym (integer-is s (p + 1) m (is_minus s p))))
 
     -- there is one digit at least behind the sign
     rest-digits : ¬ (x.taken ≡ x.sign) → 1 ≤ m
@@ -268,11 +230,11 @@ module _ (s : List ℕ) (p : ℕ) (x : SignedInteger) (ex : x ≡ integer_of (ta
   both-sign-le lp lx = omega (arith, rest-sign, ap (λ (r : SignedInteger). r.taken) at_rest, within s p x.taken lp lx)
 
 -- the definition, where e is behind the first number and p at the sign of the second
-abbrev both_at : List ℕ → ℕ → ℕ → Outcome selector.Nth
+abbrev both_at : List ℕ → ℕ → ℕ → Outcome Component
 both_at s e p =
     pick (and (is (get_or s e 0) ascii.small_n) (and (is_sign s p) (leb 1 (digits (drop (p + 1) s)))))
     (converted s (i-of s) (n-of s) (is_minus s 0)
-    (λ a. converted s (p + 1) (digits (drop (p + 1) s)) (is_minus s p) (λ b. reads (p + 1 + digits (drop (p + 1) s)) (record { a = a; b = b }))))
+    (λ a. converted s (p + 1) (digits (drop (p + 1) s)) (is_minus s p) (λ b. reads (p + 1 + digits (drop (p + 1) s)) (nth a b))))
     fails
 
 -- the same as the definition
@@ -282,7 +244,7 @@ both_is s e h p q = rw (q, h)
 
 module _ (s : List ℕ) (x : SignedInteger) (ex : x ≡ integer_of s) (t : Bool) (et : t ≡ is (get_or s x.taken 0) ascii.small_n) where
   -- the return where no `n` follows the first number
-  pub both-none : t ≡ false → Ok None ≡ nth_answer (both_of s)
+  pub both-none : t ≡ false → Ok None ≡ component_answer (both_of s)
   both-none e =
       (answer-none _ (pick-false _ _ _ _ (and_left _ _ (told _ _ _ et e)) refl ∙ sym (both_is s x.taken (taken_is s x ex) _ refl)))
 
@@ -294,7 +256,7 @@ module _ (s : List ℕ) (x : SignedInteger) (ex : x ≡ integer_of s) (t : Bool)
     both = both_is s x.taken (taken_is s x ex) p ep
 
     -- the return where no sign stands behind the `n`
-    pub both-no-sign : y.sign ≡ 0 → Ok None ≡ nth_answer (both_of s)
+    pub both-no-sign : y.sign ≡ 0 → Ok None ≡ component_answer (both_of s)
     both-no-sign z = answer-none _ (pick-false _ _ _ _ (and_right _ _ (and_left _ _ (no_sign s p y ey z))) refl ∙ sym both)
 
     module _ (d : ¬ (y.sign ≡ 0)) where
@@ -303,7 +265,7 @@ module _ (s : List ℕ) (x : SignedInteger) (ex : x ≡ integer_of s) (t : Bool)
       q = a-sign s p y ey d
 
       -- the return where no digits stand behind that sign
-      pub both-no-digits : y.taken ≡ y.sign → Ok None ≡ nth_answer (both_of s)
+      pub both-no-digits : y.taken ≡ y.sign → Ok None ≡ component_answer (both_of s)
       both-no-digits z =
           (answer-none _ (pick-false _ _ _ _ (and_right _ _ (and_right _ _ (lt-leb 1 (digits (drop (p + 1) s)) (omega (arith, q.1, rest-taken s p y ey q.1))))) refl ∙ sym both))
 
@@ -313,7 +275,7 @@ module _ (s : List ℕ) (x : SignedInteger) (ex : x ≡ integer_of s) (t : Bool)
         all = and_both _ _ (told _ _ _ et e) (and_both _ _ q.0 (le-leb _ _ (rest-digits s p y ey q.1 f)))
 
         -- the first number is too great
-        pub both-over-a : x.value ≡ None → Err (panic_at x.sign) ≡ nth_answer (both_of s)
+        pub both-over-a : x.value ≡ None → Err (panic_at x.sign) ≡ component_answer (both_of s)
         both-over-a h =
             rw (sign-is s x ex) (answer-panic _ _ (pick_true _ _ _ _ all (stops s (i-of s) (n-of s) _ _ (number-over s (i-of s) (n-of s) _ _ (value-is s x ex) h)) ∙ sym both))
 
@@ -323,47 +285,47 @@ module _ (s : List ℕ) (x : SignedInteger) (ex : x ≡ integer_of s) (t : Bool)
           fa = number_fits s (i-of s) (n-of s) _ _ (value-is s x ex) a ha
 
           -- where the second number does not fit the crate panics there
-          pub both-over-b : y.value ≡ None → Err (panic_at (p + y.sign)) ≡ nth_answer (both_of s)
+          pub both-over-b : y.value ≡ None → Err (panic_at (p + y.sign)) ≡ component_answer (both_of s)
           both-over-b h =
               rw q.1 (answer-panic _ _ (pick_true _ _ _ _ all (stops s (p + 1) _ _ _ (number-over s (p + 1) _ _ _ (rest-value s p y ey q.1) h) ∙ goes_on s (i-of s) (n-of s) _ _ fa.0) ∙ sym both))
 
           -- where both fit it is an+b
-          pub both-numbers : (b : ℕ) → y.value ≡ Some b → Ok (Some (numbers (p + y.taken) a b)) ≡ nth_answer (both_of s)
+          pub both-numbers : (b : ℕ) → y.value ≡ Some b → Ok (Some (numbers (p + y.taken) a b)) ≡ component_answer (both_of s)
           both-numbers b hb =
               let fb = number_fits s (p + 1) _ _ _ (rest-value s p y ey q.1) b hb in
               let ew : p + y.taken ≡ p + 1 + digits (drop (p + 1) s) = omega (arith, rest-taken s p y ey q.1) in
               rw ew (answer-nth _ _ _ _ (pick_true _ _ _ _ all (goes_on s (p + 1) _ _ _ fb.0 ∙ goes_on s (i-of s) (n-of s) _ _ fa.0) ∙ sym both) a b fa.1 fb.1)
 
     -- the return where the sign or the digits are missing
-    pub both-no-number : (y.sign ≡ 0) ⊎ ((¬ (y.sign ≡ 0)) × (y.taken ≡ y.sign)) → Ok None ≡ nth_answer (both_of s)
+    pub both-no-number : (y.sign ≡ 0) ⊎ ((¬ (y.sign ≡ 0)) × (y.taken ≡ y.sign)) → Ok None ≡ component_answer (both_of s)
     both-no-number (inl z) = both-no-sign z
     both-no-number (inr z) = both-no-digits z.0 z.1
 
 -- ---- the returns of `parse_nth`
 -- the first of two that reads or panics: the first does
-or-first : (o o' : Outcome selector.Nth) (r : Result (Option (Taken Nth)) Panic) → r ≡ nth_answer o → (r ≡ Ok None → ⊥) → r ≡ nth_answer (or_else o o')
-unfolding or_else nth_answer on_outcome
+or-first : (o o' : Outcome Component) (r : ComponentAnswer) → r ≡ component_answer o → (r ≡ Ok None → ⊥) → r ≡ component_answer (or_else o o')
+unfolding or_else component_answer on_outcome
 or-first (reads n x) o' r e h = e
 or-first fails o' r e h = absurd (h e)
 or-first (panics p) o' r e h = e
 
 -- where the first alternative is not read, the answer is that of the second
-or-second : (o o' : Outcome selector.Nth) → Ok None ≡ nth_answer o → (r : Result (Option (Taken Nth)) Panic) → r ≡ nth_answer o' → r ≡ nth_answer (or_else o o')
+or-second : (o o' : Outcome Component) → Ok None ≡ component_answer o → (r : ComponentAnswer) → r ≡ component_answer o' → r ≡ component_answer (or_else o o')
 unfolding or_else
-or-second o o' e r h = go o (not-read o e)
+or-second o o' e r h = go o (fails_by o e)
   where
-    go : (o : Outcome selector.Nth) → o ≡ fails → r ≡ nth_answer (or_else o o')
+    go : (o : Outcome Component) → o ≡ fails → r ≡ component_answer (or_else o o')
     go o e = rw e h
 
 -- the bounds of what was read
 module _ (s word : List ℕ) (x y : ℤ) (t : Bool) (et : t ≡ starts_with word s) where
   -- a word that is there is read with its numbers
-  word-there : t ≡ true → (a b : ℕ) → a ≡ signed_number x → b ≡ signed_number y → Ok (Some (numbers (length word) a b)) ≡ nth_answer (worded s word x y)
+  word-there : t ≡ true → (a b : ℕ) → a ≡ signed_number x → b ≡ signed_number y → Ok (Some (numbers (length word) a b)) ≡ component_answer (worded s word x y)
   unfolding worded
   word-there e a b ea eb = answer-nth _ _ x y (pick_true _ _ _ _ (told _ _ _ et e) refl) a b ea eb
 
   -- a word that is not there is not read
-  word-missing : t ≡ false → Ok None ≡ nth_answer (worded s word x y)
+  word-missing : t ≡ false → Ok None ≡ component_answer (worded s word x y)
   unfolding worded
   word-missing e = answer-none _ (pick-false _ _ _ _ (told _ _ _ et e) refl)
 
@@ -388,7 +350,7 @@ module _ (s : List ℕ) (t : Bool) (et : t ≡ starts_with (0x65 ∷ 0x76 ∷ 0x
   even-test = et ∙ ap (λ (w : List ℕ). starts_with w s) (sym even-bytes)
 
   -- `even` is read as 2n+0
-  pub nth-even : t ≡ true → Ok (Some (numbers 4 4 0)) ≡ nth_answer (nth_of s)
+  pub nth-even : t ≡ true → Ok (Some (numbers 4 4 0)) ≡ component_answer (nth_of s)
   unfolding nth_of
   nth-even e =
       or-first _ _ _
@@ -400,43 +362,43 @@ module _ (s : List ℕ) (t : Bool) (et : t ≡ starts_with (0x65 ∷ 0x76 ∷ 0x
     odd-test = eq ∙ ap (λ (w : List ℕ). starts_with w s) (sym odd-bytes)
 
     -- where the text is not `even`, the other forms decide
-    no-even : (r : Result (Option (Taken Nth)) Panic) → r ≡ nth_answer (or_else (worded s (text "odd") (pos 2) (pos 1)) (or_else (both_of s) (or_else (just_a s) (just_b s)))) → r ≡ nth_answer (nth_of s)
+    no-even : (r : ComponentAnswer) → r ≡ component_answer (or_else (worded s (text "odd") (pos 2) (pos 1)) (or_else (both_of s) (or_else (just_a s) (just_b s)))) → r ≡ component_answer (nth_of s)
     unfolding nth_of
     no-even r h = or-second _ _ (word-missing s (text "even") (pos 2) (pos 0) t even-test e) r h
 
     -- `odd` is read as 2n+1
-    pub nth-odd : q ≡ true → Ok (Some (numbers 3 4 2)) ≡ nth_answer (nth_of s)
+    pub nth-odd : q ≡ true → Ok (Some (numbers 3 4 2)) ≡ component_answer (nth_of s)
     nth-odd f =
         no-even _
         (or-first _ _ _
         (ap (λ (n : ℕ). Ok (Some (numbers n 4 2))) (sym (ap length odd-bytes)) ∙ word-there s (text "odd") (pos 2) (pos 1) q odd-test f 4 2 signed-numbers.2 signed-numbers.1) (λ e. cc))
 
-    module _ (f : q ≡ false) (r : Result (Option (Taken Nth)) Panic) (er : r ≡ nth_answer (both_of s)) where
+    module _ (f : q ≡ false) (r : ComponentAnswer) (er : r ≡ component_answer (both_of s)) where
       -- where it is no word, an+b, an or b decides
-      no_word : (x : Result (Option (Taken Nth)) Panic) → x ≡ nth_answer (or_else (both_of s) (or_else (just_a s) (just_b s))) → x ≡ nth_answer (nth_of s)
+      no_word : (x : ComponentAnswer) → x ≡ component_answer (or_else (both_of s) (or_else (just_a s) (just_b s))) → x ≡ component_answer (nth_of s)
       no_word x h = no-even x (or-second _ _ (word-missing s (text "odd") (pos 2) (pos 1) q odd-test f) x h)
 
       -- an+b, where both numbers are there
-      pub nth-both : (r ≡ Ok None → ⊥) → r ≡ nth_answer (nth_of s)
+      pub nth-both : (r ≡ Ok None → ⊥) → r ≡ component_answer (nth_of s)
       nth-both h = no_word r (or-first _ _ r er h)
 
-      module _ (n : r ≡ Ok None) (r' : Result (Option (Taken Nth)) Panic) (er' : r' ≡ nth_answer (just_a s)) where
+      module _ (n : r ≡ Ok None) (r' : ComponentAnswer) (er' : r' ≡ component_answer (just_a s)) where
         -- where it is not an+b either, an or b decides
-        no_both : (x : Result (Option (Taken Nth)) Panic) → x ≡ nth_answer (or_else (just_a s) (just_b s)) → x ≡ nth_answer (nth_of s)
+        no_both : (x : ComponentAnswer) → x ≡ component_answer (or_else (just_a s) (just_b s)) → x ≡ component_answer (nth_of s)
         no_both x h = no_word x (or-second _ _ (sym n ∙ er) x h)
 
         -- an, where the second is not
-        pub nth-a : (r' ≡ Ok None → ⊥) → r' ≡ nth_answer (nth_of s)
+        pub nth-a : (r' ≡ Ok None → ⊥) → r' ≡ component_answer (nth_of s)
         nth-a h = no_both r' (or-first _ _ r' er' h)
 
         -- b, where the first is not
-        pub nth-b : r' ≡ Ok None → (x : Result (Option (Taken Nth)) Panic) → x ≡ nth_answer (just_b s) → x ≡ nth_answer (nth_of s)
+        pub nth-b : r' ≡ Ok None → (x : ComponentAnswer) → x ≡ component_answer (just_b s) → x ≡ component_answer (nth_of s)
         nth-b h x ex = no_both x (or-second _ _ (sym h ∙ er') x ex)
 
 -- ---- the returns of `parse_nth_child_args`
 module _ (s : List ℕ) (t : Bool) (et : t ≡ is (get_or s 0 0) ascii.left_parenthesis) where
   -- without an opening bracket there are no arguments
-  pub args_none : t ≡ false → Ok None ≡ nth_answer (nth_args_of s)
+  pub args_none : t ≡ false → Ok None ≡ component_answer (nth_args_of s)
   unfolding nth_args_of
   args_none e = answer-none _ (pick-false _ _ _ _ (told _ _ _ et e) refl)
 
@@ -445,11 +407,11 @@ module _ (s : List ℕ) (t : Bool) (et : t ≡ is (get_or s 0 0) ascii.left_pare
   bracket-there e = let h = byte-there s 0 ascii.left_parenthesis (omega arith) (told _ _ _ et e) in omega arith
 
   -- then white space up to w, and the reading from there on
-  module _ (e : t ≡ true) (w : ℕ) (ew : w ≡ 1 + skip_whitespace (drop 1 s)) (lw : w ≤ length s) (r : Result (Option (Taken Nth)) Panic)
-      (er : r ≡ nth_answer (nth_of (take (length s - w) (drop w s)))) where
+  module _ (e : t ≡ true) (w : ℕ) (ew : w ≡ 1 + skip_whitespace (drop 1 s)) (lw : w ≤ length s) (r : ComponentAnswer)
+      (er : r ≡ component_answer (nth_of (take (length s - w) (drop w s)))) where
     -- of the rest of the text
-    lent : r ≡ nth_answer (nth_of (drop w s))
-    lent = er ∙ ap (λ (u : List ℕ). nth_answer (nth_of u)) (rest s w)
+    lent : r ≡ component_answer (nth_of (drop w s))
+    lent = er ∙ ap (λ (u : List ℕ). component_answer (nth_of u)) (rest s w)
 
     -- the definition where nothing is read
     args-fail : nth_of (drop w s) ≡ fails → fails ≡ nth_args_of s
@@ -462,40 +424,39 @@ module _ (s : List ℕ) (t : Bool) (et : t ≡ is (get_or s 0 0) ascii.left_pare
     args-panics p h = rw (told _ _ _ et e, ← ew, h)
 
     -- where there is a reading, by the byte behind white space
-    args_by : (n : ℕ) (x : selector.Nth) → nth_of (drop w s) ≡ reads n x → (end : ℕ) → end ≡ w + n + skip_whitespace (drop (w + n) s)
+    args_by : (n : ℕ) (x : Component) → nth_of (drop w s) ≡ reads n x → (end : ℕ) → end ≡ w + n + skip_whitespace (drop (w + n) s)
         → pick (is (get_or s end 0) ascii.right_parenthesis) (reads (end + 1) x) fails ≡ nth_args_of s
     unfolding nth_args_of on_outcome pick
     args_by n x h end q = rw (told _ _ _ et e, ← ew, h, q)
 
     -- where no argument was read there are none
-    pub args-not-read : r ≡ Ok None → Ok None ≡ nth_answer (nth_args_of s)
-    args-not-read h = answer-none _ (args-fail (not-read _ (sym h ∙ lent)))
+    pub args-not-read : r ≡ Ok None → Ok None ≡ component_answer (nth_args_of s)
+    args-not-read h = answer-none _ (args-fail (fails_by _ (sym h ∙ lent)))
 
     module _ (p : ℕ) (h : r ≡ Err (panic_at p)) where
       -- it panics within the text
       pub args-panic-le : w + p ≤ length s
-      args-panic-le = omega (arith, where-panics (length (drop w s)) _ _ p (panic-read _ (panic_at p) (sym h ∙ lent)) (nth-keeps (drop w s)), length-drop w s)
+      args-panic-le = omega (arith, where-panics (length (drop w s)) _ _ p (panics-by _ (panic_at p) (sym h ∙ lent)) (nth-keeps (drop w s)), length-drop w s)
 
       -- where the crate panics the place counts from the bracket
-      pub args-panic : Err (panic_at (w + p)) ≡ nth_answer (nth_args_of s)
-      args-panic = answer-panic _ _ (args-panics p (panic-read _ (panic_at p) (sym h ∙ lent)))
+      pub args-panic : Err (panic_at (w + p)) ≡ component_answer (nth_args_of s)
+      args-panic = answer-panic _ _ (args-panics p (panics-by _ (panic_at p) (sym h ∙ lent)))
 
-    module _ (n a b : ℕ) (h : r ≡ Ok (Some (numbers n a b))) where
+    module _ (n : ℕ) (d : declared.Component) (h : r ≡ Ok (Some (read_as n d))) where
       -- the argument that was read
-      got : Read (nth_of (drop w s)) n a b
-      got = nth_read _ (numbers n a b) (sym h ∙ lent)
+      got : Read (nth_of (drop w s)) n d
+      got = read_by _ (read_as n d) (sym h ∙ lent)
 
       -- it lies within the text
       pub args-le : w + n ≤ length s
-      args-le = omega (arith, (where-read (length (drop w s)) _ _ n got.value got.reading (nth-keeps (drop w s))).0, length-drop w s)
+      args-le = omega (arith, (where-read (length (drop w s)) _ _ n got.component got.reads-it (nth-keeps (drop w s))).0, length-drop w s)
 
       -- then white space up to the end, and a test for the closing bracket
       module _ (end : ℕ) (ee : end ≡ w + n + skip_whitespace (drop (w + n) s)) (u : Bool) (eu : u ≡ is (get_or s end 0) ascii.right_parenthesis) where
         -- without a closing bracket there are none
-        pub args-open : u ≡ false → Ok None ≡ nth_answer (nth_args_of s)
-        args-open f = answer-none _ (pick-false _ _ _ _ (told _ _ _ eu f) refl ∙ args_by n _ got.reading end ee)
+        pub args-open : u ≡ false → Ok None ≡ component_answer (nth_args_of s)
+        args-open f = answer-none _ (pick-false _ _ _ _ (told _ _ _ eu f) refl ∙ args_by n _ got.reads-it end ee)
 
-        -- with it the numbers are the arguments
-        pub args_read : u ≡ true → Ok (Some (numbers (end + 1) a b)) ≡ nth_answer (nth_args_of s)
-        args_read f =
-            answer-nth _ _ _ _ (pick_true _ _ _ _ (told _ _ _ eu f) refl ∙ args_by n _ got.reading end ee) a b got.first-is got.second_is
+        -- with it what was read are the arguments
+        pub args_read : u ≡ true → Ok (Some (read_as (end + 1) d)) ≡ component_answer (nth_args_of s)
+        args_read f = answer-bare _ (end + 1) got.component d (sym got.coded) (pick_true _ _ _ _ (told _ _ _ eu f) refl ∙ args_by n _ got.reads-it end ee)

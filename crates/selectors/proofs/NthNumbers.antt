@@ -24,16 +24,34 @@ use Rattle.values.specs.Colour.{all_of, numeral, digits_in}
 use Rattle.values.specs.ColourAnswer.{is_digit_in, number_answer}
 use Rattle.std.specs.Prelude.{Option, Some, None, ◌==◌}
 use Rattle.values.proofs.ColourLaws.{decimal_digit, digits_same, number-found, number-missing, read-le}
-use Rattle.selectors.specs.Outcome.{Outcome, panics}
-use Rattle.selectors.specs.Selector.{is_minus, is_sign, sign_taken, signed, greatest, digits_worth, converted}
+use Rattle.selectors.specs.Outcome.{Outcome, reads, panics, on_outcome}
+use Rattle.selectors.specs.Selector.{is_minus, signed, greatest, converted}
 use Rattle.selectors.specs.NthAnswer.{integer_by, converted_answer, integer_of, greatest_signed}
 
--- ---- a number with its sign
+-- ---- the number that digits write
+-- what n digits from i on write, or 1 where there are none
+unfoldable pub digits_worth : List ℕ → ℕ → ℕ → ℕ
+digits_worth t i n = pick (is n 0) 1 (numeral 10 hex_digit 0 (take n (drop i t)))
 
--- the lexer's sign is the same
-pub sign_same : (s : List ℕ) → number.sign s ≡ sign_taken s
-unfolding number.sign sign_taken is_sign is_minus
-sign_same s = refl
+-- it is converted where it fits
+pub converted-is : {A : Type 0} (t : List ℕ) (i n : ℕ) (minus : Bool) (f : ℤ → Outcome A)
+    → converted t i n minus f ≡ pick (leb (digits_worth t i n) greatest) (f (signed minus (digits_worth t i n))) (panics i)
+unfolding converted digits_worth
+converted-is t i n minus f = refl
+
+-- a number that fits is answered in the form of the compiled sheet
+fitted : (b : Bool) (z : ℤ) (i : ℕ) → on_outcome (pick b (reads 0 z) (panics i)) (λ _ v. Some (signed_number v)) None (λ _. None) ≡ pick b (Some (signed_number z)) None
+unfolding on_outcome pick
+fitted true z i = refl
+fitted false z i = refl
+
+-- so what digits write is answered where it fits
+pub integer-is : (t : List ℕ) (i n : ℕ) (minus : Bool)
+    → integer_by t i n minus ≡ pick (leb (digits_worth t i n) greatest) (Some (signed_number (signed minus (digits_worth t i n)))) None
+unfolding integer_by converted digits_worth
+integer-is t i n minus = fitted _ _ i
+
+-- ---- a number with its sign
 
 module _ (minus : Bool) where
   -- a number below 0 is written as an odd one
@@ -124,7 +142,7 @@ all-converted d minus n e =
 module _ (t : List ℕ) (i : ℕ) (minus : Bool) where
   -- none is worth 1
   none-converted : converted_answer [] minus ≡ integer_by t i 0 minus
-  unfolding converted_answer integer_by digits_worth pick is
+  unfolding converted_answer integer_by converted on_outcome pick is
   none-converted = refl
 
   -- some are worth what they write
@@ -134,26 +152,26 @@ module _ (t : List ℕ) (i : ℕ) (minus : Bool) where
 
   -- n digits are converted as the definition converts them
   count-converted : (n : ℕ) → n ≤ length (drop i t) → all_of is_digit (take n (drop i t)) ≡ true → converted_answer (take n (drop i t)) minus ≡ integer_by t i n minus
-  unfolding integer_by
   count-converted zero h e = none-converted
   count-converted (suc n) h e =
       let l = length-take-le (suc n) (drop i t) h in
       all-converted (take (suc n) (drop i t)) minus (λ z. absurd (omega arith)) e
       ∙ ap (λ (v : ℕ). pick (leb v greatest) (Some (signed_number (signed minus v))) None) (some-worth n)
+      ∙ sym (integer-is t i (suc n) minus)
 
   -- all digits that stand there are converted as the definition does
   integer-lent : converted_answer (take (digits (drop i t)) (drop i t)) minus ≡ integer_by t i (digits (drop i t)) minus
   integer-lent = count-converted (digits (drop i t)) (digits_le (drop i t)) (digits-all (drop i t))
 
 -- ---- the return of `signed_integer`
-module _ (s : List ℕ) (sign : ℕ) (es : sign ≡ sign_taken s) (n : ℕ) (en : n ≡ digits (take (length s - sign) (drop sign s))) where
+module _ (s : List ℕ) (sign : ℕ) (es : sign ≡ number.sign s) (n : ℕ) (en : n ≡ digits (take (length s - sign) (drop sign s))) where
   -- the digits behind the sign
   count : n ≡ digits (drop sign s)
   count = en ∙ ap digits (rest s sign)
 
   -- both lie within the text
   pub taken-le : sign + n ≤ length s
-  taken-le = omega (arith, count, digits_le (drop sign s), length-drop sign s, sign_le s, sign_same s)
+  taken-le = omega (arith, count, digits_le (drop sign s), length-drop sign s, sign_le s)
 
   module _ (minus : Bool) (em : minus ≡ is (get_or s 0 0) ascii.hyphen_minus) (x : Option ℕ) (ex : x ≡ converted_answer (take (sign + n - sign) (drop sign s)) minus) where
     -- the number is that of the definition
@@ -178,9 +196,9 @@ module _ (t : List ℕ) (i n : ℕ) (minus : Bool) where
   module _ (x : Option ℕ) (ex : x ≡ integer_by t i n minus) where
     -- by whether the digits fit
     fits_by : (w : ℕ) → x ≡ Some w → (b : Bool) → leb worth greatest ≡ b → (leb worth greatest ≡ true) × (w ≡ signed_number (signed minus worth))
-    unfolding integer_by pick
-    fits_by w h true l = (l, let e : ◌≡◌ {A = Option ℕ} (Some w) (Some (signed_number (signed minus worth))) = sym h ∙ ex ∙ rw l in cc)
-    fits_by w h false l = absurd (let e : ◌≡◌ {A = Option ℕ} (Some w) None = sym h ∙ ex ∙ rw l in let z : ◌≡◌ {A = ℕ} 0 1 = cc in omega arith)
+    unfolding pick
+    fits_by w h true l = (l, let e : ◌≡◌ {A = Option ℕ} (Some w) (Some (signed_number (signed minus worth))) = sym h ∙ ex ∙ integer-is t i n minus ∙ rw l in cc)
+    fits_by w h false l = absurd (let e : ◌≡◌ {A = Option ℕ} (Some w) None = sym h ∙ ex ∙ integer-is t i n minus ∙ rw l in let z : ◌≡◌ {A = ℕ} 0 1 = cc in omega arith)
 
     -- an answer with a number says that it fits, and is the one with its sign
     pub number_fits : (w : ℕ) → x ≡ Some w → (leb worth greatest ≡ true) × (w ≡ signed_number (signed minus worth))
@@ -188,8 +206,8 @@ module _ (t : List ℕ) (i n : ℕ) (minus : Bool) where
 
     -- an answer without one says that it does not fit, whatever test is asked
     over_by : x ≡ None → (b : Bool) → leb worth greatest ≡ b → leb worth greatest ≡ false
-    unfolding integer_by pick
-    over_by h true l = absurd (let e : ◌≡◌ {A = Option ℕ} None (Some (signed_number (signed minus worth))) = sym h ∙ ex ∙ rw l in let z : ◌≡◌ {A = ℕ} 0 1 = cc in omega arith)
+    unfolding pick
+    over_by h true l = absurd (let e : ◌≡◌ {A = Option ℕ} None (Some (signed_number (signed minus worth))) = sym h ∙ ex ∙ integer-is t i n minus ∙ rw l in let z : ◌≡◌ {A = ℕ} 0 1 = cc in omega arith)
     over_by h false l = l
 
     -- an answer without one says that it does not fit
@@ -199,10 +217,10 @@ module _ (t : List ℕ) (i n : ℕ) (minus : Bool) where
   module _ {A : Type 0} (f : ℤ → Outcome A) where
     -- where they fit, the definition goes on with the number
     pub goes_on : leb worth greatest ≡ true → f (signed minus worth) ≡ converted t i n minus f
-    unfolding converted
+    unfolding converted digits_worth
     goes_on l = pick_true _ _ _ _ l refl
 
     -- where not, the crate panics
     pub stops : leb worth greatest ≡ false → panics i ≡ converted t i n minus f
-    unfolding converted
+    unfolding converted digits_worth
     stops l = pick-false _ _ _ _ l refl

@@ -3,11 +3,10 @@ use mathlib.Core.Path.{◌≡◌, refl, sym, ap, ◌∙◌}
 use mathlib.Core.Bool.{Bool, true, false}
 use mathlib.Core.List.{List, [], ◌∷◌}
 use Prim.Native.Nat.{ℕ, ◌+◌, ◌-◌, ◌≤◌}
-use native.Mathlib.Nat.{zero-add}
 use native.Mathlib.Omega.{arith}
 use lib.ListN.{length, get_or, take, drop, length-drop}
 use lib.Seq.{sets}
-use Rattle.std.specs.Prelude.{Option, Some, None, Result, Ok, Err}
+use Rattle.std.specs.Prelude.{Option, Some, None, Ok, Err}
 use Rattle.std.specs.Bool.{then_some}
 use Rattle.combinators.specs.Ascii as ascii
 use Rattle.combinators.specs.Choice.{pick, is}
@@ -27,26 +26,20 @@ use Rattle.lexer.proofs.Idents as idents
 use Rattle.lexer.proofs.TokenBounds.{on-holds}
 use Rattle.syntax.specs.Selector as syntax
 use Rattle.syntax.specs.RuleLayout.{component_text}
-use Rattle.syntax.specs.Signed.{signed_number}
 use Rattle.syntax.proofs.Streams.{held-part, sets-held}
 use Rattle.lexer.proofs.NameAnswers.{NameRead, named-from, unnamed-from}
-use Rattle.combinators.specs.declared.taken.Taken.{Taken}
 use Rattle.selectors.specs.Outcome.{Outcome, reads, fails, panics, on_outcome, behind}
-use Rattle.selectors.specs.Selector as selector
-use Rattle.selectors.specs.Selector.{nth_args_of, nth_child_args, pseudo_class_of}
-use Rattle.selectors.specs.NthAnswer.{nth_answer}
+use Rattle.selectors.specs.Selector.{nth_args_of, pseudo_class_of}
 use Rattle.selectors.specs.Reading.{written}
-use Rattle.selectors.specs.ComponentAnswer.{component_coded, component_answer, nth_child_name}
+use Rattle.selectors.specs.ComponentAnswer.{component_answer, nth_child_name}
 use Rattle.selectors.specs.Stores.{Clean}
 use Rattle.selectors.proofs.AllLaws.{where-read, where-panics}
-use Rattle.selectors.proofs.NthKeeps.{args-keeps}
-use Rattle.selectors.proofs.NthLaws.{numbers, nth_read, not-read, panic-read}
+use Rattle.selectors.proofs.NthKeeps.{Numbered, args-keeps}
+use Rattle.selectors.proofs.NthLaws.{answer-panic}
 use Rattle.combinators.proofs.ZeroLaws.{zeros-back}
-use Rattle.selectors.proofs.ComponentLaws.{read_as, answer-none}
+use Rattle.selectors.proofs.ComponentLaws.{ComponentAnswer, read_as, answer-bare, answer-none, read_by, fails_by, panics-by}
 use Rattle.selectors.proofs.ReadingLaws.{panic_at}
-use Rattle.selectors.specs.declared.components.Component.TheVariants as code
-use Rattle.selectors.specs.declared.nth.Nth.{Nth}
-use Rattle.selectors.specs.declared.readings.Panic.{Panic}
+use Rattle.selectors.specs.declared.components.Component as declared
 
 -- nothing read has no text
 pub none-textless : written component_text fails ≡ []
@@ -179,33 +172,22 @@ module _ (s : List ℕ) (o : Option ℕ) (ek : o ≡ nth_child_name s) where
 module _ (u : List ℕ) (k : ℕ) where
   -- the arguments that stand behind k bytes, as a component
   abbrev pub args : Outcome syntax.Component
-  args = behind k (nth_child_args u) (λ c. c)
+  args = behind k (nth_args_of u) (λ c. c)
 
-  -- arguments that read are nth with their numbers
-  pub args_read : (n : ℕ) (x : selector.Nth) → nth_args_of u ≡ reads n x → args ≡ reads (k + n) (syntax.nth x.a x.b)
-  unfolding nth_child_args behind on_outcome
-  args_read n x e = rw (e, zero-add n)
+  -- arguments that read are the component that they say
+  pub args_read : (n : ℕ) (c : syntax.Component) → nth_args_of u ≡ reads n c → args ≡ reads (k + n) c
+  unfolding behind on_outcome
+  args_read n c e = rw e
 
   -- arguments that do not read are no component
   pub args-fail : nth_args_of u ≡ fails → args ≡ fails
-  unfolding nth_child_args behind on_outcome
+  unfolding behind on_outcome
   args-fail e = rw e
 
   -- where the crate panics the place counts from the colon
   pub args-panic : (p : ℕ) → nth_args_of u ≡ panics p → args ≡ panics (k + p)
-  unfolding nth_child_args behind on_outcome
-  args-panic p e = rw (e, zero-add p)
-
--- nth with its two numbers is answered with both as numbers of 32 bits
-answer-nth : (o : Outcome syntax.Component) (n : ℕ) (x : selector.Nth) → o ≡ reads n (syntax.nth x.a x.b) → (a b : ℕ) → a ≡ signed_number x.a → b ≡ signed_number x.b
-    → Ok (Some (read_as n (code.Nth a b))) ≡ component_answer o
-unfolding component_answer component_coded on_outcome
-answer-nth o n x e a b ea eb = rw (e, ea, eb)
-
--- a panic is answered with its place
-answer-panic : (o : Outcome syntax.Component) (p : ℕ) → o ≡ panics p → Err (panic_at p) ≡ component_answer o
-unfolding component_answer on_outcome
-answer-panic o p e = rw e
+  unfolding behind on_outcome
+  args-panic p e = rw e
 
 module _ (s st : List ℕ) (t : Bool) (et : t ≡ is (get_or s 0 0) ascii.colon) where
   -- without a colon there is no pseudo-class
@@ -222,7 +204,7 @@ module _ (s st : List ℕ) (t : Bool) (et : t ≡ is (get_or s 0 0) ascii.colon)
     pub pseudo-other : o ≡ None → (Ok None ≡ component_answer (pseudo_class_of s)) × (z ≡ st)
     unfolding pseudo_class_of
     pseudo-other h =
-        (answer-none _ (pick_true _ _ _ _ (told _ _ _ et e) (sym (other (drop 1 s) o lent (λ n b. behind (1 + n) (nth_child_args (drop (1 + n) s)) (λ c. c)) h))), w.1)
+        (answer-none _ (pick_true _ _ _ _ (told _ _ _ et e) (sym (other (drop 1 s) o lent (λ n b. behind (1 + n) (nth_args_of (drop (1 + n) s)) (λ c. c)) h))), w.1)
 
     module _ (k : ℕ) (d : o ≡ Some k) where
       -- the name that was read
@@ -239,41 +221,46 @@ module _ (s st : List ℕ) (t : Bool) (et : t ≡ is (get_or s 0 0) ascii.colon)
       pseudo-is = rw (told _ _ _ et e, q.reading, q.same_name)
 
       -- by the answer for the arguments, which stand behind the name
-      module _ (r : Result (Option (Taken Nth)) Panic) (er : r ≡ nth_answer (nth_args_of (take (length s - (1 + k)) (drop (1 + k) s)))) where
+      module _ (r : ComponentAnswer) (er : r ≡ component_answer (nth_args_of (take (length s - (1 + k)) (drop (1 + k) s)))) where
         -- of the rest of the text
-        read : r ≡ nth_answer (nth_args_of (drop (1 + k) s))
-        read = er ∙ ap (λ (u : List ℕ). nth_answer (nth_args_of u)) (rest s (1 + k))
+        read : r ≡ component_answer (nth_args_of (drop (1 + k) s))
+        read = er ∙ ap (λ (u : List ℕ). component_answer (nth_args_of u)) (rest s (1 + k))
 
         -- the return where the arguments do not read
         pub pseudo-none : r ≡ Ok None → (Ok None ≡ component_answer (pseudo_class_of s)) × (z ≡ st)
-        pseudo-none h = (answer-none _ (sym (args-fail _ (1 + k) (not-read _ (sym h ∙ read))) ∙ pseudo-is), w.1)
+        pseudo-none h = (answer-none _ (sym (args-fail _ (1 + k) (fails_by _ (sym h ∙ read))) ∙ pseudo-is), w.1)
 
-        module _ (n a b : ℕ) (h : r ≡ Ok (Some (numbers n a b))) where
+        module _ (n : ℕ) (x : declared.Component) (h : r ≡ Ok (Some (read_as n x))) where
           -- they lie within the text
           pub pseudo-le : 1 ≤ length s → 1 + k + n ≤ length s
           pseudo-le l =
-              let g = nth_read _ (numbers n a b) (sym h ∙ read) in
-              omega (arith, child-le l, (where-read (length (drop (1 + k) s)) _ _ n g.value g.reading (args-keeps (drop (1 + k) s))).0, length-drop (1 + k) s)
+              let g = read_by _ (read_as n x) (sym h ∙ read) in
+              omega (arith, child-le l, (where-read (length (drop (1 + k) s)) _ _ n g.component g.reads-it (args-keeps (drop (1 + k) s))).0, length-drop (1 + k) s)
 
           -- the return where they do
-          pub pseudo-nth : (Ok (Some (read_as (1 + k + n) (code.Nth a b))) ≡ component_answer (pseudo_class_of s)) × (z ≡ st)
+          pub pseudo-nth : (Ok (Some (read_as (1 + k + n) x)) ≡ component_answer (pseudo_class_of s)) × (z ≡ st)
           pseudo-nth =
-              let g = nth_read _ (numbers n a b) (sym h ∙ read) in
-              (answer-nth _ _ g.value (sym pseudo-is ∙ args_read _ (1 + k) n g.value g.reading) a b g.first-is g.second_is, w.1)
+              let g = read_by _ (read_as n x) (sym h ∙ read) in
+              (answer-bare _ _ g.component x (sym g.coded) (sym (args_read _ (1 + k) n g.component g.reads-it) ∙ pseudo-is), w.1)
 
         module _ (p : ℕ) (h : r ≡ Err (panic_at p)) where
           -- it lies within the text
           pub pseudo-panic-le : 1 ≤ length s → 1 + k + p ≤ length s
-          pseudo-panic-le l = omega (arith, child-le l, where-panics (length (drop (1 + k) s)) _ _ p (panic-read _ (panic_at p) (sym h ∙ read)) (args-keeps (drop (1 + k) s)), length-drop (1 + k) s)
+          pseudo-panic-le l = omega (arith, child-le l, where-panics (length (drop (1 + k) s)) _ _ p (panics-by _ (panic_at p) (sym h ∙ read)) (args-keeps (drop (1 + k) s)), length-drop (1 + k) s)
 
           -- the return where the crate panics
           pub pseudo-panic : (Err (panic_at (1 + k + p)) ≡ component_answer (pseudo_class_of s)) × (z ≡ st)
-          pseudo-panic = (answer-panic _ _ (sym pseudo-is ∙ args-panic _ (1 + k) p (panic-read _ (panic_at p) (sym h ∙ read))), w.1)
+          pseudo-panic = (answer-panic _ _ (sym (args-panic _ (1 + k) p (panics-by _ (panic_at p) (sym h ∙ read))) ∙ pseudo-is), w.1)
+
+-- an+b has no text
+nth-textless : (c : syntax.Component) → Numbered c → component_text c ≡ []
+unfolding component_text
+nth-textless c h = rw h.is-nth
 
 -- the text of a pseudo-class is empty
-args-textless : (u : List ℕ) (k : ℕ) (o : Outcome selector.Nth) → nth_args_of u ≡ o → written component_text (args u k) ≡ []
-unfolding written on_outcome component_text
-args-textless u k (reads n x) e = rw (args_read u k n x e)
+args-textless : (u : List ℕ) (k : ℕ) (o : Outcome syntax.Component) → nth_args_of u ≡ o → written component_text (args u k) ≡ []
+unfolding written on_outcome
+args-textless u k (reads n c) e = rw (args_read u k n c e) (nth-textless c (where-read (length u) _ _ n c e (args-keeps u)).1)
 args-textless u k fails e = rw (args-fail u k e)
 args-textless u k (panics p) e = rw (args-panic u k p e)
 

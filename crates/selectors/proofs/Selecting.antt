@@ -18,16 +18,16 @@ use Rattle.syntax.specs.Stream.{rows_many, texts_many}
 use Rattle.syntax.proofs.RowSizes.{length-components, length-component}
 use Rattle.syntax.proofs.Streams.{sets-drop, rows_append}
 use Rattle.selectors.specs.Outcome.{Outcome, reads, fails, panics, on_outcome, behind}
-use Rattle.selectors.specs.Selector.{body_of, is_descendant, without_blank, without_first, pseudo_of, pseudo_taken, selector_of}
+use Rattle.selectors.specs.Selector.{body_of, without_blank, pseudo_of, pseudo_taken, selector_of}
 use Rattle.selectors.specs.Components.{started_of, blank_last}
 use Rattle.selectors.specs.Reading.{TextRoom, RowRoom}
 use Rattle.combinators.proofs.ZeroLaws.{zeros-later, zeros-behind, zeros-back}
 use Rattle.selectors.proofs.AllLaws.{where-read}
 use Rattle.selectors.proofs.Gathering.{one-row}
-use Rattle.selectors.proofs.BodyLaws.{blank-last, both_ends}
+use Rattle.selectors.proofs.BodyLaws.{is_descendant, without_last, blank-last}
 use Rattle.selectors.proofs.Blanks.{blank-told, Ended, empty, ends, ended, end-texts}
 use Rattle.selectors.proofs.ReadingLaws.{Reading, panic_at, sized, Left, left-reads, left-fails, left-panics, Found, found, nothing, panicked}
-use Rattle.selectors.proofs.SelectorBounds.{ComponentsKeep, BodyKeeps, started-keeps, fewer, pseudo-within}
+use Rattle.selectors.proofs.SelectorBounds.{ComponentsKeep, BodyKeeps, started-keeps, last-fewer, pseudo-within}
 
 -- ---- `drop_blank` on the rows of components
 module _ (rules₀ : List ℕ) (p fill : ℕ) (z : Zeros rules₀ p) where
@@ -89,21 +89,21 @@ module _ (rules₀ : List ℕ) (p fill : ℕ) (z : Zeros rules₀ p) where
   -- the count and the rows without it
   unfoldable pub Dropped : List Component → Type 0
   Dropped ds =
-      (pick (blank_last (sets rules₀ p (component_rows fill ds)) p (length ds)) (length ds - 1) (length ds) ≡ length (without_blank ds))
+      (pick (blank_last (sets rules₀ p (component_rows fill ds)) p (length ds)) (length ds - 1) (length ds) ≡ length (without_last ds))
       × (pick (blank_last (sets rules₀ p (component_rows fill ds)) p (length ds)) (wiped (p + component_width * (length ds - 1)) component_width (sets rules₀ p (component_rows fill ds))) (sets rules₀ p (component_rows fill ds))
-      ≡ sets rules₀ p (component_rows fill (without_blank ds)))
+      ≡ sets rules₀ p (component_rows fill (without_last ds)))
 
   -- of no components nothing is dropped
   nothing-dropped : Dropped []
-  unfolding Dropped blank_last without_blank pick is
+  unfolding Dropped blank_last without_last without_blank pick is
   nothing-dropped = (refl, refl)
 
   -- where a last row of a blank is dropped, the count and the rows are those without a blank at the end
   dropped-by : (xs : List Component) (c : Component) (b : Bool) (n : ℕ) → p + component_width * (length xs + 1) ≤ length rules₀ → n ≡ length xs + 1
       → b ≡ blank_last (sets rules₀ p (component_rows fill (xs ++ c ∷ []))) p n
-      → (pick b (n - 1) n ≡ length (without_blank (xs ++ c ∷ [])))
+      → (pick b (n - 1) n ≡ length (without_last (xs ++ c ∷ [])))
       × (pick b (wiped (p + component_width * (n - 1)) component_width (sets rules₀ p (component_rows fill (xs ++ c ∷ [])))) (sets rules₀ p (component_rows fill (xs ++ c ∷ [])))
-      ≡ sets rules₀ p (component_rows fill (without_blank (xs ++ c ∷ []))))
+      ≡ sets rules₀ p (component_rows fill (without_last (xs ++ c ∷ []))))
   dropped-by xs c b n room e h =
       let t : b ≡ is_descendant c = h ∙ ap (blank_last (sets rules₀ p (component_rows fill (xs ++ c ∷ []))) p) e ∙ last-told xs c room in
       rw (t, e, blank-last xs c) (by_last xs c room (is_descendant c))
@@ -118,8 +118,8 @@ module _ (rules₀ : List ℕ) (p fill : ℕ) (z : Zeros rules₀ p) where
 
   -- the same, of what the rows and the count are known to be
   pub dropped-as : (ds : List Component) (rules₁ : List ℕ) (count : ℕ) → Dropped ds → rules₁ ≡ sets rules₀ p (component_rows fill ds) → count ≡ length ds
-      → (pick (blank_last rules₁ p count) (count - 1) count ≡ length (without_blank ds))
-      × (pick (blank_last rules₁ p count) (wiped (p + component_width * (count - 1)) component_width rules₁) rules₁ ≡ sets rules₀ p (component_rows fill (without_blank ds)))
+      → (pick (blank_last rules₁ p count) (count - 1) count ≡ length (without_last ds))
+      × (pick (blank_last rules₁ p count) (wiped (p + component_width * (count - 1)) component_width rules₁) rules₁ ≡ sets rules₀ p (component_rows fill (without_last ds)))
   unfolding Dropped
   dropped-as ds rules₁ count d e h = rw (e, h) d
 
@@ -129,10 +129,10 @@ module _ (n : ℕ) (ds : List Component) where
   pub record Body (o : Outcome (List Component)) : Type 0 where
     pub all : List Component
     pub is_read : o ≡ reads n all
-    pub without : without_first all ≡ ds
+    pub without : without_blank all ≡ ds
 
   -- where the components without a blank at the start read, so did the body, and they are its components but for that
-  body-by : (o : Outcome (List Component)) → behind 0 o without_first ≡ reads n ds → Body o
+  body-by : (o : Outcome (List Component)) → behind 0 o without_blank ≡ reads n ds → Body o
   unfolding behind on_outcome
   body-by (reads m cs) e =
       let z : 0 + m ≡ n = cc in
@@ -142,14 +142,14 @@ module _ (n : ℕ) (ds : List Component) where
   body-by (panics p) e = absurd (let z : ◌≡◌ {A = ℕ} 0 1 = cc in omega arith)
 
 -- where the components without a blank at the start fail, so did the body
-body-fails : (o : Outcome (List Component)) → behind 0 o without_first ≡ fails → o ≡ fails
+body-fails : (o : Outcome (List Component)) → behind 0 o without_blank ≡ fails → o ≡ fails
 unfolding behind on_outcome
 body-fails (reads m cs) e = absurd (let z : ◌≡◌ {A = ℕ} 0 1 = cc in omega arith)
 body-fails fails e = refl
 body-fails (panics p) e = absurd (let z : ◌≡◌ {A = ℕ} 0 1 = cc in omega arith)
 
 -- where the components without a blank at the start panic, so did the body, at the same byte
-body-panics : (o : Outcome (List Component)) (p : ℕ) → behind 0 o without_first ≡ panics p → o ≡ panics p
+body-panics : (o : Outcome (List Component)) (p : ℕ) → behind 0 o without_blank ≡ panics p → o ≡ panics p
 unfolding behind on_outcome
 body-panics (reads m cs) p e = absurd (let z : ◌≡◌ {A = ℕ} 0 1 = cc in omega arith)
 body-panics fails p e = absurd (let z : ◌≡◌ {A = ℕ} 0 1 = cc in omega arith)
@@ -179,14 +179,13 @@ module _ (t : List ℕ) where
     pseudo = pseudo_of (drop n t)
 
     -- the selector: its components are those, from the right, without a blank at the end
-    in_order : without_blank (reverse (without_blank body.all)) ≡ reverse (without_blank ds)
-    unfolding without_first
+    in_order : without_blank (reverse (without_blank body.all)) ≡ reverse (without_last ds)
+    unfolding without_last
     in_order =
-        sym (reverse-reverse (without_blank (reverse (without_blank body.all))))
-        ∙ ap reverse (both_ends body.all ∙ ap without_blank body.without)
+        sym (reverse-reverse (without_blank (reverse (without_blank body.all)))) ∙ ap (λ (cs : List Component). reverse (reverse (without_blank (reverse cs)))) body.without
 
     -- the selector of components in reading order
-    pub selector-reads : selector_of t ≡ reads (n + pseudo_taken pseudo) (record { components = reverse (without_blank ds); pseudo = pseudo })
+    pub selector-reads : selector_of t ≡ reads (n + pseudo_taken pseudo) (record { components = reverse (without_last ds); pseudo = pseudo })
     unfolding selector_of on_outcome
     selector-reads =
         ap (λ (o : Outcome (List Component)). on_outcome o (λ m cs. reads (m + pseudo_taken (pseudo_of (drop m t))) (record { components = without_blank (reverse (without_blank cs)); pseudo = pseudo_of (drop m t) })) fails (λ p. panics p)) body.is_read
@@ -244,24 +243,24 @@ module _ {s rules₀ : List ℕ} {place : ℕ} {store₀ : List ℕ} {fill : ℕ
       module _ {kept : ℕ} {rules₂ : List ℕ} (h₁ : kept ≡ pick (blank_last rules₁ (place + selector_head) count) (count - 1) count)
           (h₂ : rules₂ ≡ pick (blank_last rules₁ (place + selector_head) count) (wiped (place + selector_head + component_width * (count - 1)) component_width rules₁) rules₁) where
         -- with a blank at the end dropped, count and rows are those of the components without it
-        without-it : (pick (blank_last rules₁ (place + selector_head) count) (count - 1) count ≡ length (without_blank ds))
+        without-it : (pick (blank_last rules₁ (place + selector_head) count) (count - 1) count ≡ length (without_last ds))
             × (pick (blank_last rules₁ (place + selector_head) count) (wiped (place + selector_head + component_width * (count - 1)) component_width rules₁) rules₁
-            ≡ sets rules₀ (place + selector_head) (component_rows fill (without_blank ds)))
+            ≡ sets rules₀ (place + selector_head) (component_rows fill (without_last ds)))
         without-it =
             dropped-as rules₀ (place + selector_head) fill body-rows.zeros ds rules₁ count
             (dropped rules₀ (place + selector_head) fill body-rows.zeros ds (omega (arith, keeps.within, keeps.counted, r.for-rows)) (ended ds)) list.rules-are list.counts
 
         -- as many components are kept as there are without a blank at the end
-        kept-is : kept ≡ length (without_blank ds)
+        kept-is : kept ≡ length (without_last ds)
         kept-is = h₁ ∙ without-it.0
 
         -- the rows are those of the components without a blank at the end
-        rules-are : rules₂ ≡ sets rules₀ (place + selector_head) (component_rows fill (without_blank ds))
+        rules-are : rules₂ ≡ sets rules₀ (place + selector_head) (component_rows fill (without_last ds))
         rules-are = h₂ ∙ without-it.1
 
         -- no more are kept than were read
         pub kept-few : kept ≤ length s
-        kept-few = omega (arith, kept-is, fewer ds, keeps.counted, keeps.within)
+        kept-few = omega (arith, kept-is, last-fewer ds, keeps.counted, keeps.within)
 
         -- with its pseudo element
         module _ {taken pseudo : ℕ}
@@ -279,28 +278,28 @@ module _ {s rules₀ : List ℕ} {place : ℕ} {store₀ : List ℕ} {fill : ℕ
           taken-few = omega (arith, taken_is, pseudo-within (drop n s), length-drop n s, n_within)
 
           abbrev selector : Selector
-          selector = record { components = reverse (without_blank ds); pseudo = pseudo_of (drop n s) }
+          selector = record { components = reverse (without_last ds); pseudo = pseudo_of (drop n s) }
 
           -- the selector reads: those components from the right, and the pseudo element
           reads-it : selector_of s ≡ reads (n + taken) selector
           reads-it = selector-reads s n ds list.reads-it ∙ ap (λ (k : ℕ). reads (n + k) selector) (sym taken_is)
 
           -- count, pseudo element and component rows are the selector's row
-          row_is : kept ∷ pseudo ∷ component_rows fill (without_blank ds) ≡ selector_row fill selector
+          row_is : kept ∷ pseudo ∷ component_rows fill (without_last ds) ≡ selector_row fill selector
           unfolding selector_row
-          row_is = rw (kept-is, pseudo-is, reverse-reverse (without_blank ds), length-reverse (without_blank ds))
+          row_is = rw (kept-is, pseudo-is, reverse-reverse (without_last ds), length-reverse (without_last ds))
 
           -- the selector's text is that of all components, as a blank has none
           text-is : selector_text selector ≡ component_texts ds
           unfolding selector_text
-          text-is = ap component_texts (reverse-reverse (without_blank ds)) ∙ end-texts ds (ended ds)
+          text-is = ap component_texts (reverse-reverse (without_last ds)) ∙ end-texts ds (ended ds)
 
           -- the head goes before the components
           pub reads-left : {rules₃ : List ℕ} → rules₃ ≡ sets rules₂ place (kept ∷ pseudo ∷ []) → Ends (Ok (Some (sized (n + taken) 1 (selector_head + component_width * kept) text'))) rules₃ store₁
           reads-left w =
-              left-reads _ _ _ _ _ _ _ _ reads-it refl (two-more _ (component_width * kept) (length-components fill (without_blank ds) ∙ ap (λ (k : ℕ). component_width * k) (sym kept-is)) ∙ ap length row_is)
+              left-reads _ _ _ _ _ _ _ _ reads-it refl (two-more _ (component_width * kept) (length-components fill (without_last ds) ∙ ap (λ (k : ℕ). component_width * k) (sym kept-is)) ∙ ap length row_is)
               (list.texts ∙ ap length (sym text-is))
               (w ∙ ap (λ (l : List ℕ). sets l place (kept ∷ pseudo ∷ [])) rules-are
-              ∙ sets-apart rules₀ place (place + selector_head) (kept ∷ pseudo ∷ []) (component_rows fill (without_blank ds)) (omega arith)
-              ∙ sym (sets-append rules₀ place (kept ∷ pseudo ∷ []) (component_rows fill (without_blank ds))) ∙ ap (sets rules₀ place) row_is)
+              ∙ sets-apart rules₀ place (place + selector_head) (kept ∷ pseudo ∷ []) (component_rows fill (without_last ds)) (omega arith)
+              ∙ sym (sets-append rules₀ place (kept ∷ pseudo ∷ []) (component_rows fill (without_last ds))) ∙ ap (sets rules₀ place) row_is)
               (list.store_is ∙ ap (sets store₀ fill) (sym text-is))

@@ -26,11 +26,12 @@ use Rattle.syntax.specs.RuleSize.{sizes, selector_size}
 use Rattle.syntax.specs.Selector.{Component, element, PseudoElement, Selector}
 use Rattle.syntax.specs.Stream.{texts_many}
 use Rattle.selectors.specs.Outcome.{reads, fails}
-use Rattle.selectors.specs.Selector.{component_of, components_of, components_from, some_of, with_element_of, without_element_of, body_of, is_descendant, without_blank, without_first, pseudo_of, pseudo_taken, selector_of}
+use Rattle.selectors.specs.Selector.{component_of, components_of, components_from, some_of, with_element_of, without_element_of, body_of, without_blank, pseudo_of, pseudo_taken, selector_of}
 use Rattle.selectors.specs.Components.{started_of}
 use Rattle.selectors.specs.SelectorList.{more_selectors, more_from, selectors_of}
 use Rattle.selectors.proofs.AllLaws.{Where, where-behind, where-then, where-else}
 use Rattle.selectors.proofs.ComponentKeeps.{Small, component-keeps}
+use Rattle.selectors.proofs.BodyLaws.{is_descendant, without_last, blank-first, first-none}
 use Rattle.selectors.proofs.Blanks.{ended, end-texts, first-texts}
 
 -- ---- components
@@ -122,23 +123,23 @@ unfolding body_of
 body-keeps s = where-else (length s) (BodyKeeps s) _ _ (with-element s) (without-element s)
 
 -- ---- a blank dropped at either end
--- dropping a blank at the end leaves no more components
-pub fewer : (cs : List Component) → length (without_blank cs) ≤ length cs
-unfolding without_blank
-fewer [] = omega arith
-fewer (c ∷ []) = pick-holds (λ (l : List Component). length l ≤ 1) (is_descendant c) _ _ (λ _. omega arith) (λ _. omega arith)
-fewer (c ∷ d ∷ cs) = omega (arith, fewer (d ∷ cs))
+-- dropping a blank at the start leaves no more components
+fewer : (cs : List Component) → length (without_blank cs) ≤ length cs
+fewer [] = rw first-none (omega arith)
+fewer (c ∷ cs) = rw (blank-first c cs) (pick-holds (λ (l : List Component). length l ≤ suc (length cs)) (is_descendant c) _ _ (λ _. omega arith) (λ _. omega arith))
+
+-- nor does dropping one at the end
+pub last-fewer : (cs : List Component) → length (without_last cs) ≤ length cs
+unfolding without_last
+last-fewer cs = omega (arith, length-reverse (without_blank (reverse cs)), fewer (reverse cs), length-reverse cs)
 
 -- of which holds what held of all
 all-fewer : (P : Component → Type 0) (cs : List Component) → All P cs → All P (without_blank cs)
-unfolding without_blank
-all-fewer P [] h = tt
-all-fewer P (c ∷ []) h = pick-holds (All P) (is_descendant c) _ _ (λ _. tt) (λ _. h)
-all-fewer P (c ∷ d ∷ cs) h = (h.0, all-fewer P (d ∷ cs) h.1)
+all-fewer P [] h = rw first-none tt
+all-fewer P (c ∷ cs) h = rw (blank-first c cs) (pick-holds (All P) (is_descendant c) _ _ (λ _. h.1) (λ _. h))
 
 -- without a blank at the start
-first-keeps : (s : List ℕ) (n : ℕ) (cs : List Component) → BodyKeeps s n cs → BodyKeeps s (0 + n) (without_first cs)
-unfolding without_first
+first-keeps : (s : List ℕ) (n : ℕ) (cs : List Component) → BodyKeeps s n cs → BodyKeeps s (0 + n) (without_blank cs)
 first-keeps s n cs b =
     let k = b.keeps in
     let t = ap length (first-texts cs) in
@@ -147,18 +148,18 @@ first-keeps s n cs b =
       keeps =
           record {
             within = omega (arith, k.within);
-            counted = omega (arith, k.counted, length-reverse cs, fewer (reverse cs), length-reverse (without_blank (reverse cs)));
+            counted = omega (arith, k.counted, fewer cs);
             long = omega (arith, k.long);
             sharp = λ g. omega (arith, k.sharp (omega arith));
             empty = λ g. omega (arith, k.empty (omega arith));
-            small = all-reverse Small (without_blank (reverse cs)) (all-fewer Small (reverse cs) (all-reverse Small cs k.small));
+            small = all-fewer Small cs k.small;
           };
     }
 
 -- as the code reads it
 pub started-keeps : (s : List ℕ) → Where (length s) (BodyKeeps s) (started_of s)
 unfolding started_of
-started-keeps s = where-behind (length s) (length s) (BodyKeeps s) (BodyKeeps s) 0 (body_of s) without_first (first-keeps s) (omega arith) (body-keeps s)
+started-keeps s = where-behind (length s) (length s) (BodyKeeps s) (BodyKeeps s) 0 (body_of s) without_blank (first-keeps s) (omega arith) (body-keeps s)
 
 -- ---- selectors one behind the other: e numbers, and four for each byte taken
 pub record SelectorKeeps (s : List ℕ) (n : ℕ) (x : Selector) : Type 0 where
@@ -183,8 +184,8 @@ module _ (cs : List Component) (p : PseudoElement) where
 
   -- the selector has the texts of the components that it was made of
   made-texts : selector_text made ≡ component_texts cs
-  unfolding selector_text without_first
-  made-texts = first-texts (without_blank cs) ∙ end-texts cs (ended cs)
+  unfolding selector_text without_last
+  made-texts = end-texts (without_blank cs) (ended (without_blank cs)) ∙ first-texts cs
 
   -- the selector has no more components than it was made of
   made-fewer : length made.components ≤ length cs

@@ -1,5 +1,5 @@
 -- Components of selectors as the code answers them, with the lengths of their texts, which lie in the store; and the columns of their rows.
-use Rattle.std.specs.Prelude.{ℕ, ◌+◌, Option, Some, None, Result, Ok, Err, List, [], ◌∷◌, ◌≡◌, refl, length, get_or, drop}
+use Rattle.std.specs.Prelude.{ℕ, ◌+◌, Option, Some, None, Result, Ok, Err, List, [], ◌∷◌, ◌≡◌, refl, pos, negsuc, length, get_or, drop}
 use Rattle.std.proofs.lemmas.List.Edits.{sets}
 use Rattle.combinators.specs.Ascii as ascii
 use Rattle.combinators.specs.Choice.{pick, is}
@@ -19,7 +19,7 @@ use Rattle.syntax.specs.Selector.{child, star}
 use Rattle.syntax.specs.RuleLayout.{star_kind, class_kind, element_kind, hash_kind, child_kind, descendant_kind, nth_kind, attribute_kind, attribute_equal_kind, component_text}
 use Rattle.syntax.specs.Signed.{signed_number}
 use Rattle.selectors.specs.Outcome as outcome
-use Rattle.selectors.specs.Outcome.{Outcome, reads, on_outcome, or_else}
+use Rattle.selectors.specs.Outcome.{Outcome, reads, panics, on_outcome, or_else}
 use Rattle.selectors.specs.Selector.{quoted_of, marked, blank_of, class_of, attr_of, hash_of, pseudo_class_of}
 use Rattle.selectors.specs.Reading.{written}
 use Rattle.selectors.specs.declared.components.Component.{Component}
@@ -64,6 +64,12 @@ case : (component_answer (reads 3 (syntax.class (text "ab"))) ≡ Ok (Some (reco
     × (written component_text (reads 7 (syntax.attribute_equal (text "a") (text "b"))) ≡ text "ab")
 unfolding component_answer component_coded written on_outcome component_text text utf8 pick
 case = (refl, refl, refl)
+
+-- "-2n+3", and a panic at the second byte
+case-nth : (component_answer (reads 5 (syntax.nth (negsuc 1) (pos 3))) ≡ Ok (Some (record { taken = 5; value = code.Nth 3 6 })))
+    × (component_answer (panics 1) ≡ Err (record { place = 1 }))
+unfolding component_answer component_coded on_outcome signed_number
+case-nth = (refl, refl)
 
 -- ---- the parts of `parse_simple_selector_component`
 

@@ -10,7 +10,7 @@ use Rattle.selectors.specs.declared.components.Component.TheVariants as variant
 use Rattle.selectors.specs.declared.selectors.PseudoElement as declared
 use Rattle.selectors.specs.declared.selectors.PseudoElement.TheVariants as code
 use Rattle.selectors.specs.Outcome.{Outcome, behind, parsed, or_else}
-use Rattle.selectors.specs.Selector.{component_of, body_of, is_descendant, without_first}
+use Rattle.selectors.specs.Selector.{component_of, body_of, without_blank}
 
 -- the bytes of a component's texts
 unfoldable pub text_length : component.Component → ℕ
@@ -39,11 +39,11 @@ next_of start t = pick start (first_component t) (component_of t)
 
 -- what is kept of it: a blank at the start is dropped
 unfoldable pub kept_of : Bool → Component → List Component
-kept_of start c = pick start (pick (is_descendant c) [] (c ∷ [])) (c ∷ [])
+kept_of start c = pick start (without_blank (c ∷ [])) (c ∷ [])
 
 -- all of them, without a blank at the start
 unfoldable pub started_of : List ℕ → Outcome (List Component)
-started_of t = behind 0 (body_of t) without_first
+started_of t = behind 0 (body_of t) without_blank
 
 -- whether the last of n rows is that of a blank
 unfoldable pub blank_last : List ℕ → ℕ → ℕ → Bool

@@ -1,12 +1,12 @@
 -- Selectors: `parse_class` to `parse_selector` of src/css/parser.rs, in the crate's order.
-use Rattle.std.specs.Prelude.{ℕ, zero, suc, ◌+◌, Bool, true, false, List, [], ◌∷◌, reverse, leb, ℤ, pos, negsuc, length, get_or, take, drop}
+use Rattle.std.specs.Prelude.{ℕ, zero, suc, ◌+◌, Bool, List, [], ◌∷◌, reverse, leb, ℤ, pos, negsuc, length, get_or, take, drop}
 use Rattle.combinators.specs.Ascii as ascii
 use Rattle.combinators.specs.Choice.{pick, or, and, is}
 use Rattle.combinators.specs.Parsed.{Parsed, ok, err, on_parsed}
 use Rattle.combinators.specs.Word.{starts_with, same_text}
 use Rattle.characters.specs.Literal.{text}
 use Rattle.lexer.specs.Name.{ident_of, identstring_of, hex_digit}
-use Rattle.lexer.specs.Number.{digits}
+use Rattle.lexer.specs.Number.{sign, digits}
 use Rattle.lexer.specs.Token.{Token, string, string_of}
 use Rattle.lexer.specs.Whitespace.{skip_whitespace}
 use Rattle.syntax.specs.Selector.{Component, star, class, element, hash, child, descendant, nth, attribute, attribute_equal, PseudoElement, none, before, after, Selector}
@@ -48,19 +48,11 @@ attr_of t =
     fails
 
 -- ---- `parse_nth_child_args`
-pub record Nth : Type 0 where
-  pub a : ℤ
-  pub b : ℤ
-
 unfoldable pub is_minus : List ℕ → ℕ → Bool
 is_minus t i = is (get_or t i 0) ascii.hyphen_minus
 
 unfoldable pub is_sign : List ℕ → ℕ → Bool
 is_sign t i = or (is_minus t i) (is (get_or t i 0) ascii.plus_sign)
-
--- the bytes of a sign or none
-unfoldable pub sign_taken : List ℕ → ℕ
-sign_taken t = pick (is_sign t 0) 1 0
 
 -- a number with its sign
 unfoldable pub signed : Bool → ℕ → ℤ
@@ -71,50 +63,48 @@ signed minus (suc n) = pick minus (negsuc n) (pos (suc n))
 abbrev pub greatest : ℕ
 greatest = 2147483647
 
--- the number that n digits from i on write, or 1 where there are none
-unfoldable pub digits_worth : List ℕ → ℕ → ℕ → ℕ
-digits_worth t i n = pick (is n 0) 1 (numeral 10 hex_digit 0 (take n (drop i t)))
-
--- it is converted where it fits `i32`; the crate panics where "nth-child digits that the crate's reader converts exceed 2147483647", and "Refusal 4 remains" for these alone (S-6),
--- at the first digit. Their sign does not count: -2147483648 is refused.
+-- the number that n digits from i on write, or 1 where there are none, is converted where it fits `i32`; the crate panics where "nth-child digits that the
+-- crate's reader converts exceed 2147483647", and "Refusal 4 remains" for these alone (S-6), at the first digit. Their sign does not count: -2147483648 is refused.
 unfoldable pub converted : {A : Type 0} → List ℕ → ℕ → ℕ → Bool → (ℤ → Outcome A) → Outcome A
-converted t i n minus f = pick (leb (digits_worth t i n) greatest) (f (signed minus (digits_worth t i n))) (panics i)
+converted t i n minus f =
+    let v = pick (is n 0) 1 (numeral 10 hex_digit 0 (take n (drop i t))) in
+    pick (leb v greatest) (f (signed minus v)) (panics i)
 
 -- a sign or none, digits or none, `n`, white space or none, a sign, digits
-unfoldable pub both_of : List ℕ → Outcome Nth
+unfoldable pub both_of : List ℕ → Outcome Component
 both_of t =
-    let i = sign_taken t in
+    let i = sign t in
     let n = digits (drop i t) in
     let j = i + n + 1 in
     let p = j + skip_whitespace (drop j t) in
     let m = digits (drop (p + 1) t) in
     pick (and (is (get_or t (i + n) 0) ascii.small_n) (and (is_sign t p) (leb 1 m)))
-    (converted t i n (is_minus t 0) (λ a. converted t (p + 1) m (is_minus t p) (λ b. reads (p + 1 + m) (record { a = a; b = b }))))
+    (converted t i n (is_minus t 0) (λ a. converted t (p + 1) m (is_minus t p) (λ b. reads (p + 1 + m) (nth a b))))
     fails
 
 -- the same up to the `n`
-unfoldable pub just_a : List ℕ → Outcome Nth
+unfoldable pub just_a : List ℕ → Outcome Component
 just_a t =
-    let i = sign_taken t in
+    let i = sign t in
     let n = digits (drop i t) in
-    pick (is (get_or t (i + n) 0) ascii.small_n) (converted t i n (is_minus t 0) (λ a. reads (i + n + 1) (record { a = a; b = pos 0 }))) fails
+    pick (is (get_or t (i + n) 0) ascii.small_n) (converted t i n (is_minus t 0) (λ a. reads (i + n + 1) (nth a (pos 0)))) fails
 
 -- a sign or none, digits
-unfoldable pub just_b : List ℕ → Outcome Nth
+unfoldable pub just_b : List ℕ → Outcome Component
 just_b t =
-    let i = sign_taken t in
+    let i = sign t in
     let n = digits (drop i t) in
-    pick (leb 1 n) (converted t i n (is_minus t 0) (λ b. reads (i + n) (record { a = pos 0; b = b }))) fails
+    pick (leb 1 n) (converted t i n (is_minus t 0) (λ b. reads (i + n) (nth (pos 0) b))) fails
 
-unfoldable pub worded : List ℕ → List ℕ → ℤ → ℤ → Outcome Nth
-worded t word a b = pick (starts_with word t) (reads (length word) (record { a = a; b = b })) fails
+unfoldable pub worded : List ℕ → List ℕ → ℤ → ℤ → Outcome Component
+worded t word a b = pick (starts_with word t) (reads (length word) (nth a b)) fails
 
 -- the first that reads, and no other is tried behind it: "(evenn+1)" does not read
-unfoldable pub nth_of : List ℕ → Outcome Nth
+unfoldable pub nth_of : List ℕ → Outcome Component
 nth_of t = or_else (worded t (text "even") (pos 2) (pos 0)) (or_else (worded t (text "odd") (pos 2) (pos 1)) (or_else (both_of t) (or_else (just_a t) (just_b t))))
 
 -- in brackets, with white space or none before and behind. Numbers are converted, a before b, as soon as their alternative reads and before the bracket is looked for.
-unfoldable pub nth_args_of : List ℕ → Outcome Nth
+unfoldable pub nth_args_of : List ℕ → Outcome Component
 nth_args_of t =
     let w = 1 + skip_whitespace (drop 1 t) in
     pick (is (get_or t 0 0) ascii.left_parenthesis)
@@ -123,14 +113,11 @@ nth_args_of t =
     pick (is (get_or t e 0) ascii.right_parenthesis) (reads (e + 1) x) fails) fails (λ p. panics (w + p)))
     fails
 
-unfoldable pub nth_child_args : List ℕ → Outcome Component
-nth_child_args t = behind 0 (nth_args_of t) (λ x. nth x.a x.b)
-
 -- `parse_pseudo_class`: `nth-child` alone
 unfoldable pub pseudo_class_of : List ℕ → Outcome Component
 pseudo_class_of t =
     pick (is (get_or t 0 0) ascii.colon)
-    (on_parsed (ident_of (drop 1 t)) (λ n name. pick (same_text name (text "nth-child")) (behind (1 + n) (nth_child_args (drop (1 + n) t)) (λ c. c)) fails) fails)
+    (on_parsed (ident_of (drop 1 t)) (λ n name. pick (same_text name (text "nth-child")) (behind (1 + n) (nth_args_of (drop (1 + n) t)) (λ c. c)) fails) fails)
     fails
 
 -- `>` and `*`, with white space or none on both sides
@@ -180,19 +167,10 @@ without_element_of t = some_of (components_from t)
 unfoldable pub body_of : List ℕ → Outcome (List Component)
 body_of t = or_else (with_element_of t) (without_element_of t)
 
-unfoldable pub is_descendant : Component → Bool
-is_descendant descendant = true
-is_descendant _ = false
-
--- without a blank at the end
-unfoldable pub without_blank : List Component → List Component
-without_blank [] = []
-without_blank (c ∷ []) = pick (is_descendant c) [] (c ∷ [])
-without_blank (c ∷ d ∷ cs) = c ∷ without_blank (d ∷ cs)
-
 -- without a blank at the start
-unfoldable pub without_first : List Component → List Component
-without_first cs = reverse (without_blank (reverse cs))
+unfoldable pub without_blank : List Component → List Component
+without_blank (descendant ∷ cs) = cs
+without_blank cs = cs
 
 -- `parse_pseudo_element`
 unfoldable pub pseudo_of : List ℕ → PseudoElement

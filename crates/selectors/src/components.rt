@@ -180,7 +180,7 @@ pub fn parse_pseudo_class(
     };
     Ok(Some(Taken {
         taken: 1 + n + nth.taken,
-        value: Component::Nth(nth.value.a, nth.value.b),
+        ..nth
     }))
 }
 

@@ -3,21 +3,16 @@
 ghost use Rattle.std.specs.Prelude.{◌≡◌, ◌≤◌, length};
 ghost use Rattle.syntax.specs.Signed.{signed_number};
 ghost use Rattle.selectors.specs.Selector.{signed, greatest, both_of, just_a, just_b, nth_of, nth_args_of};
-ghost use Rattle.selectors.specs.NthAnswer.{nth_answer, converted_answer, integer_of};
+ghost use Rattle.selectors.specs.ComponentAnswer.{component_answer};
+ghost use Rattle.selectors.specs.NthAnswer.{converted_answer, integer_of};
 
+use crate::components::Component;
 use crate::readings::{Panic, moved};
 use combinators::bytes::{byte_is, starts_with};
 use combinators::taken::Taken;
 use lexer::numbers::{parse_integer, parse_sign};
 use lexer::whitespace::skip_from;
 use values::colours::{DECIMAL, digits_in};
-
-// The two numbers of an+b.
-#[derive(Clone, Copy, Debug, PartialEq, Eq)]
-pub struct Nth {
-    pub a: u32,
-    pub b: u32,
-}
 
 // A sign or none and digits or none: the bytes of the sign, the bytes of both, and the number where it fits.
 #[derive(Clone, Copy, Debug, PartialEq, Eq)]
@@ -77,8 +72,8 @@ fn signed_integer(s: &[u8]) -> SignedInteger
 }
 
 // A sign or none, digits or none, `n`, white space or none, a sign, digits.
-fn both_of(s: &[u8]) -> Result<Option<Taken<Nth>>, Panic>
-    ensures { result ≡ nth_answer (both_of s.now) }
+fn both_of(s: &[u8]) -> Result<Option<Taken<Component>>, Panic>
+    ensures { result ≡ component_answer (both_of s.now) }
 {
     let first = signed_integer(s);
     if !byte_is(s, first.taken, b'n') {
@@ -95,13 +90,13 @@ fn both_of(s: &[u8]) -> Result<Option<Taken<Nth>>, Panic>
     })?;
     Ok(Some(Taken {
         taken: at + second.taken,
-        value: Nth { a, b },
+        value: Component::Nth(a, b),
     }))
 }
 
 // The same up to the `n`.
-fn just_a(s: &[u8]) -> Result<Option<Taken<Nth>>, Panic>
-    ensures { result ≡ nth_answer (just_a s.now) }
+fn just_a(s: &[u8]) -> Result<Option<Taken<Component>>, Panic>
+    ensures { result ≡ component_answer (just_a s.now) }
 {
     let first = signed_integer(s);
     if !byte_is(s, first.taken, b'n') {
@@ -110,13 +105,13 @@ fn just_a(s: &[u8]) -> Result<Option<Taken<Nth>>, Panic>
     let a = first.value.ok_or(Panic { place: first.sign })?;
     Ok(Some(Taken {
         taken: first.taken + 1,
-        value: Nth { a, b: ZERO },
+        value: Component::Nth(a, ZERO),
     }))
 }
 
 // A sign or none, digits.
-fn just_b(s: &[u8]) -> Result<Option<Taken<Nth>>, Panic>
-    ensures { result ≡ nth_answer (just_b s.now) }
+fn just_b(s: &[u8]) -> Result<Option<Taken<Component>>, Panic>
+    ensures { result ≡ component_answer (just_b s.now) }
 {
     let second = signed_integer(s);
     if second.taken == second.sign {
@@ -125,24 +120,24 @@ fn just_b(s: &[u8]) -> Result<Option<Taken<Nth>>, Panic>
     let b = second.value.ok_or(Panic { place: second.sign })?;
     Ok(Some(Taken {
         taken: second.taken,
-        value: Nth { a: ZERO, b },
+        value: Component::Nth(ZERO, b),
     }))
 }
 
 // `even`, `odd`, or an+b in one of its forms, in the crate's order.
-fn parse_nth(s: &[u8]) -> Result<Option<Taken<Nth>>, Panic>
-    ensures { result ≡ nth_answer (nth_of s.now) }
+fn parse_nth(s: &[u8]) -> Result<Option<Taken<Component>>, Panic>
+    ensures { result ≡ component_answer (nth_of s.now) }
 {
     if starts_with(s, &EVEN) {
         return Ok(Some(Taken {
             taken: EVEN.len(),
-            value: Nth { a: TWO, b: ZERO },
+            value: Component::Nth(TWO, ZERO),
         }));
     }
     if starts_with(s, &ODD) {
         return Ok(Some(Taken {
             taken: ODD.len(),
-            value: Nth { a: TWO, b: ONE },
+            value: Component::Nth(TWO, ONE),
         }));
     }
     if let Some(both) = both_of(s)? {
@@ -155,8 +150,8 @@ fn parse_nth(s: &[u8]) -> Result<Option<Taken<Nth>>, Panic>
 }
 
 // The arguments in brackets, with white space or none before and behind. The '(' is passed by a place and not stripped: what follows goes by places in `s`.
-pub fn parse_nth_child_args(s: &[u8]) -> Result<Option<Taken<Nth>>, Panic>
-    ensures { result ≡ nth_answer (nth_args_of s.now) }
+pub fn parse_nth_child_args(s: &[u8]) -> Result<Option<Taken<Component>>, Panic>
+    ensures { result ≡ component_answer (nth_args_of s.now) }
 {
     if !byte_is(s, 0, b'(') {
         return Ok(None);

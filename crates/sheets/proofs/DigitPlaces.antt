@@ -20,7 +20,8 @@ use Rattle.lexer.specs.Whitespace.{skip_whitespace}
 use Rattle.lexer.proofs.TokenBounds.{on-holds}
 use Rattle.syntax.specs.Selector.{Component}
 use Rattle.selectors.specs.Outcome.{Outcome, reads, fails, panics, on_outcome, behind, parsed, or_else}
-use Rattle.selectors.specs.Selector.{Nth, class_of, hash_of, closed, value_of, attr_of, greatest, digits_worth, converted, both_of, just_a, just_b, worded, nth_of, nth_args_of, nth_child_args, pseudo_class_of, marked, blank_of, component_of}
+use Rattle.selectors.specs.Selector.{class_of, hash_of, closed, value_of, attr_of, greatest, converted, both_of, just_a, just_b, worded, nth_of, nth_args_of, pseudo_class_of, marked, blank_of, component_of}
+use Rattle.selectors.proofs.NthNumbers.{digits_worth}
 
 -- where it panics there is a digit
 abbrev pub AtDigit : {A : Type 0} → List ℕ → Outcome A → Type 0
@@ -76,8 +77,8 @@ digit-first t i e = go (is_digit (get_or t i 0)) refl
     go false d = never (sym e ∙ one-fits t i (no-digits (drop i t) (ap is_digit (first t i) ∙ d)))
 
 -- so a number that is converted
-digit-converted : (t : List ℕ) (i : ℕ) (minus : Bool) (f : ℤ → Outcome Nth) → ((z : ℤ) → AtDigit t (f z)) → AtDigit t (converted t i (digits (drop i t)) minus f)
-unfolding converted
+digit-converted : (t : List ℕ) (i : ℕ) (minus : Bool) (f : ℤ → Outcome Component) → ((z : ℤ) → AtDigit t (f z)) → AtDigit t (converted t i (digits (drop i t)) minus f)
+unfolding converted digits_worth
 digit-converted t i minus f h = pick-holds (AtDigit t) _ _ _ (λ _. h _) (λ e. digit-first t i e)
 
 -- `an+b` panics only at a digit, that of either number
@@ -115,18 +116,13 @@ digit-args t =
     pick-holds (AtDigit t) _ _ _
     (λ _. digit-then t w (nth_of (drop w t)) _ (digit-nth (drop w t)) (λ n x. pick-holds (AtDigit t) _ _ _ (λ _. tt) (λ _. tt))) (λ _. tt)
 
--- the arguments of `nth-child`, made a component, panic only at a digit
-digit-child : (t : List ℕ) → AtDigit t (nth_child_args t)
-unfolding nth_child_args
-digit-child t = digit-behind t 0 (nth_args_of t) _ (digit-args t)
-
 -- a pseudo-class panics only at a digit, that of its `nth-child`
 digit-pseudo : (t : List ℕ) → AtDigit t (pseudo_class_of t)
 unfolding pseudo_class_of
 digit-pseudo t =
     pick-holds (AtDigit t) _ _ _
     (λ _. on-holds (AtDigit t) (ident_of (drop 1 t)) _ _
-    (λ n name _. pick-holds (AtDigit t) _ _ _ (λ _. digit-behind t (1 + n) (nth_child_args (drop (1 + n) t)) _ (digit-child (drop (1 + n) t))) (λ _. tt)) (λ _. tt))
+    (λ n name _. pick-holds (AtDigit t) _ _ _ (λ _. digit-behind t (1 + n) (nth_args_of (drop (1 + n) t)) _ (digit-args (drop (1 + n) t))) (λ _. tt)) (λ _. tt))
     (λ _. tt)
 
 -- ---- attributes never panic

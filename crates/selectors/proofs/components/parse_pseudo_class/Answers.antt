@@ -35,13 +35,13 @@ pub moved-requires : goal.moved-requires
 moved-requires c = moved-fits _ _ (λ q e. let h = laws.pseudo-panic-le c.args.s.now c.args.store.now _ c.byte_is.ensures c.if-not-byte_is.false _ _ (c.nth_child_name.ensures.value, c.nth_child_name.ensures.store_unchanged) _ c.in-Some.is _ c.parse_nth_child_args.ensures q.place e (laws.colon-there c.args.s.now _ c.byte_is.ensures c.if-not-byte_is.false) in search rules)
 
 pub overflow_add-result : goal.overflow_add-result
-overflow_add-result c = let h = laws.pseudo-le c.args.s.now c.args.store.now _ c.byte_is.ensures c.if-not-byte_is.false _ _ (c.nth_child_name.ensures.value, c.nth_child_name.ensures.store_unchanged) _ c.in-Some.is _ c.parse_nth_child_args.ensures _ _ _ (moved-ok _ _ _ c.moved.ensures _ (c.in_ok-nth.was ∙ ap Ok c.in-Some-2.is)) (laws.colon-there c.args.s.now _ c.byte_is.ensures c.if-not-byte_is.false) in search rules
+overflow_add-result c = let h = laws.pseudo-le c.args.s.now c.args.store.now _ c.byte_is.ensures c.if-not-byte_is.false _ _ (c.nth_child_name.ensures.value, c.nth_child_name.ensures.store_unchanged) _ c.in-Some.is _ c.parse_nth_child_args.ensures _ _ (moved-ok _ _ _ c.moved.ensures _ (c.in_ok-nth.was ∙ ap Ok c.in-Some-2.is)) (laws.colon-there c.args.s.now _ c.byte_is.ensures c.if-not-byte_is.false) in search rules
 
 pub overflow_add-result-2 : goal.overflow_add-result-2
-overflow_add-result-2 c = let h = laws.pseudo-le c.args.s.now c.args.store.now _ c.byte_is.ensures c.if-not-byte_is.false _ _ (c.nth_child_name.ensures.value, c.nth_child_name.ensures.store_unchanged) _ c.in-Some.is _ c.parse_nth_child_args.ensures _ _ _ (moved-ok _ _ _ c.moved.ensures _ (c.in_ok-nth.was ∙ ap Ok c.in-Some-2.is)) (laws.colon-there c.args.s.now _ c.byte_is.ensures c.if-not-byte_is.false) in search rules
+overflow_add-result-2 c = let h = laws.pseudo-le c.args.s.now c.args.store.now _ c.byte_is.ensures c.if-not-byte_is.false _ _ (c.nth_child_name.ensures.value, c.nth_child_name.ensures.store_unchanged) _ c.in-Some.is _ c.parse_nth_child_args.ensures _ _ (moved-ok _ _ _ c.moved.ensures _ (c.in_ok-nth.was ∙ ap Ok c.in-Some-2.is)) (laws.colon-there c.args.s.now _ c.byte_is.ensures c.if-not-byte_is.false) in search rules
 
 pub returns : goal.returns
-returns c = let t = laws.pseudo-nth _ _ _ c.byte_is.ensures c.if-not-byte_is.false _ _ (c.nth_child_name.ensures.value, c.nth_child_name.ensures.store_unchanged) _ c.in-Some.is _ c.parse_nth_child_args.ensures _ _ _ (moved-ok _ _ _ c.moved.ensures _ (c.in_ok-nth.was ∙ ap Ok c.in-Some-2.is)) in record { value = t.0; store_unchanged = t.1 }
+returns c = let t = laws.pseudo-nth _ _ _ c.byte_is.ensures c.if-not-byte_is.false _ _ (c.nth_child_name.ensures.value, c.nth_child_name.ensures.store_unchanged) _ c.in-Some.is _ c.parse_nth_child_args.ensures _ _ (moved-ok _ _ _ c.moved.ensures _ (c.in_ok-nth.was ∙ ap Ok c.in-Some-2.is)) in record { value = t.0; store_unchanged = t.1 }
 
 pub returns-in_default-2 : goal.returns-in_default-2
 returns-in_default-2 c = let t = laws.pseudo-none _ _ _ c.byte_is.ensures c.if-not-byte_is.false _ _ (c.nth_child_name.ensures.value, c.nth_child_name.ensures.store_unchanged) _ c.in-Some.is _ c.parse_nth_child_args.ensures (moved-ok _ _ _ c.moved.ensures _ (c.in_ok-nth.was ∙ ap Ok c.in_default-2.is)) in record { value = t.0; store_unchanged = t.1 }

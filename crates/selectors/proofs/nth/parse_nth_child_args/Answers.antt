@@ -26,13 +26,13 @@ returns-in_err-nth c =
     rw (p.1, p.2) (ap Err m.2 ∙ laws.args-panic _ _ c.byte_is.ensures c.if-not-byte_is.false _ c.skip_from-start.ensures.value c.skip_from-start.ensures.upper_bound _ c.parse_nth.ensures m.0 m.1)
 
 pub overflow_add-start : goal.overflow_add-start
-overflow_add-start c = let h = laws.args-le c.args.s.now _ c.byte_is.ensures c.if-not-byte_is.false _ c.skip_from-start.ensures.value c.skip_from-start.ensures.upper_bound _ c.parse_nth.ensures _ _ _ (moved-ok _ _ _ c.moved.ensures _ (c.in_ok-nth.was ∙ ap Ok c.in-Some.is)) in search rules
+overflow_add-start c = let h = laws.args-le c.args.s.now _ c.byte_is.ensures c.if-not-byte_is.false _ c.skip_from-start.ensures.value c.skip_from-start.ensures.upper_bound _ c.parse_nth.ensures _ _ (moved-ok _ _ _ c.moved.ensures _ (c.in_ok-nth.was ∙ ap Ok c.in-Some.is)) in search rules
 
 pub skip_from-end-requires : goal.skip_from-end-requires
-skip_from-end-requires c = laws.args-le c.args.s.now _ c.byte_is.ensures c.if-not-byte_is.false _ c.skip_from-start.ensures.value c.skip_from-start.ensures.upper_bound _ c.parse_nth.ensures _ _ _ (moved-ok _ _ _ c.moved.ensures _ (c.in_ok-nth.was ∙ ap Ok c.in-Some.is))
+skip_from-end-requires c = laws.args-le c.args.s.now _ c.byte_is.ensures c.if-not-byte_is.false _ c.skip_from-start.ensures.value c.skip_from-start.ensures.upper_bound _ c.parse_nth.ensures _ _ (moved-ok _ _ _ c.moved.ensures _ (c.in_ok-nth.was ∙ ap Ok c.in-Some.is))
 
 pub returns-then-not-byte_is-2 : goal.returns-then-not-byte_is-2
-returns-then-not-byte_is-2 c = laws.args-open _ _ c.byte_is.ensures c.if-not-byte_is.false _ c.skip_from-start.ensures.value c.skip_from-start.ensures.upper_bound _ c.parse_nth.ensures _ _ _ (moved-ok _ _ _ c.moved.ensures _ (c.in_ok-nth.was ∙ ap Ok c.in-Some.is)) _ c.skip_from-end.ensures.value _ c.byte_is-2.ensures c.if-not-byte_is-2.true
+returns-then-not-byte_is-2 c = laws.args-open _ _ c.byte_is.ensures c.if-not-byte_is.false _ c.skip_from-start.ensures.value c.skip_from-start.ensures.upper_bound _ c.parse_nth.ensures _ _ (moved-ok _ _ _ c.moved.ensures _ (c.in_ok-nth.was ∙ ap Ok c.in-Some.is)) _ c.skip_from-end.ensures.value _ c.byte_is-2.ensures c.if-not-byte_is-2.true
 
 pub returns : goal.returns
-returns c = laws.args_read _ _ c.byte_is.ensures c.if-not-byte_is.false _ c.skip_from-start.ensures.value c.skip_from-start.ensures.upper_bound _ c.parse_nth.ensures _ _ _ (moved-ok _ _ _ c.moved.ensures _ (c.in_ok-nth.was ∙ ap Ok c.in-Some.is)) _ c.skip_from-end.ensures.value _ c.byte_is-2.ensures c.if-not-byte_is-2.false
+returns c = laws.args_read _ _ c.byte_is.ensures c.if-not-byte_is.false _ c.skip_from-start.ensures.value c.skip_from-start.ensures.upper_bound _ c.parse_nth.ensures _ _ (moved-ok _ _ _ c.moved.ensures _ (c.in_ok-nth.was ∙ ap Ok c.in-Some.is)) _ c.skip_from-end.ensures.value _ c.byte_is-2.ensures c.if-not-byte_is-2.false
