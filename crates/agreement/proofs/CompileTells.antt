@@ -1,13 +1,14 @@
 -- What a compile call that refuses nothing tells: the three sheets were read, and the bytes that it gives are their selectors, which a run takes.
 use Prim.Native.Nat.{ℕ, ◌+◌, ◌-◌, ◌≤◌, ◌<◌}
 use mathlib.Core.Path.{◌≡◌, refl, ap}
-use mathlib.Core.Bool.{true, false}
+use mathlib.Core.Bool.{true, false, not}
 use mathlib.Core.List.{List}
 use native.Mathlib.Omega.{arith}
 use borrow.Author.Tests.{leb-true, ltb-false}
 use lib.Dec.{leb, ltb}
 use lib.ListN.{length, take, replicate}
 use lib.Seq.{take_at}
+use Rattle.std.proofs.lemmas.Bool.{not-false}
 use Rattle.combinators.specs.LeastLengths.{stores_suffice}
 use Rattle.combinators.specs.Refusal.{no_refusal, refused, refused_in, too_long, short_store, not_utf8, panic, no_room}
 use Rattle.combinators.specs.declared.refusals.Refusal.{Refusal}
@@ -86,11 +87,9 @@ module _ (s : SheetTexts) (b : CompileBuffers) where
   unfolding compile_of
   compile-tells =
       pick-holds Claimed (any_too_long (length s.agent) (length s.user) (length s.author)) _ _ (λ _. refusing too_long (omega arith))
-      (λ short. pick-holds Claimed (stores_suffice (length s.agent + length s.user + length s.author) (length b.rules) (length b.tokens) (length b.brackets) (length b.texts)) _ _
-      (λ _. pick-holds Claimed (all_valid s.agent s.user s.author) _ _
-      (λ valid. by-sheets short valid (sheets_of s.agent s.user s.author) refl)
-      (λ _. refusing not_utf8 (omega arith)))
-      (λ _. refusing short_store (omega arith)))
+      (λ short. pick-holds Claimed (not (stores_suffice (length s.agent + length s.user + length s.author) (length b.rules) (length b.tokens) (length b.brackets) (length b.texts))) _ _ (λ _. refusing short_store (omega arith))
+      (λ _. pick-holds Claimed (not (all_valid s.agent s.user s.author)) _ _ (λ _. refusing not_utf8 (omega arith))
+      (λ valid. by-sheets short (not-false _ valid) (sheets_of s.agent s.user s.author) refl)))
 
 -- the bytes read as a sheet to their last byte: a run never refuses them as no sheet
 pub bytes-taken : (s : SheetTexts) (code : List ℕ) → Compiled s code → bytes_refusal code ≡ no_refusal

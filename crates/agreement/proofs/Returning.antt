@@ -1,6 +1,7 @@
 -- Demand 3 of three calls whose contracts are given: one law for each function that makes them.
 use Prim.Native.Nat.{ℕ, ◌+◌, ◌≤◌}
 use mathlib.Core.Path.{◌≡◌, ap, sym, subst, ◌∙◌}
+use mathlib.Core.Bool.{not}
 use mathlib.Core.List.{List}
 use native.Mathlib.Omega.{arith}
 use lib.Dec.{leb}
@@ -61,11 +62,9 @@ module _ (s : SheetTexts) (b : CompileBuffers) where
   unfolding compile_of
   bytes-within =
       pick-holds Within (any_too_long (length s.agent) (length s.user) (length s.author)) _ _ (λ _. none_left (refused too_long))
-      (λ _. pick-holds Within (stores_suffice (length s.agent + length s.user + length s.author) (length b.rules) (length b.tokens) (length b.brackets) (length b.texts)) _ _
-      (λ _. pick-holds Within (all_valid s.agent s.user s.author) _ _
-      (λ _. by-sheets (sheets_of s.agent s.user s.author))
-      (λ _. none_left (refused not_utf8)))
-      (λ _. none_left (refused short_store)))
+      (λ _. pick-holds Within (not (stores_suffice (length s.agent + length s.user + length s.author) (length b.rules) (length b.tokens) (length b.brackets) (length b.texts))) _ _ (λ _. none_left (refused short_store))
+      (λ _. pick-holds Within (not (all_valid s.agent s.user s.author)) _ _ (λ _. none_left (refused not_utf8))
+      (λ _. by-sheets (sheets_of s.agent s.user s.author))))
 
   -- the bytes that a call counts, none where it refuses, lie within the buffer
   pub compiled-within : {n m : CompileNumbers} {k t y x z : List ℕ} → record { answer = m; compiled = k; texts = t; rules = y; tokens = x; brackets = z } ≡ compile_with s b → n ≡ m → n.bytes ≤ length k

@@ -1,13 +1,14 @@
 -- When a run call refuses nothing, and what it then leaves: nothing of it depends on what its buffers held.
 use Prim.Native.Nat.{ℕ, ◌≤◌}
 use mathlib.Core.Path.{◌≡◌, refl, ap, sym, ◌∙◌}
-use mathlib.Core.Bool.{Bool, true, false}
+use mathlib.Core.Bool.{Bool, true, false, not}
 use mathlib.Core.List.{List}
 use native.Mathlib.Omega.{arith}
 use borrow.Author.Tests.{ltb-false, le-ltb}
 use lib.Dec.{ltb}
 use lib.ListN.{length}
 use Rattle.std.proofs.Common.{Option, Some, None}
+use Rattle.std.proofs.lemmas.Bool.{not-true, not-false, not_from_true, not_from_false}
 use Rattle.combinators.specs.Choice.{is}
 use Rattle.combinators.specs.Refusal.{no_refusal, refused, refused_at, too_long, short_store, bad_row, bad_text, bad_bytes}
 use Rattle.combinators.specs.declared.refusals.Refusal.{Refusal}
@@ -20,7 +21,7 @@ use Rattle.compiled.specs.Sheet.{CompiledSelector, compiled_limit, decode}
 use Rattle.styles.specs.declared.settings.Settings.{Settings}
 use Rattle.page.specs.Lent.{Page}
 use Rattle.styling.proofs.StyleCalls.{Quiet, quiet}
-use Rattle.running.specs.RunAnswer.{RunLeft, unchanged, ran, run_suffices, run_by, run_call}
+use Rattle.running.specs.RunAnswer.{RunLeft, unchanged, ran, run_suffices, run_call}
 use Rattle.agreement.specs.Calls.{RunBuffers, run_with, SameLengths}
 
 -- ---- bytes that are a sheet
@@ -86,26 +87,24 @@ module _ (code : List ℕ) (settings : Settings) (g : Page) (b : RunBuffers) whe
 
   -- a run that refuses nothing has bytes, page and buffers as a run asks for
   pub run-tells : (run_with code settings g b).answer.refusal ≡ no_refusal → RunTakes code g b
-  unfolding run_call run_by
+  unfolding run_call
   run-tells =
       pick-holds Claimed (ltb compiled_limit (length code)) _ _ (λ _. refusing (refused too_long) (λ e. omega (arith, e)))
-      (λ f. pick-holds Claimed enough _ _
-      (λ e. pick-holds Claimed (is page.number no_refusal.number) _ _
-      (λ p. pick-holds Claimed (is (bytes_refusal code).number no_refusal.number) _ _ (λ q _. takes (ltb-false _ _ f) e p q)
-      (λ q. refusing (bytes_refusal code) (is_false (bytes_refusal code).number 0 q)))
-      (λ p. refusing page (is_false page.number 0 p)))
-      (λ _. refusing (refused short_store) (λ e. omega (arith, e))))
+      (λ f. pick-holds Claimed (not enough) _ _ (λ _. refusing (refused short_store) (λ e. omega (arith, e)))
+      (λ e. pick-holds Claimed (not (is page.number no_refusal.number)) _ _ (λ p. refusing page (is_false page.number 0 (not-true _ p)))
+      (λ p. pick-holds Claimed (not (is (bytes_refusal code).number no_refusal.number)) _ _ (λ q. refusing (bytes_refusal code) (is_false (bytes_refusal code).number 0 (not-true _ q)))
+      (λ q _. takes (ltb-false _ _ f) (not-false _ e) (not-false _ p) (not-false _ q)))))
 
   -- ---- what it leaves there
   -- where the bytes, the page and the buffers are as a run asks for, the call leaves what a run that refuses nothing leaves
   pub run-leaves : RunTakes code g b → run_with code settings g b ≡ leaves
-  unfolding run_call run_by
+  unfolding run_call
   run-leaves t =
       sym
       (pick-false leaves _ _ _ (le-ltb _ _ t.few)
-      (pick_true leaves _ _ _ t.suffices
-      (pick_true leaves _ _ _ (is-yes _ _ (ap (λ (r : Refusal). r.number) t.page))
-      (pick_true leaves _ _ _ (is-yes _ _ (ap (λ (r : Refusal). r.number) t.bytes)) refl))))
+      (pick-false leaves _ _ _ (not_from_true _ t.suffices)
+      (pick-false leaves _ _ _ (not_from_true _ (is-yes _ _ (ap (λ (r : Refusal). r.number) t.page)))
+      (pick-false leaves _ _ _ (not_from_true _ (is-yes _ _ (ap (λ (r : Refusal). r.number) t.bytes))) refl))))
 
   -- a run that is not lent too little is lent enough
   pub not_short : length code ≤ compiled_limit → ¬ ((run_with code settings g b).answer.refusal.number ≡ short_store) → enough ≡ true
@@ -114,17 +113,16 @@ module _ (code : List ℕ) (settings : Settings) (g : Page) (b : RunBuffers) whe
     where
       go : (t : Bool) → enough ≡ t → enough ≡ true
       go true e = e
-      go false e = absurd (n (ap (λ (l : RunLeft). l.answer.refusal.number) (sym (pick-false (left (refused short_store)) _ _ _ (le-ltb _ _ few) (pick-false (left (refused short_store)) _ _ _ e refl)))))
+      go false e = absurd (n (ap (λ (l : RunLeft). l.answer.refusal.number) (sym (pick-false (left (refused short_store)) _ _ _ (le-ltb _ _ few) (pick_true (left (refused short_store)) _ _ _ (not_from_false _ e) refl)))))
 
   -- bytes that are a sheet are never refused as none
   pub never-refused : bytes_refusal code ≡ no_refusal → ¬ ((run_with code settings g b).answer.refusal.number ≡ bad_bytes)
-  unfolding run_call run_by unchanged ran
+  unfolding run_call unchanged ran
   never-refused q =
       pick-holds Other _ _ _ (λ _ e. omega (arith, e))
-      (λ _. pick-holds Other _ _ _
-      (λ _. pick-holds Other _ _ _ (λ _. pick-holds Other _ _ _ (λ _ e. omega (arith, e)) (λ _ e. let z : (bytes_refusal code).number ≡ 0 = ap (λ (r : Refusal). r.number) q in omega (arith, e, z)))
-      (λ _. page-number g.nodes g.attributes g.text))
-      (λ _ e. omega (arith, e)))
+      (λ _. pick-holds Other _ _ _ (λ _ e. omega (arith, e))
+      (λ _. pick-holds Other _ _ _ (λ _. page-number g.nodes g.attributes g.text)
+      (λ _. pick-holds Other _ _ _ (λ _ e. let z : (bytes_refusal code).number ≡ 0 = ap (λ (r : Refusal). r.number) q in omega (arith, e, z)) (λ _ e. omega (arith, e)))))
     where
       Other : RunLeft → Type 0
       Other l = l.answer.refusal.number ≡ bad_bytes → ⊥

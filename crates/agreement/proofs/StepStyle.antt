@@ -13,6 +13,7 @@ use Rattle.syntax.specs.declared.styles.Value.{Value}
 use Rattle.cascade.specs.declared.slots.Cascade.TheVariants.{Crate}
 use Rattle.cascade.specs.Record.{ComputedStyle, empty_style, Declared, inherit_by, from_rule, from_attribute, crate_declared, declared_by, finish_by, cascade_by}
 use Rattle.cascade.specs.Related.{Each, SameStyle}
+use Rattle.cascade.specs.Slot.{update_by}
 use Rattle.cascade.specs.Specificity.{inline_specificity}
 use Rattle.cascade.proofs.Relating.{each_append, each_map, SameAttribute, SameDeclared, attribute-declared, inherit-same, merges-same, empty-same}
 use Rattle.page.specs.Path.{Element, Path}
@@ -103,7 +104,7 @@ module _ (rules : Rules RuleSet) (settings : Settings) where
 
     -- the style of the element below one that is right
     pub styled-below : (s : ComputedStyle Value) → SaysComputed filled s up → SaysComputed (filled ++ new) (style_below s (matching_of (e ∷ up) (walked code)) settings counts e) (e ∷ up)
-    unfolding style_below computed_style sources_along cascaded cascade_by inherit_by finish_by
+    unfolding style_below computed_style sources_along cascaded cascade_by inherit_by update_by finish_by
     styled-below s h more =
         let t : List ℕ = code ++ ((filled ++ new) ++ more) in
         let above : SameStyle (Says t) s (computed_style Crate rules settings up) = styled-further filled new s up h more in

@@ -4,7 +4,7 @@ use Rattle.combinators.specs.Ascii.{full_stop, digit_zero}
 use Rattle.combinators.specs.Parsed.{ok, on_parsed}
 use Rattle.cascade.specs.Cases.{by_type, by_id}
 use Rattle.cascade.specs.Record.{main_record, slot_in}
-use Rattle.syntax.specs.Style.{agent_origin, author_origin}
+use Rattle.syntax.specs.Style.{agent_origin}
 use Rattle.cascade.specs.Slot.{held}
 use Rattle.compiled.specs.Number.{number_bytes}
 use Rattle.declarations.specs.Attribute.{colour_attribute}

@@ -5,6 +5,7 @@ use mathlib.Core.List.{List}
 use Prim.Native.Nat.{ℕ, ◌+◌, ◌^◌, ◌≤◌, ◌<◌}
 use native.Mathlib.Omega.{arith}
 use lib.ListN.{length}
+use Rattle.std.proofs.lemmas.Bool.{not_from_true, not_from_false}
 use Rattle.combinators.specs.LeastLengths.{stores_suffice}
 use Rattle.combinators.proofs.Rules.{pick_true, pick-false}
 use Rattle.sheets.specs.SheetAnswer.{sheet_limit}
@@ -46,7 +47,7 @@ module _ (agent user author compiled texts rules tokens brackets : List ℕ) whe
         -- the return where the stores are too short for the three sheets
         pub short-store : v ≡ false → Left (Err ShortStore)
         unfolding compile_of unchanged numbers_of refusal_of
-        short-store h = pick-false _ _ _ _ (sym e ∙ f) (pick-false _ _ _ _ (sym g ∙ h) refl)
+        short-store h = pick-false _ _ _ _ (sym e ∙ f) (pick_true _ _ _ _ (not_from_false _ (sym g ∙ h)) refl)
 
         module _ (h : v ≡ true) where
           -- behind both tests no sheet is too long, and the stores have the least lengths
@@ -57,10 +58,10 @@ module _ (agent user author compiled texts rules tokens brackets : List ℕ) whe
             -- the return where one of the sheets is no UTF-8
             pub not-utf8 : x ≡ false → Left (Err NotUtf8)
             unfolding compile_of unchanged numbers_of refusal_of
-            not-utf8 j = pick-false _ _ _ _ (sym e ∙ f) (pick_true _ _ _ _ (sym g ∙ h) (pick-false _ _ _ _ (sym i ∙ j) refl))
+            not-utf8 j = pick-false _ _ _ _ (sym e ∙ f) (pick-false _ _ _ _ (not_from_true _ (sym g ∙ h)) (pick_true _ _ _ _ (not_from_false _ (sym i ∙ j)) refl))
 
             -- behind all tests, what writing the sheets leaves is what the call leaves
             pub compiled-left : x ≡ true → {l : CompileLeft} → l ≡ compiled_left compiled texts rules tokens brackets (sheets_of agent user author)
                 → l ≡ compile_of agent user author compiled texts rules tokens brackets
             unfolding compile_of
-            compiled-left j m = pick-false _ _ _ _ (sym e ∙ f) (pick_true _ _ _ _ (sym g ∙ h) (pick_true _ _ _ _ (sym i ∙ j) m))
+            compiled-left j m = pick-false _ _ _ _ (sym e ∙ f) (pick-false _ _ _ _ (not_from_true _ (sym g ∙ h)) (pick-false _ _ _ _ (not_from_true _ (sym i ∙ j)) m))

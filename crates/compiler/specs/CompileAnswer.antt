@@ -1,5 +1,5 @@
 -- What `compile` answers and leaves: the refusals of document 01 in the order of their numbers, or the compiled sheet.
-use Rattle.std.specs.Prelude.{ℕ, ◌+◌, Result, Ok, Err, List, leb, ltb, length}
+use Rattle.std.specs.Prelude.{ℕ, ◌+◌, not, Result, Ok, Err, List, leb, ltb, length}
 use Rattle.combinators.specs.declared.lent.SheetTexts.{SheetTexts}
 use Rattle.combinators.specs.declared.lent.Stores.{Stores}
 use Rattle.combinators.specs.Choice.{pick}
@@ -81,11 +81,11 @@ module _ (compiled texts rules₀ tokens brackets : List ℕ) where
 -- "The lowest number that applies is returned, 4 counting as above 9 and below 10"
 unfoldable pub compile_of : List ℕ → List ℕ → List ℕ → List ℕ → List ℕ → List ℕ → List ℕ → List ℕ → CompileLeft
 compile_of agent user author compiled texts rules₀ tokens brackets =
-    pick (any_too_long (length agent) (length user) (length author)) (unchanged compiled texts rules₀ tokens brackets (refused too_long))
-    (pick (stores_suffice (length agent + length user + length author) (length rules₀) (length tokens) (length brackets) (length texts))
-    (pick (all_valid agent user author) (compiled_left compiled texts rules₀ tokens brackets (sheets_of agent user author))
-    (unchanged compiled texts rules₀ tokens brackets (refused not_utf8)))
-    (unchanged compiled texts rules₀ tokens brackets (refused short_store)))
+    let refuses = unchanged compiled texts rules₀ tokens brackets in
+    pick (any_too_long (length agent) (length user) (length author)) (refuses (refused too_long))
+    (pick (not (stores_suffice (length agent + length user + length author) (length rules₀) (length tokens) (length brackets) (length texts))) (refuses (refused short_store))
+    (pick (not (all_valid agent user author)) (refuses (refused not_utf8))
+    (compiled_left compiled texts rules₀ tokens brackets (sheets_of agent user author))))
 
 -- ---- the same of what is lent: the sheets, and the stores
 -- whether the stores suffice for the sheets

@@ -1,7 +1,7 @@
 -- Styles of declarations: `styles_from_properties` of src/css.rs.
 use Rattle.std.specs.Prelude.{Bool, true, false, List, [], ◌∷◌, ◌++◌, ◌≡◌, refl, ℕ}
 use Rattle.combinators.specs.Choice.{pick, or, and}
-use Rattle.syntax.specs.Declaration.{Overflow, visible, hidden, scroll, auto, Decl, color, background_color, height, max_height, overflow, overflow_y, display, white_space, content, visibility, unknown, Declaration}
+use Rattle.syntax.specs.Declaration.{Overflow, hidden, Decl, color, background_color, height, max_height, overflow, overflow_y, display, white_space, content, visibility, Declaration}
 use Rattle.syntax.specs.Style as style
 use Rattle.syntax.specs.Style.{Style, StyleDecl}
 

@@ -14,7 +14,7 @@ use Rattle.combinators.specs.Part.{part}
 use Rattle.combinators.proofs.Lists.{rest, byte-there}
 use Rattle.combinators.proofs.Rules.{pick_true, pick-false, pick-holds, is-yes, is-no, told}
 use Rattle.lexer.specs.Name.{ident_of, name_answer, name_text}
-use Rattle.lexer.specs.Token.{Token, number, dimension, percentage, numeric_from, text_of}
+use Rattle.lexer.specs.Token.{Token, number, dimension, percentage, numeric_from}
 use Rattle.lexer.specs.Whitespace.{skip_whitespace}
 use Rattle.lexer.specs.declared.Written.{Written}
 use Rattle.lexer.proofs.Bounds.{Fits, bound-two}

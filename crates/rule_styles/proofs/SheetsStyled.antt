@@ -20,7 +20,6 @@ use Rattle.syntax.proofs.Streams.{Held}
 use Rattle.declarations.specs.Styles.{one, style_of, zero_height, hides_overflow, any_decl, own_styles, first_zero, styles_of}
 use Rattle.origins.specs.declared.reading.SheetRules.{SheetRules}
 use Rattle.styles.specs.Said as said
-use Rattle.styles.specs.Said.{Rules, StyledRule}
 use Rattle.styles.specs.StyleCall.{rule_contents, rules_contents, placed_rules}
 use Rattle.rule_styles.specs.Placing.{sheet_text, rules_contents_at, styled_rules, rules_selectors, kept_rules}
 use Rattle.rule_styles.specs.PlacingRoom.{ContentsRoom, RulesKeptRoom}

@@ -3,16 +3,15 @@ use Prim.Native.Nat.{ℕ, zero, suc, ◌+◌, ◌*◌, ◌≤◌, ◌<◌}
 use mathlib.Core.Path.{◌≡◌, refl, ap, ap₂, ◌∙◌}
 use mathlib.Core.Logic.{◌⊎◌, inl, inr}
 use mathlib.Core.Bool.{true}
-use mathlib.Core.List.{List, ◌∷◌}
+use mathlib.Core.List.{List}
 use native.Mathlib.Omega.{arith}
 use lib.ListN.{length, get_or, drop, length-drop}
 use lib.Seq.{length-take-le}
 use Rattle.combinators.specs.Part.{part}
 use Rattle.combinators.proofs.Rules.{and-true, is_true}
 use Rattle.page.specs.Accepted.{ends_in_zeros}
-use Rattle.page.specs.Path.{Attribute}
 use Rattle.page.specs.PathOf.{attributes_from}
-use Rattle.page.specs.Rows.{node_width, node_count, node_number, node_at, NodeRow, name_of, element_kind, other_kind, attribute_width, attribute_rows, attribute_number, attribute_name, attribute_value}
+use Rattle.page.specs.Rows.{node_width, node_count, node_number, node_at, NodeRow, name_of, element_kind, other_kind, attribute_width, attribute_rows}
 use Rattle.page.proofs.AcceptedPages.{Accepted}
 use Rattle.page.proofs.OwnAttributes as owned
 use Rattle.page.proofs.RowFacts.{document-zeros, kind-of-row, attributes-lent}

@@ -1,9 +1,9 @@
 -- Parts of a buffer: a number of one is that of the whole, one that is written is there, one before what is written stays; and what a raised count and an opened part leave of them.
-use Prim.Native.Nat.{ℕ, suc, ◌+◌, ◌≤◌, ◌<◌}
+use Prim.Native.Nat.{ℕ, ◌+◌, ◌≤◌, ◌<◌}
 use mathlib.Core.Path.{◌≡◌, refl, ap, sym, ◌∙◌}
-use mathlib.Core.List.{List, [], ◌∷◌, ◌++◌, append_assoc}
+use mathlib.Core.List.{List, ◌++◌, append_assoc}
 use native.Mathlib.Omega.{arith}
-use lib.ListN.{length, get_or, take, drop, set, length-drop, take-append-drop}
+use lib.ListN.{length, get_or, take, drop, length-drop, take-append-drop}
 use lib.Seq.{sets, sets-eq, length-sets, drop-append-le, take-append-le, take_at, drop_at, length-take-le, get_or-drop, get_or-take}
 use Rattle.combinators.specs.Part.{part}
 use Rattle.combinators.proofs.Wiped.{drop-sets}

@@ -5,10 +5,9 @@ use mathlib.Core.List.{List, [], ◌∷◌, ◌++◌, map, foldl}
 use Rattle.combinators.specs.Choice.{pick, is}
 use Rattle.syntax.specs.declared.styles.Value.{Value}
 use Rattle.syntax.specs.RuleLayout.{pseudo_number}
-use Rattle.cascade.specs.declared.slots.Cascade.TheVariants.{Crate}
-use Rattle.cascade.specs.Record.{ComputedStyle, empty_style, Declared, merge_by, inherit_by, from_rule, from_attribute, Styled}
+use Rattle.cascade.specs.Record.{ComputedStyle, empty_style, Declared, merge_by, inherit, from_rule, from_attribute, Styled}
 use Rattle.cascade.specs.Row.{style_row_width, row_of}
-use Rattle.cascade.specs.Slot.{update_by}
+use Rattle.cascade.specs.Slot.{maybe_update}
 use Rattle.cascade.specs.Specificity.{inline_specificity}
 use Rattle.page.specs.Ancestors.{line_of}
 use Rattle.page.specs.Path.{Element}
@@ -34,7 +33,7 @@ selectors_declare (s ∷ ss) = map (λ x. from_rule s.origin (rule_style (pseudo
 unfoldable pub style_below : ComputedStyle Value → List (CompiledSelector (Styled Value)) → Settings → ℕ → Element → ComputedStyle Value
 style_below parent ss settings place e =
     let attributes = map (from_attribute false inline_specificity) (placed_attributes place (counted_attributes settings e)) in
-    foldl (merge_by (update_by Crate)) (inherit_by Crate parent) (selectors_declare ss ++ attributes)
+    foldl (merge_by maybe_update) (inherit parent) (selectors_declare ss ++ attributes)
 
 -- ---- what the text store holds: the content texts of `style` attributes "down the .. page", in page order
 

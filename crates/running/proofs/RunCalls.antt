@@ -1,20 +1,21 @@
 -- Returns of the functions of a run: what is left of a page that was styled, and the refusals in their order.
 use mathlib.Core.Path.{◌≡◌, refl, ap, ap₂, sym, ◌∙◌}
-use mathlib.Core.Bool.{Bool, true, false}
+use mathlib.Core.Bool.{Bool, true, false, not}
 use mathlib.Core.List.{List, ◌++◌}
 use Prim.Native.Nat.{ℕ, ◌-◌, ◌*◌, ◌≤◌, ◌<◌}
 use native.Mathlib.Omega.{arith}
-use borrow.Author.Tests.{leb-true, lt-ltb, le-ltb}
+use borrow.Author.Tests.{leb-true, le-leb, lt-ltb, le-ltb}
 use lib.ListN.{length, take, drop, replicate}
 use lib.Seq.{length-take-le}
-use Rattle.combinators.specs.Choice.{is}
+use Rattle.combinators.specs.Choice.{pick, is}
+use Rattle.combinators.specs.LeastLengths.{stores_suffice}
 use Rattle.combinators.specs.Refusal.{no_refusal, refused_at, bad_bytes}
 use Rattle.combinators.specs.declared.refusals.Refusal.{Refusal}
 use Rattle.combinators.specs.Store.{cleared}
 use Rattle.combinators.proofs.Cleared.{cleared-is, cleared-throughout}
 use Rattle.combinators.proofs.Filled.{from-returns}
 use Rattle.combinators.proofs.LeastLaws.{least}
-use Rattle.combinators.proofs.Rules.{pick_true, pick-false, and-true, is-yes, is-no}
+use Rattle.combinators.proofs.Rules.{pick_true, pick-false, and_both, and-true, is-yes, is-no}
 use Rattle.sheets.specs.SheetAnswer.{padded}
 use Rattle.cascade.specs.Row.{style_row_width}
 use Rattle.page.specs.Accepted as page
@@ -25,6 +26,7 @@ use Rattle.page.specs.Rows.{node_count}
 use Rattle.page.proofs.AcceptedPages.{accepted}
 use borrow.Rule.Slice.PartMut.{put_mid}
 use Rattle.std.proofs.Common.{Result, Ok, Err}
+use Rattle.std.proofs.lemmas.Bool.{not_from_true, not_from_false}
 use Rattle.std.specs.Result.{IsErrAnd}
 use Rattle.compiled.specs.Answer as compiled
 use Rattle.compiled.specs.Answer.{bytes_refusal}
@@ -41,7 +43,7 @@ use Rattle.running.specs.declared.run.RunError.{RunError}
 use Rattle.running.specs.declared.run.RunError.TheVariants.{TooLong, ShortStore, BadPage, BadBytes}
 use Rattle.running.specs.Ready.{Lengths, RunReady}
 use Rattle.styles.specs.Answer.{TextsAnswer}
-use Rattle.running.specs.RunAnswer.{RunLeft, run_refusal, numbers_of, unchanged, ran, run_suffices, run_by, run_call}
+use Rattle.running.specs.RunAnswer.{RunLeft, run_refusal, numbers_of, unchanged, ran, run_suffices, run_call}
 
 -- ---- answers in numbers
 -- those of a page that was styled
@@ -122,58 +124,6 @@ module _ (rows₀ texts₀ state₀ rules₀ tokens₀ brackets₀ code : List �
   unfolding unchanged
   refused_as e eq = left_by (refused-numbers e ∙ ap (λ (z : Refusal). record { refusal = z; texts = 0 }) eq) refl refl refl refl refl refl
 
-  -- ---- a page and bytes that are refused or not
-  abbrev Checked : RunLeft → Type 0
-  Checked z = z ≡ run_by rows₀ texts₀ state₀ rules₀ tokens₀ brackets₀ code settings g (page_refusal g.nodes g.attributes g.text) (bytes_refusal code)
-
-  abbrev PageAnswer : Result Unit PageError → Type 0
-  PageAnswer p = page.refusal_of p ≡ page_refusal g.nodes g.attributes g.text
-
-  abbrev BytesAnswer : Result Unit Fault → Type 0
-  BytesAnswer b = compiled.refusal_of b ≡ bytes_refusal code
-
-  -- the return where the page is refused: its error becomes the run's
-  pub page-refused : {p : Result Unit PageError} {e : PageError} → PageAnswer p → p ≡ Err e → (o : Result ℕ RunError) → IsErrAnd o (λ q. q ≡ BadPage e) → Checked (refuses (numbers_of o))
-  unfolding run_by run_refusal page.refusal_of
-  page-refused {p} {e} ep was (Err q) h =
-      let is : error_refusal e ≡ page_refusal g.nodes g.attributes g.text = ap page.refusal_of (sym was) ∙ ep in
-      pick-false _ _ _ _ (is-no _ _ (λ n. error-loud e (ap (λ (r : Refusal). r.number) is ∙ n))) (refused_as q (ap run_refusal h ∙ is))
-  page-refused ep was (Ok n) h = absurd h
-
-  -- a page that is accepted is refused by no definition
-  page-passed : {p : Result Unit PageError} → PageAnswer p → p ≡ Ok tt → no_refusal ≡ page_refusal g.nodes g.attributes g.text
-  unfolding page.refusal_of
-  page-passed ep passed = ap page.refusal_of (sym passed) ∙ ep
-
-  page-number : {p : Result Unit PageError} → PageAnswer p → p ≡ Ok tt → is (page_refusal g.nodes g.attributes g.text).number no_refusal.number ≡ true
-  page-number ep passed = is-yes _ _ (ap (λ (q : Refusal). q.number) (sym (page-passed ep passed)))
-
-  -- nor are bytes that are a sheet
-  bytes-passed : {b : Result Unit Fault} → BytesAnswer b → b ≡ Ok tt → no_refusal ≡ bytes_refusal code
-  unfolding compiled.refusal_of
-  bytes-passed eb sheet = ap compiled.refusal_of (sym sheet) ∙ eb
-
-  -- the return where the page is not refused, and the bytes are
-  pub bytes-refused : {p : Result Unit PageError} {b : Result Unit Fault} {f : Fault} → PageAnswer p → p ≡ Ok tt → BytesAnswer b → b ≡ Err f
-      → (o : Result ℕ RunError) → IsErrAnd o (λ q. q ≡ BadBytes f) → Checked (refuses (numbers_of o))
-  unfolding run_by run_refusal compiled.refusal_of
-  bytes-refused {p} {b} {f} ep passed eb was (Err q) h =
-      let is : refused_at bad_bytes f.place ≡ bytes_refusal code = ap compiled.refusal_of (sym was) ∙ eb in
-      pick_true _ _ _ _ (page-number ep passed)
-      (pick-false _ _ _ _ (is-no _ _ (λ n. let k : bad_bytes ≡ 0 = ap (λ (r : Refusal). r.number) is ∙ n in omega (arith, k))) (refused_as q (ap run_refusal h ∙ is)))
-  bytes-refused ep passed eb was (Ok n) h = absurd h
-
-  -- with neither refused, what a run asks for is there
-  pub all-ready : Lengths code g rows₀ state₀ rules₀ tokens₀ brackets₀ texts₀ → {p : Result Unit PageError} {b : Result Unit Fault} → PageAnswer p → p ≡ Ok tt → BytesAnswer b → b ≡ Ok tt
-      → RunReady code g rows₀ state₀ rules₀ tokens₀ brackets₀ texts₀
-  all-ready l ep passed eb sheet = record { sheet = sym (bytes-passed eb sheet); page = sym (page-passed ep passed); lengths = l }
-
-  -- the return where neither is refused: the run of the page is what is left
-  pub page-run : {p : Result Unit PageError} {b : Result Unit Fault} → PageAnswer p → p ≡ Ok tt → BytesAnswer b → b ≡ Ok tt
-      → {z : RunLeft} → z ≡ ran rows₀ texts₀ state₀ rules₀ tokens₀ brackets₀ code settings g → Checked z
-  unfolding run_by
-  page-run ep passed eb sheet e = pick_true _ _ _ _ (page-number ep passed) (pick_true _ _ _ _ (is-yes _ _ (ap (λ (q : Refusal). q.number) (sym (bytes-passed eb sheet)))) e)
-
   -- ---- the call, in the order of the refusals
   abbrev Called : RunLeft → Type 0
   Called z = z ≡ run_call rows₀ texts₀ state₀ rules₀ tokens₀ brackets₀ code settings g
@@ -187,18 +137,79 @@ module _ (rows₀ texts₀ state₀ rules₀ tokens₀ brackets₀ code : List �
     -- the return where what is lent is too short
     pub short-store : v ≡ false → Called (refuses (numbers_of (Err ShortStore)))
     unfolding run_call run_refusal
-    short-store f = pick-false _ _ _ _ (le-ltb compiled_limit (length code) h) (pick-false _ _ _ _ (sym told ∙ f) (refused_as ShortStore refl))
+    short-store f = pick-false _ _ _ _ (le-ltb compiled_limit (length code) h) (pick_true _ _ _ _ (not_from_false _ (sym told ∙ f)) (refused_as ShortStore refl))
 
-    module _ (f : v ≡ true) where
-      -- where the test holds, rows, state and stores have the least lengths
-      pub long-enough : Lengths code g rows₀ state₀ rules₀ tokens₀ brackets₀ texts₀
-      unfolding run_suffices
-      long-enough =
-          let a = and-true _ _ (sym told ∙ f) in
-          let b = and-true _ _ a.1 in
-          record { few = h; for-rows = leb-true _ _ a.0; for-state = leb-true _ _ b.0; least = least refl b.1 }
+    -- where the test holds, rows, state and stores have the least lengths
+    pub long-enough : v ≡ true → Lengths code g rows₀ state₀ rules₀ tokens₀ brackets₀ texts₀
+    unfolding run_suffices
+    long-enough f =
+        let a = and-true _ _ (sym told ∙ f) in
+        let b = and-true _ _ a.1 in
+        record { few = h; for-rows = leb-true _ _ a.0; for-state = leb-true _ _ b.0; least = least refl b.1 }
 
-      -- behind both tests, what the page and the bytes decide is what the call leaves
-      pub called : {z : RunLeft} → z ≡ run_by rows₀ texts₀ state₀ rules₀ tokens₀ brackets₀ code settings g (page_refusal g.nodes g.attributes g.text) (bytes_refusal code) → Called z
-      unfolding run_call
-      called e = pick-false _ _ _ _ (le-ltb compiled_limit (length code) h) (pick_true _ _ _ _ (sym told ∙ f) e)
+  -- ---- a page and bytes that are refused or not
+  abbrev PageAnswer : Result Unit PageError → Type 0
+  PageAnswer p = page.refusal_of p ≡ page_refusal g.nodes g.attributes g.text
+
+  abbrev BytesAnswer : Result Unit Fault → Type 0
+  BytesAnswer b = compiled.refusal_of b ≡ bytes_refusal code
+
+  -- a page that is accepted is refused by no definition
+  page-passed : {p : Result Unit PageError} → PageAnswer p → p ≡ Ok tt → no_refusal ≡ page_refusal g.nodes g.attributes g.text
+  unfolding page.refusal_of
+  page-passed ep passed = ap page.refusal_of (sym passed) ∙ ep
+
+  -- nor are bytes that are a sheet
+  bytes-passed : {b : Result Unit Fault} → BytesAnswer b → b ≡ Ok tt → no_refusal ≡ bytes_refusal code
+  unfolding compiled.refusal_of
+  bytes-passed eb sheet = ap compiled.refusal_of (sym sheet) ∙ eb
+
+  -- with neither refused, what a run asks for is there
+  pub all-ready : Lengths code g rows₀ state₀ rules₀ tokens₀ brackets₀ texts₀ → {p : Result Unit PageError} {b : Result Unit Fault} → PageAnswer p → p ≡ Ok tt → BytesAnswer b → b ≡ Ok tt
+      → RunReady code g rows₀ state₀ rules₀ tokens₀ brackets₀ texts₀
+  all-ready l ep passed eb sheet = record { sheet = sym (bytes-passed eb sheet); page = sym (page-passed ep passed); lengths = l }
+
+  -- the test of a refusal fails for none
+  none-refused : {q : Refusal} → no_refusal ≡ q → not (is q.number no_refusal.number) ≡ false
+  none-refused e = not_from_true _ (is-yes _ _ (ap (λ (r : Refusal). r.number) (sym e)))
+
+  -- and holds for one whose number is not 0
+  one-refused : {q q' : Refusal} → q ≡ q' → ¬ (q.number ≡ 0) → not (is q'.number no_refusal.number) ≡ true
+  one-refused e h = not_from_false _ (is-no _ _ (λ n. h (ap (λ (r : Refusal). r.number) e ∙ n)))
+
+  -- ---- the call behind the tests of what is lent
+  module _ (l : Lengths code g rows₀ state₀ rules₀ tokens₀ brackets₀ texts₀) where
+    -- buffers of the least lengths suffice
+    lengths-suffice : run_suffices rows₀ texts₀ state₀ rules₀ tokens₀ brackets₀ code g ≡ true
+    unfolding run_suffices stores_suffice
+    lengths-suffice =
+        and_both _ _ (le-leb _ _ l.for-rows) (and_both _ _ (le-leb _ _ l.for-state)
+        (and_both _ _ (le-leb _ _ l.least.for-texts) (and_both _ _ (le-leb _ _ l.least.for-brackets) (and_both _ _ (le-leb _ _ l.least.for-rules) (le-leb _ _ l.least.for-tokens)))))
+
+    -- what the call leaves is decided by the page and the bytes
+    behind : {z : RunLeft} → z ≡ pick (not (is (page_refusal g.nodes g.attributes g.text).number no_refusal.number)) (unchanged rows₀ texts₀ state₀ rules₀ tokens₀ brackets₀ (page_refusal g.nodes g.attributes g.text))
+        (pick (not (is (bytes_refusal code).number no_refusal.number)) (unchanged rows₀ texts₀ state₀ rules₀ tokens₀ brackets₀ (bytes_refusal code)) (ran rows₀ texts₀ state₀ rules₀ tokens₀ brackets₀ code settings g)) → Called z
+    unfolding run_call
+    behind e = pick-false _ _ _ _ (le-ltb compiled_limit (length code) l.few) (pick-false _ _ _ _ (not_from_true _ lengths-suffice) e)
+
+    -- the return where the page is refused: its error becomes the run's
+    pub page-refused : {p : Result Unit PageError} {e : PageError} → PageAnswer p → p ≡ Err e → (o : Result ℕ RunError) → IsErrAnd o (λ q. q ≡ BadPage e) → Called (refuses (numbers_of o))
+    unfolding run_refusal page.refusal_of
+    page-refused {p} {e} ep was (Err q) h =
+        let is : error_refusal e ≡ page_refusal g.nodes g.attributes g.text = ap page.refusal_of (sym was) ∙ ep in
+        behind (pick_true _ _ _ _ (one-refused is (error-loud e)) (refused_as q (ap run_refusal h ∙ is)))
+    page-refused ep was (Ok n) h = absurd h
+
+    -- the return where the page is not refused, and the bytes are
+    pub bytes-refused : {p : Result Unit PageError} {b : Result Unit Fault} {f : Fault} → PageAnswer p → p ≡ Ok tt → BytesAnswer b → b ≡ Err f
+        → (o : Result ℕ RunError) → IsErrAnd o (λ q. q ≡ BadBytes f) → Called (refuses (numbers_of o))
+    unfolding run_refusal compiled.refusal_of
+    bytes-refused {p} {b} {f} ep passed eb was (Err q) h =
+        let is : refused_at bad_bytes f.place ≡ bytes_refusal code = ap compiled.refusal_of (sym was) ∙ eb in
+        behind (pick-false _ _ _ _ (none-refused (page-passed ep passed)) (pick_true _ _ _ _ (one-refused is (λ n. omega (arith, n))) (refused_as q (ap run_refusal h ∙ is))))
+    bytes-refused ep passed eb was (Ok n) h = absurd h
+
+    -- the return where neither is refused: the run of the page is what is left
+    pub page-run : {p : Result Unit PageError} {b : Result Unit Fault} → PageAnswer p → p ≡ Ok tt → BytesAnswer b → b ≡ Ok tt
+        → {z : RunLeft} → z ≡ ran rows₀ texts₀ state₀ rules₀ tokens₀ brackets₀ code settings g → Called z
+    page-run ep passed eb sheet e = behind (pick-false _ _ _ _ (none-refused (page-passed ep passed)) (pick-false _ _ _ _ (none-refused (bytes-passed eb sheet)) e))

@@ -1,5 +1,5 @@
 -- What `run` answers and leaves: the refusals of document 01 in the order in which they are looked for, or the style rows of a page.
-use Rattle.std.specs.Prelude.{ℕ, Bool, Result, Ok, Err, List, leb, ltb, length}
+use Rattle.std.specs.Prelude.{ℕ, Bool, not, Result, Ok, Err, List, leb, ltb, length}
 use Rattle.combinators.specs.Choice.{pick, and, is}
 use Rattle.combinators.specs.LeastLengths.{stores_suffice}
 use Rattle.combinators.specs.Refusal.{no_refusal, refused, refused_at, too_long, short_store, bad_bytes}
@@ -64,29 +64,21 @@ module _ (rows texts state rules tokens brackets : List ℕ) where
       and (leb (rows_least g) (length rows))
       (and (leb (state_least code) (length state)) (stores_suffice (run_text_bytes g) (length rules) (length tokens) (length brackets) (length texts)))
 
-  -- of a page and bytes that are refused or not, the page first
-  unfoldable pub run_by : List ℕ → Settings → Page → Refusal → Refusal → RunLeft
-  run_by code settings g page bytes =
-      pick (is page.number no_refusal.number)
-      (pick (is bytes.number no_refusal.number) (ran code settings g) (unchanged bytes))
-      (unchanged page)
-
   -- in the order 1, 2, 5, 6, 7, 9
   unfoldable pub run_call : List ℕ → Settings → Page → RunLeft
   run_call code settings g =
+      let page = page_refusal g.nodes g.attributes g.text in
+      let bytes = bytes_refusal code in
       pick (ltb compiled_limit (length code)) (unchanged (refused too_long))
-      (pick (run_suffices code g) (run_by code settings g (page_refusal g.nodes g.attributes g.text) (bytes_refusal code))
-      (unchanged (refused short_store)))
+      (pick (not (run_suffices code g)) (unchanged (refused short_store))
+      (pick (not (is page.number no_refusal.number)) (unchanged page)
+      (pick (not (is bytes.number no_refusal.number)) (unchanged bytes)
+      (ran code settings g))))
 
 -- ---- the same of what is lent: what a run reads, rows, a state and the stores
 -- where nothing is refused
 abbrev pub ran_of : RunInput → List ℕ → List ℕ → Stores → RunLeft
 ran_of x rows state s = ran rows s.texts.now state s.rules.now s.tokens.now s.brackets.now x.compiled.now x.settings (page_in x.page)
-
--- by whether the page or the bytes are
-abbrev pub run_by_of : RunInput → List ℕ → List ℕ → Stores → RunLeft
-run_by_of x rows state s =
-    run_by rows s.texts.now state s.rules.now s.tokens.now s.brackets.now x.compiled.now x.settings (page_in x.page) (page_refusal x.page.nodes.now x.page.attributes.now x.page.text.now) (bytes_refusal x.compiled.now)
 
 abbrev pub run_call_of : RunInput → List ℕ → List ℕ → Stores → RunLeft
 run_call_of x rows state s = run_call rows s.texts.now state s.rules.now s.tokens.now s.brackets.now x.compiled.now x.settings (page_in x.page)

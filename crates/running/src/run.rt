@@ -3,7 +3,7 @@
 ghost use Rattle.std.specs.Prelude.{◌≡◌, Ok};
 ghost use Rattle.combinators.specs.Lent.{SameStores};
 ghost use Rattle.running.specs.Ready.{LengthsOf, RunReadyOf};
-ghost use Rattle.running.specs.RunAnswer.{numbers_of, left_in, run_refusal, ran_of, run_by_of, run_call_of};
+ghost use Rattle.running.specs.RunAnswer.{numbers_of, left_in, run_refusal, ran_of, run_call_of};
 
 use crate::input::RunInput;
 use crate::rows::run_rows;
@@ -91,7 +91,7 @@ fn run_checked(
 ) -> Result<usize, RunError>
     requires { LengthsOf input rows.old state.old stores.old }
     ensures left { left_in (numbers_of result) rows.new state.new stores.new
-        ≡ run_by_of input.entry rows.old state.old stores.old }
+        ≡ run_call_of input.entry rows.old state.old stores.old }
     ensures same { SameStores stores.old stores.new }
 {
     check_page(input.page)?;

@@ -24,7 +24,7 @@ use Rattle.syntax.proofs.RowSizes.{length-components}
 use Rattle.selectors.specs.Outcome.{Outcome, reads, fails, panics, on_outcome, behind}
 use Rattle.selectors.specs.Selector.{component_of, components_of, components_from}
 use Rattle.selectors.specs.Components.{text_length, has_row, first_component, next_of, kept_of, started_of}
-use Rattle.selectors.specs.ComponentAnswer.{component_coded, columns_of, row_of, component_answer}
+use Rattle.selectors.specs.ComponentAnswer.{component_coded, columns_of, row_of}
 use Rattle.selectors.specs.Stores.{Clean}
 use Rattle.selectors.specs.Reading.{written, TextRoom, RowRoom}
 use Rattle.selectors.proofs.AllLaws.{where-read, where-panics, panics-no}
@@ -32,11 +32,9 @@ use Rattle.selectors.proofs.Blanks.{kept-count, kept_row, kept-text}
 use Rattle.selectors.proofs.BodyLaws.{first_behind, started}
 use Rattle.selectors.proofs.ComponentKeeps.{Small, next-keeps, row-numbers}
 use Rattle.selectors.proofs.ComponentLaws as components
-use Rattle.selectors.proofs.ComponentLaws.{read_as}
+use Rattle.selectors.proofs.ComponentLaws.{read_as, Read, read_by, fails_by, panics-by}
 use Rattle.selectors.specs.declared.components.Component as declared
 use Rattle.combinators.specs.declared.columns.Columns.{Columns}
-use Rattle.combinators.specs.declared.taken.Taken.{Taken}
-use Rattle.selectors.specs.declared.readings.Panic.{Panic}
 use Rattle.selectors.proofs.ComponentEnds.{none_left}
 use Rattle.selectors.proofs.Gathering.{Gathered, gathered_none, gathered-more, gathered-as, none_yet, store-zeros, store_long, all_read, all-panics}
 use Rattle.selectors.proofs.ReadingLaws.{Reading, panic_at, sized, Left, left-fails}
@@ -67,33 +65,6 @@ columns-told descendant = refl
 columns-told (nth a b) = refl
 columns-told (attribute n) = refl
 columns-told (attribute_equal n v) = refl
-
--- what an answer says of the component
-pub record Read (o : Outcome Component) (n : ℕ) (d : declared.Component) : Type 0 where
-  pub component : Component
-  pub reads-it : o ≡ reads n component
-  pub coded : d ≡ component_coded component
-
--- an answer with a component says that it was read
-pub read_by : (o : Outcome Component) (got : Taken declared.Component) → Ok (Some got) ≡ component_answer o → Read o got.taken got.value
-unfolding component_answer on_outcome
-read_by (reads m c) got e = let q : got.taken ≡ m = cc in record { component = c; reads-it = rw q; coded = cc }
-read_by fails got e = absurd (let z : ◌≡◌ {A = ℕ} 0 1 = cc in omega arith)
-read_by (panics p) got e = absurd (let z : ◌≡◌ {A = ℕ} 0 1 = cc in omega arith)
-
--- an answer without a component says that none reads
-pub fails_by : (o : Outcome Component) → Ok None ≡ component_answer o → o ≡ fails
-unfolding component_answer on_outcome
-fails_by (reads m c) e = absurd (let z : ◌≡◌ {A = ℕ} 0 1 = cc in omega arith)
-fails_by fails e = refl
-fails_by (panics p) e = absurd (let z : ◌≡◌ {A = ℕ} 0 1 = cc in omega arith)
-
--- an answer with a panic says where the crate panics
-pub panics-by : (o : Outcome Component) (p : Panic) → Err p ≡ component_answer o → o ≡ panics p.place
-unfolding component_answer on_outcome
-panics-by (reads m c) p e = absurd (let z : ◌≡◌ {A = ℕ} 0 1 = cc in omega arith)
-panics-by fails p e = absurd (let z : ◌≡◌ {A = ℕ} 0 1 = cc in omega arith)
-panics-by (panics q) p e = let h : p.place ≡ q = cc in rw h
 
 -- its row where it is kept
 row_told : (c : Component) (d : declared.Component) (kept fill : ℕ) (start : Bool) → d ≡ component_coded c → kept ≡ length (kept_of start c)

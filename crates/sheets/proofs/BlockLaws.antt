@@ -2,7 +2,7 @@
 use mathlib.Core.Path.{◌≡◌, refl, sym, ap, ◌∙◌}
 use mathlib.Core.Bool.{Bool, true, false}
 use mathlib.Core.List.{List, [], ◌∷◌, map}
-use Prim.Native.Nat.{ℕ, ◌+◌, ◌-◌, ◌*◌, ◌^◌, ◌≤◌, ◌<◌}
+use Prim.Native.Nat.{ℕ, ◌+◌, ◌*◌, ◌^◌, ◌≤◌, ◌<◌}
 use native.Mathlib.Omega.{arith}
 use lib.ListN.{length, get_or, drop, length-drop, length-map}
 use lib.Seq.{sets}
@@ -20,6 +20,7 @@ use Rattle.declarations.specs.Rules.{Rules, starts_at, declarations_of}
 use Rattle.declarations.specs.Leaving.{kept, Leaves, leaves, used_rules, rules_answer, rules_of, rules_left}
 use Rattle.declarations.specs.declared.rules.RulesRead.{RulesRead}
 use Rattle.declarations.proofs.StyleAttribute.{bounded}
+use Rattle.declarations.proofs.LeastLengths.{semicolon-there}
 use Rattle.selectors.specs.Outcome.{reads, fails, on_outcome, behind}
 use Rattle.sheets.specs.Sheet.{spaced, before_end, block_of}
 use Rattle.selectors.specs.declared.readings.Read.{Read}
@@ -30,14 +31,10 @@ use Rattle.selectors.proofs.ReadingLaws.{sized}
 
 -- ---- `parse_block`: the place behind a ';', if there is one, and behind white space
 module _ (s : List ℕ) (e : ℕ) (h : e ≤ length s) {t : Bool} (et : t ≡ is (get_or s e 0) ascii.semicolon) where
-  -- a ';' is within the text
-  pub semicolon-there : t ≡ true → e < length s
-  semicolon-there f = byte-there s e ascii.semicolon (omega arith) (sym et ∙ f)
-
   -- a ';' is passed, and the place behind it lies within the text
   pub semicolon-past : t ≡ true → (e + 1 ≡ pick (is (get_or s e 0) ascii.semicolon) (e + 1) e) × (e + 1 ≤ length s)
   unfolding pick
-  semicolon-past f = (rw (← et, f), omega (arith, semicolon-there f))
+  semicolon-past f = (rw (← et, f), omega (arith, semicolon-there s e et f))
 
   -- none, so the same place
   pub semicolon-none : t ≡ false → (e ≡ pick (is (get_or s e 0) ascii.semicolon) (e + 1) e) × (e ≤ length s)

@@ -48,7 +48,6 @@ module _ (s rules tokens brackets texts : List ℕ) where
   unfolding read_sheet unchanged sheet_left
   sheet-back =
       pick-holds Back _ _ _ (λ _ e. not-refused (omega arith) e)
-      (λ _. pick-holds Back _ _ _
-      (λ _. pick-holds Back _ _ _ (λ _. answered (sheet_of s) (λ k rs e. (sheet-keeps s k rs e).fit) (sheet-never-fails s) (length rules) (length texts))
-      (λ _ e. not-refused (omega arith) e))
-      (λ _ e. not-refused (omega arith) e))
+      (λ _. pick-holds Back _ _ _ (λ _ e. not-refused (omega arith) e)
+      (λ _. pick-holds Back _ _ _ (λ _ e. not-refused (omega arith) e)
+      (λ _. answered (sheet_of s) (λ k rs e. (sheet-keeps s k rs e).fit) (sheet-never-fails s) (length rules) (length texts))))

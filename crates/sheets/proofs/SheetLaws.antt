@@ -10,6 +10,7 @@ use lib.ListN.{length, drop, replicate, length-replicate}
 use lib.Seq.{sets, sets-eq}
 use Rattle.selectors.proofs.ReadingLaws.{ManyReading, panic_at, sized}
 use Rattle.std.specs.Prelude.{Ok, Err}
+use Rattle.std.proofs.lemmas.Bool.{not_from_true, not_from_false}
 use Rattle.std.proofs.lemmas.List.{drop-replicate}
 use Rattle.combinators.specs.Refusal.{refused_at, panic}
 use Rattle.combinators.specs.LeastLengths.{stores_suffice}
@@ -148,7 +149,7 @@ module _ (s rules tokens brackets texts : List ℕ) where
     -- stores that are too short are refused, and stay
     pub short-store : t ≡ false → ◌≡◌ {A = SheetLeft} (record { answer = numbers_of (Err ShortStore); rules = rules; tokens = tokens; brackets = brackets; texts = texts }) (read_sheet s rules tokens brackets texts)
     unfolding read_sheet unchanged numbers_of refusal_of
-    short-store e = pick-false _ _ _ _ (le-ltb sheet_limit (length s) h) (pick-false _ _ _ _ (sym et ∙ e) refl)
+    short-store e = pick-false _ _ _ _ (le-ltb sheet_limit (length s) h) (pick_true _ _ _ _ (not_from_false _ (sym et ∙ e)) refl)
 
     module _ (e : t ≡ true) where
       -- behind both tests a sheet is within its limit and the stores have the least lengths
@@ -159,14 +160,14 @@ module _ (s rules tokens brackets texts : List ℕ) where
         -- a sheet that is no UTF-8 is refused, and the stores stay
         pub not-utf8 : v ≡ false → ◌≡◌ {A = SheetLeft} (record { answer = numbers_of (Err NotUtf8); rules = rules; tokens = tokens; brackets = brackets; texts = texts }) (read_sheet s rules tokens brackets texts)
         unfolding read_sheet unchanged numbers_of refusal_of
-        not-utf8 f = pick-false _ _ _ _ (le-ltb sheet_limit (length s) h) (pick_true _ _ _ _ (sym et ∙ e) (pick-false _ _ _ _ (sym ev ∙ f) refl))
+        not-utf8 f = pick-false _ _ _ _ (le-ltb sheet_limit (length s) h) (pick-false _ _ _ _ (not_from_true _ (sym et ∙ e)) (pick_true _ _ _ _ (not_from_false _ (sym ev ∙ f)) refl))
 
         -- a sheet that passes all tests leaves what reading leaves
         pub read : v ≡ true → {a : SheetNumbers} {y x b z : List ℕ}
             → record { answer = a; rules = y; tokens = x; brackets = b; texts = z } ≡ sheet_left s rules tokens brackets texts
             → record { answer = a; rules = y; tokens = x; brackets = b; texts = z } ≡ read_sheet s rules tokens brackets texts
         unfolding read_sheet
-        read f p = pick-false _ _ _ _ (le-ltb sheet_limit (length s) h) (pick_true _ _ _ _ (sym et ∙ e) (pick_true _ _ _ _ (sym ev ∙ f) p))
+        read f p = pick-false _ _ _ _ (le-ltb sheet_limit (length s) h) (pick-false _ _ _ _ (not_from_true _ (sym et ∙ e)) (pick-false _ _ _ _ (not_from_true _ (sym ev ∙ f)) p))
 
 -- ---- reading a sheet never fails
 -- reading statements, in any number of turns, reads or panics

@@ -1,5 +1,5 @@
 -- What `read_sheet` answers and leaves: the refusals of document 01 in the order of their numbers, or the rules of the sheet.
-use Rattle.std.specs.Prelude.{ℕ, ◌-◌, ◌≤◌, ◌≡◌, refl, Result, Ok, Err, List, [], ◌∷◌, ◌++◌, ltb, length, replicate}
+use Rattle.std.specs.Prelude.{ℕ, ◌-◌, ◌≤◌, ◌≡◌, refl, not, Result, Ok, Err, List, [], ◌∷◌, ◌++◌, ltb, length, replicate}
 use Rattle.combinators.specs.Choice.{pick, or, and, is, within}
 use Rattle.combinators.specs.LeastLengths.{stores_suffice, Least}
 use Rattle.combinators.specs.Refusal.{no_refusal, refused, refused_at, too_long, short_store, not_utf8, panic}
@@ -81,9 +81,9 @@ unchanged r rules tokens brackets texts = record { answer = refused_sheet r; rul
 unfoldable pub read_sheet : List ℕ → List ℕ → List ℕ → List ℕ → List ℕ → SheetLeft
 read_sheet s rules tokens brackets texts =
     pick (ltb sheet_limit (length s)) (unchanged (refused too_long) rules tokens brackets texts)
-    (pick (stores_suffice (length s) (length rules) (length tokens) (length brackets) (length texts))
-    (pick (valid s) (sheet_left s rules tokens brackets texts) (unchanged (refused not_utf8) rules tokens brackets texts))
-    (unchanged (refused short_store) rules tokens brackets texts))
+    (pick (not (stores_suffice (length s) (length rules) (length tokens) (length brackets) (length texts))) (unchanged (refused short_store) rules tokens brackets texts)
+    (pick (not (valid s)) (unchanged (refused not_utf8) rules tokens brackets texts)
+    (sheet_left s rules tokens brackets texts)))
 
 -- ---- what reading a sheet asks of its stores
 pub record SheetLent (s rules tokens brackets texts : List ℕ) : Type 0 where

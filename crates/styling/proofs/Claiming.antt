@@ -1,12 +1,13 @@
 -- The claim about a style call, from its contract's own definition; and of the book order that each slot is what CSS Cascading has (result 7, S-2).
 use mathlib.Core.Path.{◌≡◌, refl, ap}
-use mathlib.Core.Bool.{Bool, true, false}
+use mathlib.Core.Bool.{Bool, true, false, not}
 use mathlib.Core.List.{List, ◌∷◌}
 use Prim.Native.Nat.{ℕ, ◌-◌, ◌≤◌}
 use native.Mathlib.Omega.{arith}
 use lib.Dec.{leb}
 use lib.ListN.{length, take, replicate, length-append}
 use lib.Seq.{take_at}
+use Rattle.std.proofs.lemmas.Bool.{not-true}
 use Rattle.combinators.specs.Choice.{pick, and, is}
 use Rattle.combinators.specs.LeastLengths.{stores_suffice}
 use Rattle.combinators.specs.Refusal.{no_refusal, refused, too_long, short_store, not_utf8, no_element}
@@ -34,7 +35,7 @@ use Rattle.styles.proofs.Called.{cascaded-formed, call-row-long, call-says-alone
 use Rattle.styling.specs.Claim.{row_left, texts_left, RowSays}
 use Rattle.page.specs.Lent.{Page}
 use Rattle.styles.specs.Lent.{SheetTexts}
-use Rattle.styling.specs.StyleAnswer.{call_bytes, is_element, StyleLeft, zeroed, unchanged, answered, styled_left, asked_left, style_of}
+use Rattle.styling.specs.StyleAnswer.{call_bytes, is_element, StyleLeft, zeroed, unchanged, answered, styled_left, style_of}
 
 -- what stands at the start of a store comes back
 padded-front : (xs : List ℕ) (n k : ℕ) → length xs ≡ k → take k (padded xs n) ≡ xs
@@ -95,18 +96,16 @@ module _ (c : Cascade) (settings : Settings) (s : SheetTexts) (g : Page) (asked 
 
   -- wherever a style call refuses nothing, its row says the style computed from the sheets, the settings and the path
   pub style-says : Claimed (style_of c settings s g asked row texts rules₀ tokens brackets)
-  unfolding style_of asked_left
+  unfolding style_of
   style-says =
       let page = page_refusal g.nodes g.attributes g.text in
       pick-claims (any_too_long (length s.agent) (length s.user) (length s.author)) _ _ (λ _. refusing (refused too_long) (λ e. omega (arith, e)))
-      (λ _. pick-claims (and (leb style_row_width (length row)) (stores_suffice (call_bytes s g) (length rules₀) (length tokens) (length brackets) (length texts))) _ _
-      (λ _. pick-claims (all_valid s.agent s.user s.author) _ _
-      (λ _. pick-claims (is page.number no_refusal.number) _ _
-      (λ _. pick-claims (is_element g.nodes asked) _ _ (λ _. sheets-say c settings s path row texts rules₀ tokens brackets (sheets_of s.agent s.user s.author) refl)
-      (λ _. refusing (refused no_element) (λ e. omega (arith, e))))
-      (λ f. refusing page (is_false page.number 0 f)))
-      (λ _. refusing (refused not_utf8) (λ e. omega (arith, e))))
-      (λ _. refusing (refused short_store) (λ e. omega (arith, e))))
+      (λ _. pick-claims (not (and (leb style_row_width (length row)) (stores_suffice (call_bytes s g) (length rules₀) (length tokens) (length brackets) (length texts)))) _ _
+      (λ _. refusing (refused short_store) (λ e. omega (arith, e)))
+      (λ _. pick-claims (not (all_valid s.agent s.user s.author)) _ _ (λ _. refusing (refused not_utf8) (λ e. omega (arith, e)))
+      (λ _. pick-claims (not (is page.number no_refusal.number)) _ _ (λ f. refusing page (is_false page.number 0 (not-true _ f)))
+      (λ _. pick-claims (not (is_element g.nodes asked)) _ _ (λ _. refusing (refused no_element) (λ e. omega (arith, e)))
+      (λ _. sheets-say c settings s path row texts rules₀ tokens brackets (sheets_of s.agent s.user s.author) refl)))))
 
 -- ---- result 7 of the call: the row in the book order says the computed style, each slot of which is what CSS Cascading has of what is said of the element and of its parent's style
 pub book-says : (settings : Settings) (s : SheetTexts) (e : Element) (up : Path) (l : StyleLeft) (h : RowSays Book settings s (e ∷ up) l)

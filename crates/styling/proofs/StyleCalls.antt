@@ -1,24 +1,25 @@
 -- Returns of the style call: sheets that are read into stores that were cleared, the page and the row that is asked, and the refusals in their order.
 use mathlib.Core.Path.{◌≡◌, refl, ap, sym, ◌∙◌}
-use mathlib.Core.Bool.{Bool, true, false}
+use mathlib.Core.Bool.{Bool, true, false, not}
 use Rattle.std.proofs.Common.{Option, Some, None, Result, Ok, Err}
+use Rattle.std.proofs.lemmas.Bool.{not_from_true, not_from_false}
 use Rattle.std.proofs.lemmas.List.{drop-replicate}
 use Rattle.std.specs.Result.{IsErrAnd}
 use mathlib.Core.List.{List, ◌++◌}
 use Prim.Native.Nat.{ℕ, suc, ◌+◌, ◌-◌, ◌≤◌, ◌<◌}
 use native.Mathlib.Omega.{arith}
-use borrow.Author.Tests.{ltb-true, leb-true}
+use borrow.Author.Tests.{ltb-true, leb-true, le-leb}
 use lib.Dec.{leb, ltb}
 use lib.ListN.{length, drop, replicate}
 use lib.Seq.{sets}
-use Rattle.combinators.specs.Choice.{and, is}
+use Rattle.combinators.specs.Choice.{pick, and, is}
 use Rattle.combinators.specs.LeastLengths.{stores_suffice}
 use Rattle.combinators.specs.Refusal.{no_refusal, refused, refused_in, too_long, short_store, not_utf8, too_large, bad_row, bad_text, no_element, panic}
 use Rattle.combinators.specs.Store.{cleared}
 use Rattle.combinators.specs.declared.refusals.Refusal.{Refusal}
 use Rattle.combinators.proofs.Cleared.{length-cleared}
 use Rattle.combinators.proofs.LeastLaws.{least}
-use Rattle.combinators.proofs.Rules.{pick_true, pick-false, pick-holds, is-yes, is-no, is_true, and-true}
+use Rattle.combinators.proofs.Rules.{pick_true, pick-false, pick-holds, is-yes, is-no, is_true, and_both, and-true}
 use Rattle.syntax.specs.Selector.{RuleSet}
 use Rattle.sheets.specs.SheetAnswer.{sheet_limit, padded}
 use Rattle.origins.specs.Checks.{any_too_long, all_valid, Lent}
@@ -51,7 +52,7 @@ use Rattle.styles.specs.Lent.{SheetTexts}
 use Rattle.styling.specs.declared.style.StyleError.{StyleError}
 use Rattle.styling.specs.declared.style.StyleError.TheVariants.{TooLong, ShortStore, NotUtf8, BadPage, NoElement, Panic}
 use Rattle.styles.specs.Answer.{TextsAnswer}
-use Rattle.styling.specs.StyleAnswer.{call_bytes, is_element, style_refusal, numbers_of, StyleLeft, zeroed, unchanged, answered, styled_left, asked_left, style_of}
+use Rattle.styling.specs.StyleAnswer.{call_bytes, is_element, style_refusal, numbers_of, StyleLeft, zeroed, unchanged, answered, styled_left, style_of}
 use Rattle.styling.specs.Styling.{FewBytes, ReadRoom, CallLent, AskedLent}
 use Rattle.rule_styles.proofs.SheetsHeldLaws as held
 
@@ -92,16 +93,6 @@ told-panic p = refl
 pub left_by : {a a' : TextsAnswer} {o o' t t' y y' x x' b b' : List ℕ} → a ≡ a' → o ≡ o' → t ≡ t' → y ≡ y' → x ≡ x' → b ≡ b'
     → ◌≡◌ {A = StyleLeft} (record { answer = a; row = o; texts = t; rules = y; tokens = x; brackets = b }) (record { answer = a'; row = o'; texts = t'; rules = y'; tokens = x'; brackets = b' })
 left_by p q r s t u = rw (p, q, r, s, t, u) refl
-
--- an answer beside stores that stay as they were
-abbrev refuses : (out texts rules₀ tokens brackets : List ℕ) → TextsAnswer → StyleLeft
-refuses out texts rules₀ tokens brackets a = record { answer = a; row = out; texts = texts; rules = rules₀; tokens = tokens; brackets = brackets }
-
--- where it has a refusal, that is what the definition refuses with
-refused_as : {out texts rules₀ tokens brackets : List ℕ} {a : TextsAnswer} {q r : Refusal} → q ≡ r → a ≡ record { refusal = q; texts = 0 }
-    → refuses out texts rules₀ tokens brackets a ≡ unchanged out texts rules₀ tokens brackets r
-unfolding unchanged
-refused_as eq ea = left_by (ea ∙ ap (λ (z : Refusal). record { refusal = z; texts = 0 }) eq) refl refl refl refl refl
 
 module _ (c : Cascade) (settings : Settings) (p : Path) {agent user author rules₀ tokens₀ brackets₀ texts₀ : List ℕ} (o : Lent agent user author rules₀ tokens₀ brackets₀ texts₀) (out₀ : List ℕ)
     (l : CallLent (length agent + length user + length author) p out₀ rules₀ tokens₀ brackets₀ texts₀)
@@ -244,123 +235,24 @@ quiet nodes attributes text =
     (λ _. row-quiet bad_row (first_bad_row nodes attributes) _ (omega arith) (row-quiet bad_text (first_bad_text nodes attributes text) _ (omega arith) (λ e. refl))))
     (λ _. loud _ _)
 
-module _ (c : Cascade) (settings : Settings) (s : SheetTexts) (g : Page) (row : ℕ) (out texts rules₀ tokens brackets : List ℕ) (l : AskedLent s g out rules₀ tokens brackets texts)
-    {r : Refusal} (er : r ≡ page_refusal g.nodes g.attributes g.text) where
-  abbrev Asked : StyleLeft → Type 0
-  Asked z = z ≡ asked_left out texts rules₀ tokens brackets c settings g row (sheets_of s.agent s.user s.author)
-
-  -- a page that is refused is answered with that refusal, and the stores stay
-  pub page-refused : ¬ (r.number ≡ 0) → {a : TextsAnswer} → a ≡ record { refusal = r; texts = 0 } → Asked (refuses out texts rules₀ tokens brackets a)
-  unfolding asked_left
-  page-refused h {a} ea = pick-false _ _ _ _ (is-no _ _ (λ e. h (ap (λ (q : Refusal). q.number) er ∙ e))) (refused_as er ea)
-
-  module _ (h : r.number ≡ 0) where
-    -- the refusal of the page has the number 0
-    no_number : (page_refusal g.nodes g.attributes g.text).number ≡ 0
-    no_number = ap (λ (q : Refusal). q.number) (sym er) ∙ h
-
-    -- so the page is accepted
-    none : page_refusal g.nodes g.attributes g.text ≡ no_refusal
-    none = unfold Quiet in quiet g.nodes g.attributes g.text no_number
-
-    module _ {t : Bool} (et : t ≡ is_element g.nodes row) where
-      -- a row that is no element is refused, and the stores stay
-      pub no-element : t ≡ false → {a : TextsAnswer} {q : Refusal} → q ≡ refused no_element → a ≡ record { refusal = q; texts = 0 } → Asked (refuses out texts rules₀ tokens brackets a)
-      unfolding asked_left
-      no-element f eq ea = pick_true _ _ _ _ (is-yes _ _ no_number) (pick-false _ _ _ _ (sym et ∙ f) (refused_as eq ea))
-
-      module _ (f : t ≡ true) where
-        -- the row is one of the page, and its kind is that of elements
-        there : (ltb row (node_count g.nodes) ≡ true) × (is (node_at g.nodes row).kind element_kind ≡ true)
-        unfolding is_element
-        there = and-true _ _ (sym et ∙ f)
-
-        -- the row is one of the page
-        before : row < node_count g.nodes
-        before = ltb-true _ _ there.0
-
-        -- from it parents lead to the document
-        pub rooted : Rooted g.nodes row
-        rooted = accepted-element g.nodes g.attributes g.text none row before (is_true _ _ there.1)
-
-        -- the page is accepted, with all that this says
-        ok : Accepted g.nodes g.attributes g.text
-        ok = accepted g.nodes g.attributes g.text none
-
-        -- its number is one of 32 bits
-        pub few-rows : row < number_bound
-        few-rows = omega (arith, before, ok.few)
-
-        -- the stores are long enough to read the three sheets
-        pub lent : Lent s.agent s.user s.author rules₀ tokens brackets texts
-        unfolding call_bytes
-        lent =
-            record {
-              within = l.within;
-              least =
-                  record {
-                    for-texts = omega (arith, l.least.for-texts);
-                    for-brackets = omega (arith, l.least.for-brackets);
-                    for-rules = omega (arith, l.least.for-rules);
-                    for-tokens = omega (arith, l.least.for-tokens);
-                  };
-            }
-
-        abbrev path : Path
-        path = path_of g.nodes g.attributes g.text row
-
-        -- the attribute values along the path are no longer than the text of the page
-        values : values_along path ≤ length g.text
-        values = omega (arith, path-values g.nodes g.attributes g.text row rooted, bytes-within g.nodes g.attributes g.text ok (suc row) (omega (arith, before)))
-
-        -- the path has no more attributes than the page has attribute rows
-        attributes : attributes_along path ≤ attribute_rows g.attributes
-        attributes = omega (arith, path-attributes g.nodes g.attributes g.text row rooted, attributes-before-within g.nodes g.attributes g.text ok (suc row) (omega (arith, before)))
-
-        -- the stores are long enough for the sheets and the path together
-        pub call-lent : CallLent (length s.agent + length s.user + length s.author) path out rules₀ tokens brackets texts
-        unfolding call_bytes
-        call-lent =
-            record {
-              row = l.row;
-              few = omega (arith, values, attributes, ok.few_bytes, ok.few-attributes);
-              least =
-                  record {
-                    for-texts = omega (arith, values, attributes, l.least.for-texts);
-                    for-brackets = omega (arith, values, attributes, l.least.for-brackets);
-                    for-rules = omega (arith, values, attributes, l.least.for-rules);
-                    for-tokens = omega (arith, values, attributes, l.least.for-tokens);
-                  };
-            }
-
-        -- an element of an accepted page is answered with what styling leaves
-        pub asked : {z : StyleLeft} → z ≡ styled_left out texts rules₀ tokens brackets c settings path (sheets_of s.agent s.user s.author) → Asked z
-        unfolding asked_left
-        asked e = pick_true _ _ _ _ (is-yes _ _ no_number) (pick_true _ _ _ _ (sym et ∙ f) e)
-
--- the return where the page is refused: the error becomes the refusal
-module _ (c : Cascade) (settings : Settings) (s : SheetTexts) (g : Page) (row : ℕ) (out texts rules₀ tokens brackets : List ℕ) (l : AskedLent s g out rules₀ tokens brackets texts)
-    {r : Result Unit PageError} {e : PageError} (was : r ≡ Err e) (er : refusal_of r ≡ page_refusal g.nodes g.attributes g.text) where
-  -- the error of the page is that of the call
-  told-page : (q : StyleError) → q ≡ BadPage e → style_refusal q ≡ error_refusal e
-  unfolding style_refusal
-  told-page q h = ap style_refusal h
-
-  pub page-answered : (o : Result ℕ StyleError) → IsErrAnd o (λ q. q ≡ BadPage e)
-      → refuses out texts rules₀ tokens brackets (numbers_of o) ≡ asked_left out texts rules₀ tokens brackets c settings g row (sheets_of s.agent s.user s.author)
-  page-answered (Err q) h = page-refused c settings s g row out texts rules₀ tokens brackets l (page-failed was (told-page q h) er) (error-loud e (told-page q h)) (refused-numbers q)
-  page-answered (Ok n) h = absurd h
-
 -- ---- the call, in the order of the refusals
 module _ (c : Cascade) (settings : Settings) (s : SheetTexts) (g : Page) (row : ℕ) (out texts rules₀ tokens brackets : List ℕ) where
   abbrev Called : StyleLeft → Type 0
   Called z = z ≡ style_of c settings s g row out texts rules₀ tokens brackets
 
+  abbrev refuse : TextsAnswer → StyleLeft
+  refuse a = record { answer = a; row = out; texts = texts; rules = rules₀; tokens = tokens; brackets = brackets }
+
+  -- an answer with a refusal and the stores as they were is what the definition refuses with
+  refused_as : {a : TextsAnswer} {q : Refusal} (n : ℕ) → q ≡ refused n → a ≡ record { refusal = q; texts = 0 } → refuse a ≡ unchanged out texts rules₀ tokens brackets (refused n)
+  unfolding unchanged
+  refused_as n eq ea = left_by (ea ∙ ap (λ (z : Refusal). record { refusal = z; texts = 0 }) eq) refl refl refl refl refl
+
   module _ {t : Bool} (e : t ≡ any_too_long (length s.agent) (length s.user) (length s.author)) where
     -- a sheet that is too long is refused, and the stores stay
-    pub too_long_lem : t ≡ true → {a : TextsAnswer} {q : Refusal} → q ≡ refused too_long → a ≡ record { refusal = q; texts = 0 } → Called (refuses out texts rules₀ tokens brackets a)
+    pub too_long_lem : t ≡ true → {a : TextsAnswer} {q : Refusal} → q ≡ refused too_long → a ≡ record { refusal = q; texts = 0 } → Called (refuse a)
     unfolding style_of
-    too_long_lem f eq ea = pick_true _ _ _ _ (sym e ∙ f) (refused_as eq ea)
+    too_long_lem f eq ea = pick_true _ _ _ _ (sym e ∙ f) (refused_as too_long eq ea)
 
     module _ (f : t ≡ false) where
       -- each of the three sheets is within its limit
@@ -373,9 +265,9 @@ module _ (c : Cascade) (settings : Settings) (s : SheetTexts) (g : Page) (row : 
 
       module _ {v : Bool} (ev : v ≡ and (leb style_row_width (length out)) (stores_suffice (call_bytes s g) (length rules₀) (length tokens) (length brackets) (length texts))) where
         -- a row or a store that is too short is refused, and all of them stay
-        pub short-store : v ≡ false → {a : TextsAnswer} {q : Refusal} → q ≡ refused short_store → a ≡ record { refusal = q; texts = 0 } → Called (refuses out texts rules₀ tokens brackets a)
+        pub short-store : v ≡ false → {a : TextsAnswer} {q : Refusal} → q ≡ refused short_store → a ≡ record { refusal = q; texts = 0 } → Called (refuse a)
         unfolding style_of
-        short-store h eq ea = pick-false _ _ _ _ (sym e ∙ f) (pick-false _ _ _ _ (sym ev ∙ h) (refused_as eq ea))
+        short-store h eq ea = pick-false _ _ _ _ (sym e ∙ f) (pick_true _ _ _ _ (not_from_false _ (sym ev ∙ h)) (refused_as short_store eq ea))
 
         module _ (h : v ≡ true) where
           -- the row is long enough, and the stores suffice
@@ -386,13 +278,135 @@ module _ (c : Cascade) (settings : Settings) (s : SheetTexts) (g : Page) (row : 
           pub asked-lent : AskedLent s g out rules₀ tokens brackets texts
           asked-lent = record { within = sym e ∙ f; row = leb-true _ _ both.0; least = least refl both.1 }
 
-          module _ {x : Bool} (i : x ≡ all_valid s.agent s.user s.author) where
-            -- sheets that are no UTF-8 are refused, and the stores stay
-            pub not-utf8 : x ≡ false → {a : TextsAnswer} {q : Refusal} → q ≡ refused not_utf8 → a ≡ record { refusal = q; texts = 0 } → Called (refuses out texts rules₀ tokens brackets a)
-            unfolding style_of
-            not-utf8 j eq ea = pick-false _ _ _ _ (sym e ∙ f) (pick_true _ _ _ _ (sym ev ∙ h) (pick-false _ _ _ _ (sym i ∙ j) (refused_as eq ea)))
+  -- ---- a page and a row, behind the tests of what is lent
+  module _ (l : AskedLent s g out rules₀ tokens brackets texts) where
+    abbrev left : Refusal → StyleLeft
+    left r = unchanged out texts rules₀ tokens brackets r
 
-            -- behind all these tests the call leaves what it leaves by page and row
-            pub called : x ≡ true → {z : StyleLeft} → z ≡ asked_left out texts rules₀ tokens brackets c settings g row (sheets_of s.agent s.user s.author) → Called z
-            unfolding style_of
-            called j d = pick-false _ _ _ _ (sym e ∙ f) (pick_true _ _ _ _ (sym ev ∙ h) (pick_true _ _ _ _ (sym i ∙ j) d))
+    -- a row and stores of the least lengths suffice
+    lengths-suffice : and (leb style_row_width (length out)) (stores_suffice (call_bytes s g) (length rules₀) (length tokens) (length brackets) (length texts)) ≡ true
+    unfolding stores_suffice
+    lengths-suffice =
+        and_both _ _ (le-leb _ _ l.row) (and_both _ _ (le-leb _ _ l.least.for-texts) (and_both _ _ (le-leb _ _ l.least.for-brackets) (and_both _ _ (le-leb _ _ l.least.for-rules) (le-leb _ _ l.least.for-tokens))))
+
+    -- sheets that are no UTF-8 are refused, and the stores stay
+    pub not-utf8 : {x : Bool} → x ≡ all_valid s.agent s.user s.author → x ≡ false → {a : TextsAnswer} {q : Refusal} → q ≡ refused not_utf8 → a ≡ record { refusal = q; texts = 0 }
+        → Called (refuse a)
+    unfolding style_of
+    not-utf8 i j eq ea =
+        pick-false _ _ _ _ l.within (pick-false _ _ _ _ (not_from_true _ lengths-suffice) (pick_true _ _ _ _ (not_from_false _ (sym i ∙ j)) (refused_as not_utf8 eq ea)))
+
+    -- the sheets are UTF-8
+    abbrev Valid : Type 0
+    Valid = all_valid s.agent s.user s.author ≡ true
+
+    -- behind the tests of what is lent, page and row decide what the call leaves
+    behind : Valid → {z : StyleLeft}
+        → z ≡ pick (not (is (page_refusal g.nodes g.attributes g.text).number no_refusal.number)) (left (page_refusal g.nodes g.attributes g.text))
+        (pick (not (is_element g.nodes row)) (left (refused no_element)) (styled_left out texts rules₀ tokens brackets c settings (path_of g.nodes g.attributes g.text row) (sheets_of s.agent s.user s.author))) → Called z
+    unfolding style_of
+    behind v e = pick-false _ _ _ _ l.within (pick-false _ _ _ _ (not_from_true _ lengths-suffice) (pick-false _ _ _ _ (not_from_true _ v) e))
+
+    module _ {r : Refusal} (er : r ≡ page_refusal g.nodes g.attributes g.text) where
+      -- a page that is refused is answered with that refusal, and the stores stay
+      pub page-refused : Valid → ¬ (r.number ≡ 0) → {a : TextsAnswer} → a ≡ record { refusal = r; texts = 0 } → Called (refuse a)
+      unfolding unchanged
+      page-refused v h {a} ea =
+          behind v
+          (pick_true _ _ _ _ (not_from_false _ (is-no _ _ (λ e. h (ap (λ (q : Refusal). q.number) er ∙ e)))) (left_by (ea ∙ ap (λ (q : Refusal). record { refusal = q; texts = 0 }) er) refl refl refl refl refl))
+
+      module _ (h : r.number ≡ 0) where
+        -- the refusal of the page has the number 0
+        no_number : (page_refusal g.nodes g.attributes g.text).number ≡ 0
+        no_number = ap (λ (q : Refusal). q.number) (sym er) ∙ h
+
+        -- so the page is accepted
+        none : page_refusal g.nodes g.attributes g.text ≡ no_refusal
+        none = unfold Quiet in quiet g.nodes g.attributes g.text no_number
+
+        module _ {t : Bool} (et : t ≡ is_element g.nodes row) where
+          -- a row that is no element is refused, and the stores stay
+          pub no-element : t ≡ false → Valid → {a : TextsAnswer} {q : Refusal} → q ≡ refused no_element → a ≡ record { refusal = q; texts = 0 } → Called (refuse a)
+          no-element f v {a} {q} eq ea =
+              behind v
+              (pick-false _ _ _ _ (not_from_true _ (is-yes _ _ no_number)) (pick_true _ _ _ _ (not_from_false _ (sym et ∙ f)) (refused_as no_element eq ea)))
+
+          module _ (f : t ≡ true) where
+            -- the row is one of the page, and its kind is that of elements
+            there : (ltb row (node_count g.nodes) ≡ true) × (is (node_at g.nodes row).kind element_kind ≡ true)
+            unfolding is_element
+            there = and-true _ _ (sym et ∙ f)
+
+            -- the row is one of the page
+            before : row < node_count g.nodes
+            before = ltb-true _ _ there.0
+
+            -- from it parents lead to the document
+            pub rooted : Rooted g.nodes row
+            rooted = accepted-element g.nodes g.attributes g.text none row before (is_true _ _ there.1)
+
+            -- the page is accepted, with all that this says
+            ok : Accepted g.nodes g.attributes g.text
+            ok = accepted g.nodes g.attributes g.text none
+
+            -- its number is one of 32 bits
+            pub few-rows : row < number_bound
+            few-rows = omega (arith, before, ok.few)
+
+            -- the stores are long enough to read the three sheets
+            pub lent : Lent s.agent s.user s.author rules₀ tokens brackets texts
+            unfolding call_bytes
+            lent =
+                record {
+                  within = l.within;
+                  least =
+                      record {
+                        for-texts = omega (arith, l.least.for-texts);
+                        for-brackets = omega (arith, l.least.for-brackets);
+                        for-rules = omega (arith, l.least.for-rules);
+                        for-tokens = omega (arith, l.least.for-tokens);
+                      };
+                }
+
+            abbrev path : Path
+            path = path_of g.nodes g.attributes g.text row
+
+            -- the attribute values along the path are no longer than the text of the page
+            values : values_along path ≤ length g.text
+            values = omega (arith, path-values g.nodes g.attributes g.text row rooted, bytes-within g.nodes g.attributes g.text ok (suc row) (omega (arith, before)))
+
+            -- the path has no more attributes than the page has attribute rows
+            attributes : attributes_along path ≤ attribute_rows g.attributes
+            attributes = omega (arith, path-attributes g.nodes g.attributes g.text row rooted, attributes-before-within g.nodes g.attributes g.text ok (suc row) (omega (arith, before)))
+
+            -- the stores are long enough for the sheets and the path together
+            pub call-lent : CallLent (length s.agent + length s.user + length s.author) path out rules₀ tokens brackets texts
+            unfolding call_bytes
+            call-lent =
+                record {
+                  row = l.row;
+                  few = omega (arith, values, attributes, ok.few_bytes, ok.few-attributes);
+                  least =
+                      record {
+                        for-texts = omega (arith, values, attributes, l.least.for-texts);
+                        for-brackets = omega (arith, values, attributes, l.least.for-brackets);
+                        for-rules = omega (arith, values, attributes, l.least.for-rules);
+                        for-tokens = omega (arith, values, attributes, l.least.for-tokens);
+                      };
+                }
+
+            -- an element of an accepted page is answered with what styling leaves
+            pub asked : Valid → {z : StyleLeft} → z ≡ styled_left out texts rules₀ tokens brackets c settings path (sheets_of s.agent s.user s.author) → Called z
+            asked v e = behind v (pick-false _ _ _ _ (not_from_true _ (is-yes _ _ no_number)) (pick-false _ _ _ _ (not_from_true _ (sym et ∙ f)) e))
+
+    -- the return where the page is refused: the error becomes the refusal
+    module _ {r : Result Unit PageError} {e : PageError} (was : r ≡ Err e) (er : refusal_of r ≡ page_refusal g.nodes g.attributes g.text) where
+      -- the error of the page is that of the call
+      told-page : (q : StyleError) → q ≡ BadPage e → style_refusal q ≡ error_refusal e
+      unfolding style_refusal
+      told-page q h = ap style_refusal h
+
+      pub page-answered : Valid → (o : Result ℕ StyleError) → IsErrAnd o (λ q. q ≡ BadPage e)
+          → Called (refuse (numbers_of o))
+      page-answered v (Err q) h = page-refused (page-failed was (told-page q h) er) v (error-loud e (told-page q h)) (refused-numbers q)
+      page-answered v (Ok n) h = absurd h

@@ -1,5 +1,5 @@
 -- What a style call answers and leaves: the refusals of document 01 in the order in which they are looked for, or the style row of the asked element.
-use Rattle.std.specs.Prelude.{ℕ, ◌+◌, ◌*◌, Bool, Result, Ok, Err, List, leb, ltb, length}
+use Rattle.std.specs.Prelude.{ℕ, ◌+◌, ◌*◌, Bool, not, Result, Ok, Err, List, leb, ltb, length}
 use Rattle.combinators.specs.Choice.{pick, and, is}
 use Rattle.combinators.specs.LeastLengths.{stores_suffice}
 use Rattle.combinators.specs.Refusal.{no_refusal, refused, refused_in, too_long, short_store, not_utf8, no_element, panic}
@@ -84,22 +84,18 @@ module _ (row texts rules₀ tokens brackets : List ℕ) where
       answered (call_row c sheets settings p) (call_store sheets settings p)
   styled_left c settings p (panicked which byte) = zeroed (refused_in panic which byte)
 
-  -- for a page with a refusal, whose number is 0 where there is none, and a row that is asked
-  unfoldable pub asked_left : Cascade → Settings → Page → ℕ → Sheets → StyleLeft
-  asked_left c settings g asked s =
-      let refusal = page_refusal g.nodes g.attributes g.text in
-      let styled = styled_left c settings (path_of g.nodes g.attributes g.text asked) s in
-      pick (is refusal.number no_refusal.number) (pick (is_element g.nodes asked) styled (unchanged (refused no_element))) (unchanged refusal)
-
 -- in the order 1, 2, 3, 5, 6, 7, 8, 4
 unfoldable pub style_of : Cascade → Settings → SheetTexts → Page → ℕ → List ℕ → List ℕ → List ℕ → List ℕ → List ℕ → StyleLeft
 style_of c settings s g asked row texts rules₀ tokens brackets =
-    let asks = asked_left row texts rules₀ tokens brackets c settings g asked (sheets_of s.agent s.user s.author) in
+    let suffices = and (leb style_row_width (length row)) (stores_suffice (call_bytes s g) (length rules₀) (length tokens) (length brackets) (length texts)) in
+    let page = page_refusal g.nodes g.attributes g.text in
     let refuses = unchanged row texts rules₀ tokens brackets in
     pick (any_too_long (length s.agent) (length s.user) (length s.author)) (refuses (refused too_long))
-    (pick (and (leb style_row_width (length row)) (stores_suffice (call_bytes s g) (length rules₀) (length tokens) (length brackets) (length texts)))
-    (pick (all_valid s.agent s.user s.author) asks (refuses (refused not_utf8)))
-    (refuses (refused short_store)))
+    (pick (not suffices) (refuses (refused short_store))
+    (pick (not (all_valid s.agent s.user s.author)) (refuses (refused not_utf8))
+    (pick (not (is page.number no_refusal.number)) (refuses page)
+    (pick (not (is_element g.nodes asked)) (refuses (refused no_element))
+    (styled_left row texts rules₀ tokens brackets c settings (path_of g.nodes g.attributes g.text asked) (sheets_of s.agent s.user s.author))))))
 
 -- ---- the same of what is lent: a row and the stores
 abbrev pub styled_left_of : code.SheetTexts → Cascade → Settings → Path → List ℕ → Stores → StyleLeft

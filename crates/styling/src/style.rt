@@ -16,7 +16,7 @@ ghost use Rattle.page.specs.Lent.{page_in, path_in};
 ghost use Rattle.styles.specs.Lent.{sheets_in};
 ghost use Rattle.styles.specs.StyleCall.{call_row, call_store};
 ghost use Rattle.rule_styles.specs.Held.{sheets_from, SheetsHeld};
-ghost use Rattle.styling.specs.StyleAnswer.{call_bytes, is_element, numbers_of, left_in, styled_left, styled_left_of, asked_left, style_of_lent, style_refusal};
+ghost use Rattle.styling.specs.StyleAnswer.{call_bytes, is_element, numbers_of, left_in, styled_left, styled_left_of, style_of_lent, style_refusal};
 ghost use Rattle.styling.specs.Fronts.{FrontLent};
 ghost use Rattle.styling.specs.Styling.{FewBytes, ContentsIn, LentOf, ReadRoomOf, CallLent, CallLentOf, AskedLentOf};
 
@@ -253,7 +253,7 @@ impl ElementCall<'_, '_> {
 }
 
 impl StyleCall<'_> {
-    // Styles an element of a page that is accepted or not, by sheets for which the stores suffice. Page and row stay apart here and in those that call
+    // Styles an element of a page that is accepted or not, by sheets that are UTF-8 or not and for which the stores suffice. Page and row stay apart here and in those that call
     // this: only here the row turns out to be an `Element`.
     fn style_asked(
         &self,
@@ -265,8 +265,11 @@ impl StyleCall<'_> {
         requires { AskedLentOf (sheets_in self.now.sheets) (page_in page) out.old stores.old }
         ensures same { SameStores stores.old stores.new }
         ensures left { left_in (numbers_of result) out.new stores.new
-            ≡ asked_left out.old stores.old.texts.now stores.old.rules.now stores.old.tokens.now stores.old.brackets.now self.now.cascade self.now.settings (page_in page.entry) row (sheets_of self.now.sheets.agent.now self.now.sheets.user.now self.now.sheets.author.now) }
+            ≡ style_of_lent self.now.cascade self.now.settings (sheets_in self.now.sheets) (page_in page.entry) row out.old stores.old }
     {
+        if !all_valid(self.sheets) {
+            return Err(StyleError::NotUtf8);
+        }
         check_page(page)?;
         if !is_element(page.nodes, row) {
             return Err(StyleError::NoElement);
@@ -296,9 +299,6 @@ impl StyleCall<'_> {
         }
         if !lent_suffices(self.sheets, page, out, stores) {
             return Err(StyleError::ShortStore);
-        }
-        if !all_valid(self.sheets) {
-            return Err(StyleError::NotUtf8);
         }
         self.style_asked(page, row, out, stores)
     }

@@ -1,4 +1,4 @@
--- The refusals in their order; where none applies, the page and the row are asked for.
+-- The refusals in their order; behind those of what is lent, sheets, page and row are looked at.
 use Rattle.styling.specs.StyleAnswer.{call_bytes}
 use Rattle.styling.proofs.StyleCalls as laws
 use Rattle.styling.proofs.style.StyleCall.style_by.Goals as goal
@@ -16,14 +16,7 @@ style_asked-requires c = let a = c.args in
     laws.asked-lent a.self.now.cascade a.self.now.settings (record { agent = a.self.now.sheets.agent.now; user = a.self.now.sheets.user.now; author = a.self.now.sheets.author.now }) (record { nodes = a.page.nodes.now; attributes = a.page.attributes.now; text = a.page.text.now }) a.row a.out.now a.stores.now.texts.now a.stores.now.rules.now a.stores.now.tokens.now a.stores.now.brackets.now c.any_too_long.ensures c.if-any_too_long.false c.lent_suffices.ensures c.if-not-lent_suffices.false
 
 pub returns-clause-left : goal.returns-clause-left
-unfolding call_bytes
-returns-clause-left c = let a = c.args in
-    laws.called a.self.now.cascade a.self.now.settings (record { agent = a.self.now.sheets.agent.now; user = a.self.now.sheets.user.now; author = a.self.now.sheets.author.now }) (record { nodes = a.page.nodes.now; attributes = a.page.attributes.now; text = a.page.text.now }) a.row a.out.now a.stores.now.texts.now a.stores.now.rules.now a.stores.now.tokens.now a.stores.now.brackets.now c.any_too_long.ensures c.if-any_too_long.false c.lent_suffices.ensures c.if-not-lent_suffices.false c.all_valid.ensures c.if-not-all_valid.false c.style_asked.ensures.left
-
-pub returns-then-not-all_valid-clause-left : goal.returns-then-not-all_valid-clause-left
-unfolding call_bytes
-returns-then-not-all_valid-clause-left c = let a = c.args in
-    laws.not-utf8 a.self.now.cascade a.self.now.settings (record { agent = a.self.now.sheets.agent.now; user = a.self.now.sheets.user.now; author = a.self.now.sheets.author.now }) (record { nodes = a.page.nodes.now; attributes = a.page.attributes.now; text = a.page.text.now }) a.row a.out.now a.stores.now.texts.now a.stores.now.rules.now a.stores.now.tokens.now a.stores.now.brackets.now c.any_too_long.ensures c.if-any_too_long.false c.lent_suffices.ensures c.if-not-lent_suffices.false c.all_valid.ensures c.if-not-all_valid.true laws.told-not-utf8 (laws.refused-numbers _)
+returns-clause-left c = c.style_asked.ensures.left
 
 pub returns-then-not-lent_suffices-clause-left : goal.returns-then-not-lent_suffices-clause-left
 unfolding call_bytes
