@@ -1,6 +1,6 @@
 -- The cases that document 01 marks P, in its order, as one list of statements; `all-proved` of proofs/Theorem.antt proves them all.
 use Rattle.std.specs.Prelude.{ℕ, Bool, true, false, List, [], ◌∷◌, ◌++◌, ◌≡◌, replicate}
-use Rattle.combinators.specs.Ascii.{full_stop, digit_zero}
+use Prim.Native.Char.{code as ascii}
 use Rattle.combinators.specs.Parsed.{ok, on_parsed}
 use Rattle.cascade.specs.Cases.{by_type, by_id}
 use Rattle.cascade.specs.Record.{main_record, slot_in}
@@ -34,11 +34,11 @@ All (p ∷ ps) = p × All ps
 
 -- 45 zeros
 abbrev pub zeros : List ℕ
-zeros = replicate 45 digit_zero
+zeros = replicate 45 (ascii "0")
 
 -- what is read as the height `.`, 45 zeros and the rest
 unfoldable pub tiny_height : List ℕ → Found Bool
-tiny_height r = on_parsed (value_of (full_stop ∷ (zeros ++ r))) (λ n v. height_of v.tokens) missing
+tiny_height r = on_parsed (value_of (ascii "." ∷ (zeros ++ r))) (λ n v. height_of v.tokens) missing
 
 -- whether the selector s matches an element of a name at a place, in the document
 unfoldable pub selects : List ℕ → List ℕ → ℕ → Bool

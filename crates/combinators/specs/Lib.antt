@@ -1,5 +1,4 @@
 pub mod Choice
-pub mod Ascii
 pub mod Parsed
 pub mod Repeat
 pub mod Word

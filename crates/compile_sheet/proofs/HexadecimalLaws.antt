@@ -10,19 +10,19 @@ use Rattle.std.proofs.lemmas.List.{nil_from_length}
 use borrow.Author.Tests.{lt-ltb, le-ltb}
 use Rattle.std.proofs.lemmas.Bool.Decides.{eqb_tells}
 use Rattle.std.specs.Fmt.{digit_glyph, digits}
-use Rattle.combinators.specs.Ascii.{line_feed, space, digit_zero, small_a}
+use Prim.Native.Char.{code as ascii}
 use Rattle.combinators.proofs.Rules.{lt-or-ge, pick_true, pick-false}
 use Rattle.streams.specs.Printed.{hexadecimal}
 use Rattle.compile_sheet.specs.Hexadecimal.{base, decimal_base, hex_digit, hex_pair, hex_pairs, hex_line}
 
 -- ---- a digit
 -- a digit below ten is written as a decimal digit
-pub decimal : (n : ℕ) → n < decimal_base → digit_zero + n ≡ hex_digit n
+pub decimal : (n : ℕ) → n < decimal_base → ascii "0" + n ≡ hex_digit n
 unfolding hex_digit
 decimal n h = pick_true _ _ _ _ (lt-ltb n decimal_base h) refl
 
 -- from ten on a digit is a letter
-pub letter : (n : ℕ) → decimal_base ≤ n → small_a + (n - decimal_base) ≡ hex_digit n
+pub letter : (n : ℕ) → decimal_base ≤ n → ascii "a" + (n - decimal_base) ≡ hex_digit n
 unfolding hex_digit
 letter n h = pick-false _ _ _ _ (le-ltb n decimal_base h) refl
 
@@ -31,7 +31,7 @@ glyph : (n : ℕ) → digit_glyph false n ≡ hex_digit n
 glyph n =
     elim (lt-or-ge n decimal_base) [
       | inl h ↦ rw (lt-ltb n decimal_base h) (decimal n h)
-      | inr h ↦ let e : 87 + n ≡ small_a + (n - decimal_base) = omega arith in rw (le-ltb n decimal_base h) (e ∙ letter n h)
+      | inr h ↦ let e : 87 + n ≡ ascii "a" + (n - decimal_base) = omega arith in rw (le-ltb n decimal_base h) (e ∙ letter n h)
     ]
 
 -- ---- the pair of digits of a byte
@@ -50,18 +50,18 @@ pair b h =
 
 -- ---- the line
 -- a byte behind others is written as a space and its pair
-pub next-pair : (a : ℕ) (s : List ℕ) (b : ℕ) → hex_pairs (a ∷ s) ++ (space ∷ hex_pair b) ≡ hex_pairs (a ∷ (s ++ b ∷ []))
+pub next-pair : (a : ℕ) (s : List ℕ) (b : ℕ) → hex_pairs (a ∷ s) ++ (ascii " " ∷ hex_pair b) ≡ hex_pairs (a ∷ (s ++ b ∷ []))
 unfolding hex_pairs
 next-pair a [] b = refl
 next-pair a (c ∷ s) b =
-    append_assoc (hex_pair a) (space ∷ hex_pairs (c ∷ s)) (space ∷ hex_pair b) ∙ ap (λ t. hex_pair a ++ (space ∷ t)) (next-pair c s b)
+    append_assoc (hex_pair a) (ascii " " ∷ hex_pairs (c ∷ s)) (ascii " " ∷ hex_pair b) ∙ ap (λ t. hex_pair a ++ (ascii " " ∷ t)) (next-pair c s b)
 
 -- a line has nothing before its end where there is no byte, and the pairs of a first byte and of those behind it
-pub line-end : (s : List ℕ) → length s < 1 → line_feed ∷ [] ≡ hex_line s
+pub line-end : (s : List ℕ) → length s < 1 → ascii "\n" ∷ [] ≡ hex_line s
 unfolding hex_line hex_pairs
 line-end s h = rw (nil_from_length s (omega arith))
 
-pub line-pairs : (s : List ℕ) → 1 ≤ length s → hex_pairs (get_or s 0 0 ∷ take (length s - 1) (drop 1 s)) ++ (line_feed ∷ []) ≡ hex_line s
+pub line-pairs : (s : List ℕ) → 1 ≤ length s → hex_pairs (get_or s 0 0 ∷ take (length s - 1) (drop 1 s)) ++ (ascii "\n" ∷ []) ≡ hex_line s
 unfolding hex_line
 line-pairs [] h = absurd (let z : ⊥ = omega (arith, h) in z)
-line-pairs (a ∷ s) h = ap (λ t. hex_pairs (a ∷ t) ++ (line_feed ∷ [])) (take_all _ s (omega arith))
+line-pairs (a ∷ s) h = ap (λ t. hex_pairs (a ∷ t) ++ (ascii "\n" ∷ [])) (take_all _ s (omega arith))

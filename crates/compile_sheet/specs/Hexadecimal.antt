@@ -1,6 +1,6 @@
 -- The line that the program prints of compiled bytes: "lower-case hexadecimal pairs parted by spaces on one line".
 use Rattle.std.specs.Prelude.{ℕ, ◌+◌, ◌-◌, ◌/◌, ◌%◌, ◌≡◌, refl, List, [], ◌∷◌, ◌++◌, ltb}
-use Rattle.combinators.specs.Ascii.{line_feed, space, digit_zero, small_a}
+use Prim.Native.Char.{code as ascii}
 use Rattle.combinators.specs.Choice.{pick}
 
 abbrev pub base : ℕ
@@ -11,7 +11,7 @@ decimal_base = 10
 
 -- the digit of a number below the base
 unfoldable pub hex_digit : ℕ → ℕ
-hex_digit n = pick (ltb n decimal_base) (digit_zero + n) (small_a + (n - decimal_base))
+hex_digit n = pick (ltb n decimal_base) (ascii "0" + n) (ascii "a" + (n - decimal_base))
 
 -- the two digits of a byte
 unfoldable pub hex_pair : ℕ → List ℕ
@@ -21,11 +21,11 @@ hex_pair b = hex_digit (b / base) ∷ hex_digit (b % base) ∷ []
 unfoldable pub hex_pairs : List ℕ → List ℕ
 hex_pairs [] = []
 hex_pairs (b ∷ []) = hex_pair b
-hex_pairs (b ∷ c ∷ r) = hex_pair b ++ (space ∷ hex_pairs (c ∷ r))
+hex_pairs (b ∷ c ∷ r) = hex_pair b ++ (ascii " " ∷ hex_pairs (c ∷ r))
 
 -- and the end of the line
 unfoldable pub hex_line : List ℕ → List ℕ
-hex_line bytes = hex_pairs bytes ++ (line_feed ∷ [])
+hex_line bytes = hex_pairs bytes ++ (ascii "\n" ∷ [])
 
 -- the bytes 0, 15, 160 and 255 are `00 0f a0 ff`
 pub case-line : hex_line (0 ∷ 15 ∷ 160 ∷ 255 ∷ [])

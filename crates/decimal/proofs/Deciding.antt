@@ -9,7 +9,7 @@ use native.Mathlib.Omega.{arith}
 use lib.ListN.{length, get_or, take, drop}
 use lib.Seq.{get_or-drop, drop-drop}
 use Rattle.combinators.specs.All.{All}
-use Rattle.combinators.specs.Ascii.{digit_zero, digit_nine}
+use Prim.Native.Char.{code as ascii}
 use Rattle.combinators.specs.Choice.{and, is}
 use Rattle.combinators.proofs.Rules.{never, pick_true, within-yes, same-or-other}
 use Rattle.decimal.specs.Decimal.{digit, digits, rounds_to_zero}
@@ -77,9 +77,9 @@ written-digits [] h = tt
 written-digits (d ∷ ds) h = let l = h 0 in ((omega arith, omega arith), written-digits ds (λ k. h (suc k)))
 
 -- a number below 10 is what its digit is worth
-digit-written : (d : ℕ) → d < 10 → digit (digit_zero + d) ≡ d
+digit-written : (d : ℕ) → d < 10 → digit (ascii "0" + d) ≡ d
 unfolding digit
-digit-written d h = sym (pick_true _ _ _ _ (within-yes (digit_zero + d) digit_zero digit_nine (omega arith) (omega arith)) (omega arith))
+digit-written d h = sym (pick_true _ _ _ _ (within-yes (ascii "0" + d) (ascii "0") (ascii "9") (omega arith) (omega arith)) (omega arith))
 
 -- and so of a list of them
 digits-written : (ds : List ℕ) → BelowTen ds → digits (written ds) ≡ ds

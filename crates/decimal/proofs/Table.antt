@@ -7,7 +7,7 @@ use native.Mathlib.Omega.{arith}
 use borrow.Author.Tests.{ltb-true}
 use lib.Dec.{ltb}
 use lib.ListN.{length, get_or}
-use Rattle.combinators.specs.Ascii.{digit_zero, digit_nine}
+use Prim.Native.Char.{code as ascii}
 use Rattle.combinators.specs.Choice.{and}
 use Rattle.combinators.proofs.Rules.{and-true, pick-holds, within-true}
 use Rattle.decimal.specs.Decimal.{digit, number, digits}
@@ -50,7 +50,7 @@ digit-below-ten : (x : ℕ) → digit x < 10
 unfolding digit
 digit-below-ten x =
     pick-holds (λ n. n < 10) _ _ _
-    (λ e. let p = within-true x digit_zero digit_nine e in omega (arith, p))
+    (λ e. let p = within-true x (ascii "0") (ascii "9") e in omega (arith, p))
     (λ e. omega arith)
 
 -- the digits that are read of a text are each below ten

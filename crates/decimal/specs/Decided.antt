@@ -2,12 +2,12 @@
 -- them" (request S-4). The laws are in proofs/Deciding.antt.
 use Rattle.std.specs.Prelude.{ℕ, ◌<◌, ◌≤◌, ◌≡◌, Bool, List, ◌++◌, length, take}
 use Rattle.combinators.specs.All.{All}
-use Rattle.combinators.specs.Ascii.{digit_zero, digit_nine}
+use Prim.Native.Char.{code as ascii}
 use Rattle.decimal.specs.declared.ZeroTest.{ZeroTest}
 
 -- the byte is a digit
 abbrev pub IsDigit : ℕ → Type 0
-IsDigit x = (digit_zero ≤ x) × (x ≤ digit_nine)
+IsDigit x = (ascii "0" ≤ x) × (x ≤ ascii "9")
 
 -- "it would still depend on them": there are digits behind p with which the answers differ
 pub record Depends (test : List ℕ → ZeroTest) (p : List ℕ) : Type 0 where

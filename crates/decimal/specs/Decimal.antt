@@ -1,12 +1,12 @@
 -- When a decimal is at most 2^-150, the largest number that rounds to zero as an f32: the exact statement, on the digits before
 -- and behind the point.
 use Rattle.std.specs.Prelude.{ℕ, ◌+◌, ◌-◌, ◌*◌, ◌^◌, Bool, List, [], ◌∷◌, leb, length}
-use Rattle.combinators.specs.Ascii.{digit_zero, digit_nine}
+use Prim.Native.Char.{code as ascii}
 use Rattle.combinators.specs.Choice.{pick, within}
 
 -- what an ASCII digit is worth; any other byte counts as 0, so that the statement is about any bytes
 unfoldable pub digit : ℕ → ℕ
-digit x = pick (within x digit_zero digit_nine) (x - digit_zero) 0
+digit x = pick (within x (ascii "0") (ascii "9")) (x - ascii "0") 0
 
 -- digits read as one number
 unfoldable pub number : List ℕ → ℕ

@@ -1,6 +1,6 @@
 -- How many digits the zero test looks at. Request S-4: "Let the zero test end at the first digit that decides it, and tell how many it looked at."
 use Rattle.std.specs.Prelude.{ℕ, suc, ◌+◌, ◌≡◌, refl, true, false, List, [], ◌∷◌, ◌++◌, length, get_or, drop, replicate}
-use Rattle.combinators.specs.Ascii.{digit_zero}
+use Prim.Native.Char.{code as ascii}
 use Rattle.combinators.specs.Choice.{pick, and, is, within}
 use Rattle.decimal.specs.Decimal.{digit, number, digits, numerator, denominator, rounds_to_zero}
 use Rattle.decimal.specs.Places.{places, all_zero, at_most}
@@ -30,10 +30,10 @@ zero_test i f =
 -- numbers below 10 as they are written
 unfoldable pub written : List ℕ → List ℕ
 written [] = []
-written (d ∷ ds) = (digit_zero + d) ∷ written ds
+written (d ∷ ds) = (ascii "0" + d) ∷ written ds
 
 zeros : ℕ → List ℕ
-zeros n = replicate n digit_zero
+zeros n = replicate n (ascii "0")
 
 -- the answer zero, and not zero, after n digits
 zero_after : ℕ → ZeroTest

@@ -2,7 +2,7 @@
 use Rattle.std.specs.Prelude.{ℕ, ◌+◌, ◌≡◌, refl, Bool, true, false, List, [], ◌∷◌, ◌++◌, pos, Float, replicate}
 use Rattle.std.specs.Float.{fin, binary32}
 use Rattle.std.specs.Float.Ieee.{round, eq}
-use Rattle.combinators.specs.Ascii.{digit_zero}
+use Prim.Native.Char.{code as ascii}
 use Rattle.combinators.specs.Choice.{pick, and, within}
 use Rattle.decimal.specs.Decimal.{digit, number, digits, numerator, denominator, rounds_to_zero}
 
@@ -15,16 +15,16 @@ unfoldable pub decimal32 : Bool → List ℕ → List ℕ → Float
 decimal32 s i f = round binary32 s (numerator i f) (denominator f)
 
 -- 7 * 10^-46 is at most 2^-150
-seven : rounds_to_zero [] (replicate 45 digit_zero ++ ((digit_zero + 7) ∷ [])) ≡ true
+seven : rounds_to_zero [] (replicate 45 (ascii "0") ++ ((ascii "0" + 7) ∷ [])) ≡ true
 unfolding rounds_to_zero numerator denominator number digits digit within and pick
 seven = refl
 
 -- 8 * 10^-46 is not
-eight : rounds_to_zero [] (replicate 45 digit_zero ++ ((digit_zero + 8) ∷ [])) ≡ false
+eight : rounds_to_zero [] (replicate 45 (ascii "0") ++ ((ascii "0" + 8) ∷ [])) ≡ false
 unfolding rounds_to_zero numerator denominator number digits digit within and pick
 eight = refl
 
 -- "0" is, and "1" is not
-no_fraction : (rounds_to_zero (digit_zero ∷ []) [] ≡ true) × (rounds_to_zero ((digit_zero + 1) ∷ []) [] ≡ false)
+no_fraction : (rounds_to_zero (ascii "0" ∷ []) [] ≡ true) × (rounds_to_zero ((ascii "0" + 1) ∷ []) [] ≡ false)
 unfolding rounds_to_zero numerator denominator number digits digit within and pick
 no_fraction = (refl, refl)

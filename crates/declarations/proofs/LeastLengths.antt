@@ -6,7 +6,7 @@ use mathlib.Core.Logic.{⊎_elim}
 use Prim.Native.Nat.{ℕ, zero, suc, ◌+◌, ◌-◌, ◌^◌, ◌≤◌, ◌<◌}
 use native.Mathlib.Omega.{arith}
 use lib.ListN.{length, get_or, drop, length-drop}
-use Rattle.combinators.specs.Ascii as ascii
+use Prim.Native.Char.{code as ascii}
 use Rattle.combinators.specs.Choice.{pick, is}
 use Rattle.combinators.specs.LeastLengths.{text_least, bracket_least, number_least}
 use Rattle.combinators.specs.Parsed.{ok}
@@ -60,14 +60,14 @@ unfolding used_then
 then-small n u w k h i j = record { tokens = most-le _ _ n h.tokens i; bytes = most-le _ _ (n + 2) h.bytes j }
 
 -- a ';' that is found stands before the end of the text
-pub semicolon-there : (s : List ℕ) (i : ℕ) {t : Bool} → t ≡ is (get_or s i 0) ascii.semicolon → t ≡ true → i < length s
-semicolon-there s i e f = byte-there s i ascii.semicolon (omega arith) (sym e ∙ f)
+pub semicolon-there : (s : List ℕ) (i : ℕ) {t : Bool} → t ≡ is (get_or s i 0) (ascii ";") → t ≡ true → i < length s
+semicolon-there s i e f = byte-there s i (ascii ";") (omega arith) (sym e ∙ f)
 
 -- nothing is used at the end of the text
 none-used : (names : Bool) (l : ℕ) → used_more names l [] ≡ unused
 unfolding used_more pick
 none-used names zero = refl
-none-used names (suc l) = rw (is-no 0 ascii.semicolon (λ e. omega arith))
+none-used names (suc l) = rw (is-no 0 (ascii ";") (λ e. omega arith))
 
 -- at the end of the text no byte is used
 end-used : (names : Bool) (l : ℕ) (r : List ℕ) → length r ≡ 0 → (used_more names l r).bytes ≡ 0
@@ -91,7 +91,7 @@ pub more-small : (names : Bool) (l : ℕ) (s : List ℕ) → Small (length s) (u
 unfolding used_more
 more-small names zero s = unused-small (length s)
 more-small names (suc l) s =
-    pick-holds (Small (length s)) (is (get_or s 0 0) ascii.semicolon) _ _
+    pick-holds (Small (length s)) (is (get_or s 0 0) (ascii ";")) _ _
     (λ e. let w = 1 + skip_whitespace (drop 1 s) in
     let p = semicolon-there s 0 refl e in
     let q = skip-le (drop 1 s) in

@@ -5,7 +5,7 @@ use mathlib.Core.List.{List}
 use Prim.Native.Nat.{ℕ, ◌+◌, ◌≤◌, ◌<◌}
 use native.Mathlib.Omega.{arith}
 use lib.ListN.{length, get_or, drop}
-use Rattle.combinators.specs.Ascii as ascii
+use Prim.Native.Char.{code as ascii}
 use Rattle.combinators.specs.Choice.{pick, is}
 use Rattle.combinators.specs.Parsed.{Parsed, ok, err, on_parsed}
 use Rattle.combinators.proofs.Lists.{byte-there}
@@ -23,12 +23,12 @@ use Rattle.declarations.specs.Leaving.{property_answer}
 -- ---- the meaning, where there is a name
 module _ (s : List ℕ) (n : ℕ) (name : List ℕ) (e : ident_of s ≡ ok n name) where
   -- with ':' behind the name, the property reads, and its value starts behind the white space there
-  colon-there : (c : ℕ) → c ≡ n + skip_whitespace (drop n s) → is (get_or s c 0) ascii.colon ≡ true → property_of s ≡ ok (c + 1 + skip_whitespace (drop (c + 1) s)) name
+  colon-there : (c : ℕ) → c ≡ n + skip_whitespace (drop n s) → is (get_or s c 0) (ascii ":") ≡ true → property_of s ≡ ok (c + 1 + skip_whitespace (drop (c + 1) s)) name
   unfolding property_of colon_behind on_parsed pick
   colon-there c ec t = rw (e, ← ec, t)
 
   -- a name without a colon behind it is no property
-  colon-missing : (c : ℕ) → c ≡ n + skip_whitespace (drop n s) → is (get_or s c 0) ascii.colon ≡ false → property_of s ≡ err
+  colon-missing : (c : ℕ) → c ≡ n + skip_whitespace (drop n s) → is (get_or s c 0) (ascii ":") ≡ false → property_of s ≡ err
   unfolding property_of colon_behind on_parsed pick
   colon-missing c ec t = rw (e, ← ec, t)
 
@@ -71,7 +71,7 @@ module _ (s : List ℕ) {x : Option Written} (ex : x ≡ name_answer (ident_of s
     -- then white space up to c
     module _ {c : ℕ} (ec : c ≡ n + skip_whitespace (drop n s)) where
       -- and a test for ':'
-      module _ {t : Bool} (et : t ≡ is (get_or s c 0) ascii.colon) where
+      module _ {t : Bool} (et : t ≡ is (get_or s c 0) (ascii ":")) where
         -- the return where no ':' follows the name
         pub property-miss : t ≡ false → Err (record { name = m }) ≡ property_answer s
         unfolding name_text
@@ -81,7 +81,7 @@ module _ (s : List ℕ) {x : Option Written} (ex : x ≡ name_answer (ident_of s
 
         -- a ':' that is found stands before the end of the text
         pub colon-before : t ≡ true → c < length s
-        colon-before f = byte-there s c ascii.colon (omega arith) (sym et ∙ f)
+        colon-before f = byte-there s c (ascii ":") (omega arith) (sym et ∙ f)
 
         -- the return where ':' follows: the value starts behind it and the white space there
         pub property-hit : t ≡ true → {v : ℕ} → v ≡ c + 1 + skip_whitespace (drop (c + 1) s) → Ok (record { value = v; name = m }) ≡ property_answer s
@@ -99,11 +99,11 @@ module _ (s : List ℕ) (n : ℕ) (b : List ℕ) (e : ident_of s ≡ ok n b) whe
   c = n + skip_whitespace (drop n s)
 
   -- by the test for ':', a property that reads stays within the text, and its name is shorter than what it takes
-  headed-by : (t : Bool) → is (get_or s c 0) ascii.colon ≡ t → (v : ℕ) (name : List ℕ) → property_of s ≡ ok v name → Headed s v name
+  headed-by : (t : Bool) → is (get_or s c 0) (ascii ":") ≡ t → (v : ℕ) (name : List ℕ) → property_of s ≡ ok v name → Headed s v name
   unfolding name_text
   headed-by true et v name ep =
       let f = ident-fits s n b e in
-      let l = byte-there s c ascii.colon (omega arith) et in
+      let l = byte-there s c (ascii ":") (omega arith) et in
       let q : ◌≡◌ {A = Parsed (List ℕ)} (ok (c + 1 + skip_whitespace (drop (c + 1) s)) b) (ok v name) = sym (colon-there s n b e c refl et) ∙ ep in
       let ev : c + 1 + skip_whitespace (drop (c + 1) s) ≡ v = cc in
       let en : b ≡ name = cc in

@@ -7,7 +7,7 @@ use Prim.Native.Nat.{ℕ, zero, suc, ◌+◌, ◌-◌, ◌*◌, ◌≤◌}
 use native.Mathlib.Omega.{arith}
 use lib.ListN.{length, get_or, drop}
 use lib.Seq.{drop-drop}
-use Rattle.combinators.specs.Ascii as ascii
+use Prim.Native.Char.{code as ascii}
 use Rattle.combinators.specs.Choice.{pick, is}
 use Rattle.combinators.specs.Parsed.{ok, err, on_parsed}
 use Rattle.combinators.specs.Store.{most}
@@ -78,20 +78,20 @@ module _ (names : Bool) (s : List ℕ) (i : ℕ) where
     from_is = omega arith
 
     -- a ';' with a declaration behind it: it is the next, and reading goes on behind it
-    pub more-next : is (get_or s i 0) ascii.semicolon ≡ true → (l n : ℕ) (d : Declaration) → declaration_of (drop w s) ≡ ok n d
+    pub more-next : is (get_or s i 0) (ascii ";") ≡ true → (l n : ℕ) (d : Declaration) → declaration_of (drop w s) ≡ ok n d
         → (more_rules (suc l) (drop i s) i ≡ record { declarations = starts_at w d ∷ (more_rules l (drop (w + n) s) (w + n)).declarations; taken = (more_rules l (drop (w + n) s) (w + n)).taken })
         × (used_more names (suc l) (drop i s) ≡ used_then (used_by (drop w s)) (text_kept names d) (used_more names l (drop (w + n) s)))
     unfolding more_rules used_more pick on_parsed
     more-next t l n d e = (rw (first s i, t, skip_is, drop-is, e, behind-is n, at-is n, from_is), rw (first s i, t, skip_is, drop-is, e, behind-is n))
 
     -- a semicolon behind which no declaration reads: reading ends before it
-    pub more-none : is (get_or s i 0) ascii.semicolon ≡ true → (l : ℕ) → declaration_of (drop w s) ≡ err
+    pub more-none : is (get_or s i 0) (ascii ";") ≡ true → (l : ℕ) → declaration_of (drop w s) ≡ err
         → (more_rules (suc l) (drop i s) i ≡ record { declarations = []; taken = i }) × (used_more names (suc l) (drop i s) ≡ used_by (drop w s))
     unfolding more_rules used_more pick on_parsed
     more-none t l e = (rw (first s i, t, skip_is, drop-is, e), rw (first s i, t, skip_is, drop-is, e))
 
   -- without a semicolon reading ends
-  pub more-stop : is (get_or s i 0) ascii.semicolon ≡ false → (l : ℕ)
+  pub more-stop : is (get_or s i 0) (ascii ";") ≡ false → (l : ℕ)
       → (more_rules l (drop i s) i ≡ record { declarations = []; taken = i }) × (used_more names l (drop i s) ≡ unused)
   unfolding more_rules used_more pick
   more-stop t zero = (refl, refl)

@@ -7,7 +7,7 @@ use native.Mathlib.Nat.{add-zero}
 use native.Mathlib.Omega.{arith}
 use lib.Seq.{length-sets}
 use lib.ListN.{length, get_or, drop, length-append, length-drop, replicate}
-use Rattle.combinators.specs.Ascii as ascii
+use Prim.Native.Char.{code as ascii}
 use Rattle.combinators.specs.Choice.{is}
 use Rattle.combinators.specs.Lent.{SameStores}
 use Rattle.combinators.specs.declared.lent.Stores.{Stores}
@@ -209,13 +209,13 @@ module _ {names : Bool} {at : ℕ} {s : List ℕ} {from : ℕ} {rules₀ : List 
   ahead-is m u em eu = rw (← em, ← eu) c.same
 
   -- without a semicolon the reading ends with what was read
-  pub ends-here : {t : Bool} → t ≡ is (get_or s taken 0) ascii.semicolon → t ≡ false → {r : RulesRead} → r ≡ here → Ends r rules tokens brackets store
+  pub ends-here : {t : Bool} → t ≡ is (get_or s taken 0) (ascii ";") → t ≡ false → {r : RulesRead} → r ≡ here → Ends r rules tokens brackets store
   ends-here et f er =
       let p = more-stop names s taken (sym et ∙ f) c.turns in
       rw er (sym (from-none names at place fill count text rules tokens brackets store taken) ∙ ahead-is _ _ p.0 p.1, bounds)
 
   -- ';' and white space up to w
-  module _ {t : Bool} (et : t ≡ is (get_or s taken 0) ascii.semicolon) (f : t ≡ true) where
+  module _ {t : Bool} (et : t ≡ is (get_or s taken 0) (ascii ";")) (f : t ≡ true) where
     -- the place of the next row fits a word
     pub rows_fit : place + declaration_width * count < 2 ^ 64
     rows_fit = omega (arith, semicolon-there s taken et f, c.counted, o.row-bits)

@@ -7,7 +7,7 @@ use Prim.Native.Nat.{ℕ, zero, suc, ◌+◌, ◌-◌, ◌*◌, ◌^◌, ◌≤�
 use native.Mathlib.Omega.{arith}
 use lib.ListN.{length, get_or, drop, length-append, length-drop, length-map}
 use lib.Seq.{sets, length-sets}
-use Rattle.combinators.specs.Ascii as ascii
+use Prim.Native.Char.{code as ascii}
 use Rattle.combinators.specs.Choice.{pick, is}
 use Rattle.combinators.specs.Parsed.{Parsed, ok, err, on_parsed}
 use Rattle.combinators.specs.Store.{wiped}
@@ -172,8 +172,8 @@ module _ (names : Bool) where
   more-bounded (suc l) s at =
       let P = Bounded names at (length s) in
       let w = 1 + skip_whitespace (drop 1 s) in
-      pick-holds P (is (get_or s 0 0) ascii.semicolon) _ _
-      (λ t. let h : w ≤ length s = omega (arith, byte-there s 0 ascii.semicolon (omega arith) t, skip-le (drop 1 s), length-drop 1 s) in
+      pick-holds P (is (get_or s 0 0) (ascii ";")) _ _
+      (λ t. let h : w ≤ length s = omega (arith, byte-there s 0 (ascii ";") (omega arith) t, skip-le (drop 1 s), length-drop 1 s) in
       parsed-holds P (declaration_of (drop w s)) _ _
       (λ n d e. let k = length-drop w s in
       bounded-next (drop w s) n d e (starts_at (at + w) d) refl (more_rules l (drop (w + n) s) (at + (w + n))) at (length s) (at + w) (at + (w + n)) (length (drop (w + n) s))

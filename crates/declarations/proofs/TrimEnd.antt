@@ -7,7 +7,7 @@ use mathlib.Core.Logic.{⊎_elim}
 use native.Mathlib.Omega.{arith}
 use lib.ListN.{length, get_or, take, drop, length-drop}
 use lib.Seq.{get_or-drop, take-take, take_all, length-take-le}
-use Rattle.combinators.specs.Ascii.{plus_sign, digit_zero, digit_nine, capital_a, capital_f, small_a, small_f}
+use Prim.Native.Char.{code as ascii}
 use Rattle.combinators.specs.Choice.{pick, or, and, is, within}
 use Rattle.combinators.specs.Repeat.{many}
 use Rattle.combinators.specs.All.{member}
@@ -42,7 +42,7 @@ fails-false false e = refl
 
 -- a byte that is neither a hex digit nor a '+'
 unfoldable unread : ℕ → Bool
-unread x = and (fails (is_hex_digit x)) (fails (is x plus_sign))
+unread x = and (fails (is_hex_digit x)) (fails (is x (ascii "+")))
 
 module _ (x : ℕ) (e : unread x ≡ true) where
   -- it is no hex digit
@@ -51,7 +51,7 @@ module _ (x : ℕ) (e : unread x ≡ true) where
   no_digit = fails-false _ (and-true _ _ e).0
 
   -- a byte that no digit is read from is no `+`
-  no_sign : is x plus_sign ≡ false
+  no_sign : is x (ascii "+") ≡ false
   unfolding unread
   no_sign = fails-false _ (and-true _ _ e).1
 
@@ -60,9 +60,9 @@ high-unread : (x : ℕ) → 0x7f < x → unread x ≡ true
 unfolding unread fails is_hex_digit
 high-unread x h =
     and_both _ _
-    (sym (pick-false _ _ _ _ (or-none _ _ (within-past x digit_zero digit_nine (omega arith))
-    (or-none _ _ (within-past x small_a small_f (omega arith)) (within-past x capital_a capital_f (omega arith)))) refl))
-    (sym (pick-false _ _ _ _ (is-no x plus_sign (λ e. omega arith)) refl))
+    (sym (pick-false _ _ _ _ (or-none _ _ (within-past x (ascii "0") (ascii "9") (omega arith))
+    (or-none _ _ (within-past x (ascii "a") (ascii "f") (omega arith)) (within-past x (ascii "A") (ascii "F") (omega arith)))) refl))
+    (sym (pick-false _ _ _ _ (is-no x (ascii "+") (λ e. omega arith)) refl))
 
 -- what holds of every entry of a table holds of what is in it
 member-holds : (p : ℕ → Bool) (v : ℕ) (xs : List ℕ) → all_of p xs ≡ true → member v xs ≡ true → p v ≡ true

@@ -2,7 +2,7 @@
 -- nothing else has changed.
 use Rattle.std.specs.Prelude.{ℕ, zero, suc, ◌+◌, ◌-◌, ◌*◌, ◌^◌, ◌≤◌, ◌<◌, Bool, false, Option, Some, None, Result, Ok, Err, ◌≡◌, List, [], ◌∷◌, map, length, get_or, drop}
 use Rattle.std.proofs.lemmas.List.Edits.{sets}
-use Rattle.combinators.specs.Ascii as ascii
+use Prim.Native.Char.{code as ascii}
 use Rattle.combinators.specs.Choice.{pick, is}
 use Rattle.combinators.specs.declared.lent.Stores.{Stores}
 use Rattle.combinators.specs.Parsed.{Parsed, ok, on_parsed}
@@ -66,7 +66,7 @@ unfoldable pub used_more : Bool → ℕ → List ℕ → Used
 used_more names zero s = unused
 used_more names (suc l) s =
     let w = 1 + skip_whitespace (drop 1 s) in
-    pick (is (get_or s 0 0) ascii.semicolon)
+    pick (is (get_or s 0 0) (ascii ";"))
     (on_parsed (declaration_of (drop w s)) (λ n d. used_then (used_by (drop w s)) (text_kept names d) (used_more names l (drop (w + n) s))) (used_by (drop w s)))
     unused
 

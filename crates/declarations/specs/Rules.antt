@@ -1,6 +1,6 @@
 -- Declarations: `parse_declaration` and `parse_rules` of src/css/parser.rs.
 use Rattle.std.specs.Prelude.{ℕ, zero, suc, ◌+◌, List, [], ◌∷◌, length, get_or, drop}
-use Rattle.combinators.specs.Ascii as ascii
+use Prim.Native.Char.{code as ascii}
 use Rattle.combinators.specs.Choice.{pick, is}
 use Rattle.combinators.specs.Parsed.{Parsed, ok, err, on_parsed}
 use Rattle.lexer.specs.Name.{ident_of}
@@ -13,7 +13,7 @@ use Rattle.values.specs.Property.{decl_of}
 unfoldable pub colon_behind : ℕ → List ℕ → List ℕ → Parsed (List ℕ)
 colon_behind n name s =
     let c = n + skip_whitespace (drop n s) in
-    pick (is (get_or s c 0) ascii.colon) (ok (c + 1 + skip_whitespace (drop (c + 1) s)) name) err
+    pick (is (get_or s c 0) (ascii ":")) (ok (c + 1 + skip_whitespace (drop (c + 1) s)) name) err
 
 -- a property's name and all up to its value
 unfoldable pub property_of : List ℕ → Parsed (List ℕ)
@@ -43,7 +43,7 @@ unfoldable pub more_rules : ℕ → List ℕ → ℕ → Rules
 more_rules zero s at = record { declarations = []; taken = at }
 more_rules (suc l) s at =
     let w = 1 + skip_whitespace (drop 1 s) in
-    pick (is (get_or s 0 0) ascii.semicolon)
+    pick (is (get_or s 0 0) (ascii ";"))
     (on_parsed (declaration_of (drop w s))
     (λ n d. let r = more_rules l (drop (w + n) s) (at + (w + n)) in
     record { declarations = starts_at (at + w) d ∷ r.declarations; taken = r.taken })

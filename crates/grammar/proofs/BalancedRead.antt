@@ -6,7 +6,7 @@ use Prim.Native.Nat.{ℕ, zero, suc, ◌+◌, ◌<◌}
 use native.Mathlib.Omega.{arith}
 use lib.ListN.{length, drop, length-drop}
 use lib.Seq.{drop-append-add}
-use Rattle.combinators.specs.Ascii as ascii
+use Prim.Native.Char.{code as ascii}
 use Rattle.combinators.specs.Choice.{pick, is}
 use Rattle.combinators.specs.Parsed.{Parsed, ok}
 use Rattle.combinators.proofs.Rules.{never}
@@ -233,7 +233,7 @@ bang-sound base v (f ∷ fs) s = s
 -- no token is a '!'
 unfoldable pub Unbanged : List Token → Type 0
 Unbanged [] = Unit
-Unbanged (k ∷ ks) = (is_delim ascii.exclamation_mark k ≡ false) × Unbanged ks
+Unbanged (k ∷ ks) = (is_delim (ascii "!") k ≡ false) × Unbanged ks
 
 -- so they have no mark
 pub unbanged-plain : (ks : List Token) → Unbanged ks → (marked ks).important ≡ false
@@ -264,7 +264,7 @@ module _ (include : Bool) where
   semicolon-goes c cs = refl
 
   -- a '!' is passed: the brackets that are awaited stay
-  bang-goes : (cs : List ℕ) → step_of include (bracket_of (tokens.delim ascii.exclamation_mark)) cs ≡ values.next cs
+  bang-goes : (cs : List ℕ) → step_of include (bracket_of (tokens.delim (ascii "!"))) cs ≡ values.next cs
   unfolding step_of bracket_of
   bang-goes cs = refl
 
@@ -300,7 +300,7 @@ module _ (include : Bool) where
 
 -- brackets are no '!'
 brackets-unbanged : (b : Bracket)
-    → (is_delim ascii.exclamation_mark (grammar.means_opening (opening b)) ≡ false) × (is_delim ascii.exclamation_mark (grammar.means_closer (opening b)) ≡ false)
+    → (is_delim (ascii "!") (grammar.means_opening (opening b)) ≡ false) × (is_delim (ascii "!") (grammar.means_closer (opening b)) ≡ false)
 unfolding opening grammar.means_opening grammar.means_closer is_delim
 brackets-unbanged round = (refl, refl)
 brackets-unbanged square = (refl, refl)
@@ -308,7 +308,7 @@ brackets-unbanged curly = (refl, refl)
 
 -- nor are a string, a semicolon and a function
 others-unbanged : (b : List ℕ)
-    → (is_delim ascii.exclamation_mark (tokens.string b) ≡ false) × (is_delim ascii.exclamation_mark tokens.semicolon ≡ false) × (is_delim ascii.exclamation_mark (tokens.function b) ≡ false)
+    → (is_delim (ascii "!") (tokens.string b) ≡ false) × (is_delim (ascii "!") tokens.semicolon ≡ false) × (is_delim (ascii "!") (tokens.function b) ≡ false)
 unfolding is_delim
 others-unbanged b = (refl, refl, refl)
 
@@ -322,7 +322,7 @@ pub record Through (include calm : Bool) (s z : List ℕ) (at : ℕ) (cs base : 
 module _ (include calm : Bool) (base : List ℕ) (z : List ℕ) (hz : Halts z) where
   -- one token, and the rest
   through-one : (s t : List ℕ) (at n : ℕ) (k : Token) (cs ds : List ℕ) → token_of s ≡ ok n k → drop n s ≡ t → step_of include (bracket_of k) cs ≡ values.next ds
-      → (calm ≡ true → is_delim ascii.exclamation_mark k ≡ false) → ((j : ℕ) → Through include calm t z j ds base) → Through include calm s z at cs base
+      → (calm ≡ true → is_delim (ascii "!") k ≡ false) → ((j : ℕ) → Through include calm t z j ds base) → Through include calm s z at cs base
   unfolding Unbanged
   through-one s t at n k cs ds e d g u r =
       let f = token-fits s n k e in
@@ -339,7 +339,7 @@ module _ (include calm : Bool) (base : List ℕ) (z : List ℕ) (hz : Halts z) w
 
   -- where a token begins behind white space and the rest passes, all of it passes
   token-step : (l : ℕ) (b : Blanks) (u t : List ℕ) (at n : ℕ) (k : Token) (cs ds : List ℕ) → Begins u n k → drop n u ≡ t → step_of include (bracket_of k) cs ≡ values.next ds
-      → (calm ≡ true → is_delim ascii.exclamation_mark k ≡ false) → length (b.bytes ++ u) < suc l → ((j : ℕ) → length t < l → Through include calm t z j ds base) → Through include calm (b.bytes ++ u) z at cs base
+      → (calm ≡ true → is_delim (ascii "!") k ≡ false) → length (b.bytes ++ u) < suc l → ((j : ℕ) → length t < l → Through include calm t z j ds base) → Through include calm (b.bytes ++ u) z at cs base
   token-step l b u t at n k cs ds e d g w h r =
       let m = length b.bytes + n in
       let o = token-read b u n k e in
@@ -445,7 +445,7 @@ module _ (include calm : Bool) (base : List ℕ) (z : List ℕ) (hz : Halts z) (
   unfolding written_balanced
   semicolon-in b v fs at c cs e h k s =
       let t = written_balanced v ++ after fs z in
-      token-step include calm base z hz l b (ascii.semicolon ∷ t) t at 1 tokens.semicolon (stack base fs) (stack base fs) (semicolon-token t) refl
+      token-step include calm base z hz l b (ascii ";" ∷ t) t at 1 tokens.semicolon (stack base fs) (stack base fs) (semicolon-token t) refl
       (subst (λ (q : List ℕ). step_of include (bracket_of tokens.semicolon) q ≡ values.next q) (sym e) (semicolon-goes include c cs)) (λ _. (others-unbanged []).1) h
       (λ i w. ih v fs i w (semicolon-clear calm v fs k) s)
 
@@ -467,7 +467,7 @@ module _ (include calm : Bool) (base : List ℕ) (z : List ℕ) (hz : Halts z) (
   bang-step b v fs at h c s =
       let t = written_balanced v ++ after fs z in
       let k = bang-clear calm v fs c in
-      token-step include calm base z hz l b (ascii.exclamation_mark ∷ t) t at 1 (tokens.delim ascii.exclamation_mark) (stack base fs) (stack base fs) (bang-begins t) refl (bang-goes include (stack base fs))
+      token-step include calm base z hz l b (ascii "!" ∷ t) t at 1 (tokens.delim (ascii "!")) (stack base fs) (stack base fs) (bang-begins t) refl (bang-goes include (stack base fs))
       (λ e. absurd (k.0 e)) h (λ i w. ih v fs i w k.1 (bang-sound base v fs s))
 
   -- a text that begins with an opening bracket passes, if what is inside it and behind it does

@@ -4,7 +4,7 @@ use mathlib.Core.Bool.{true, false}
 use mathlib.Core.List.{[], ◌∷◌, ◌++◌}
 use native.Mathlib.Omega.{arith}
 use lib.ListN.{replicate}
-use Rattle.combinators.specs.Ascii as ascii
+use Prim.Native.Char.{code as ascii}
 use Rattle.combinators.specs.Repeat.{many, took}
 use Rattle.combinators.specs.Choice.{pick, or, and, is, within}
 use Rattle.combinators.specs.Word.{starts_with, same_text}
@@ -40,7 +40,7 @@ unfoldable green : Declared
 unfolding is_spelt all_of ident hashed folded lower is_hex_digit ident_start ident_code_point letter known_name text utf8 pick or and is within
 green =
     known (ident (text "Color") refl) blank
-    (color (shade (three (hashed (text "0F0") refl (omega arith)) ascii.digit_zero ascii.capital_f ascii.digit_zero refl refl))) refl
+    (color (shade (three (hashed (text "0F0") refl (omega arith)) (ascii "0") (ascii "F") (ascii "0") refl refl))) refl
 
 -- its property and value are written so, and it declares the colour 0, 255, 0
 test-green : ((property green).bytes ≡ text "Color") × (written_value green ≡ text " #0F0") × (means_declared green ≡ syntax.color (rgb 0 255 0))
@@ -110,7 +110,7 @@ unfoldable doubled : Quoted
 unfolding is_quote ordinary is_hex_digit unprocessed text utf8 continuation pick or and within is
 doubled =
     record {
-      quote = ascii.quotation_mark;
+      quote = ascii "\"";
       bytes = text "a\\\"";
       body = text "a\"";
       quotes = refl;
@@ -120,7 +120,7 @@ doubled =
 
 unfoldable single : Quoted
 unfolding is_quote plain ordinary unprocessed all_of text utf8 continuation pick or and is
-single = quoted ascii.apostrophe (text "b") refl refl refl
+single = quoted (ascii "'") (text "b") refl refl refl
 
 unfoldable said : Declared
 unfolding is_spelt all_of ident folded lower ident_start ident_code_point letter known_name text utf8 pick or and is within
@@ -156,8 +156,8 @@ unfolding decl_of display_of white_space_of overflow_of visibility_of first_word
 test-keywords = (refl, refl, refl, refl, refl, refl)
 
 -- a full stop, 45 zeros and `7px` is a height of zero, one zero less is not
-test-finest : (decl_of (text "height") (tokens.dimension (ascii.full_stop ∷ (replicate 45 ascii.digit_zero ++ text "7")) (text "px") ∷ []) ≡ syntax.height true)
-    × (decl_of (text "height") (tokens.dimension (ascii.full_stop ∷ (replicate 44 ascii.digit_zero ++ text "7")) (text "px") ∷ []) ≡ syntax.height false)
+test-finest : (decl_of (text "height") (tokens.dimension (ascii "." ∷ (replicate 45 (ascii "0") ++ text "7")) (text "px") ∷ []) ≡ syntax.height true)
+    × (decl_of (text "height") (tokens.dimension (ascii "." ∷ (replicate 44 (ascii "0") ++ text "7")) (text "px") ∷ []) ≡ syntax.height false)
 unfolding decl_of height_of any_of number_zero unsigned_zero skip_whitespace whitespace_item is_whitespace comment_of digits sign one_digit is_digit many took decimal.rounds_to_zero decimal.numerator decimal.denominator decimal.number decimal.digits decimal.digit lookup on_found same_text text utf8 continuation pick or and is within
 test-finest = (refl, refl)
 

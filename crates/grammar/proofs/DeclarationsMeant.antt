@@ -6,7 +6,7 @@ use Prim.Native.Nat.{ℕ, ◌+◌}
 use native.Mathlib.Omega.{arith}
 use lib.ListN.{length, get_or}
 use Rattle.combinators.specs.All.{All}
-use Rattle.combinators.specs.Ascii as ascii
+use Prim.Native.Char.{code as ascii}
 use Rattle.combinators.specs.Choice.{pick, or, and, is, within}
 use Rattle.combinators.specs.Word.{same_text}
 use Rattle.combinators.proofs.Rules.{never, and-true, either, pick_true, or_left, within-true, within-yes, within-false, within-past}
@@ -93,28 +93,28 @@ record Small (x : ℕ) : Type 0 where
   same : hex_digit (lower x) ≡ hex_digit x
 
 -- a small letter and a decimal digit stay
-stays : (x : ℕ) → is_hex_digit x ≡ true → within x ascii.capital_a ascii.capital_z ≡ false → Small x
+stays : (x : ℕ) → is_hex_digit x ≡ true → within x (ascii "A") (ascii "Z") ≡ false → Small x
 unfolding lower pick
 stays x h e = record { hex = rw e h; same = rw e }
 
 -- a capital letter is folded
-turned : (x : ℕ) → within x ascii.capital_a ascii.capital_f ≡ true → Small x
+turned : (x : ℕ) → within x (ascii "A") (ascii "F") ≡ true → Small x
 unfolding lower
 turned x h =
-    let p = within-true x ascii.capital_a ascii.capital_f h in
-    let e : lower x ≡ x + case_distance = sym (pick_true _ _ _ _ (within-yes x ascii.capital_a ascii.capital_z p.0 (omega arith)) refl) in
+    let p = within-true x (ascii "A") (ascii "F") h in
+    let e : lower x ≡ x + case_distance = sym (pick_true _ _ _ _ (within-yes x (ascii "A") (ascii "Z") p.0 (omega arith)) refl) in
     let y = x + case_distance in
-    let s = within-yes y ascii.small_a ascii.small_f (omega arith) (omega arith) in
+    let s = within-yes y (ascii "a") (ascii "f") (omega arith) (omega arith) in
     record {
-      hex = ap is_hex_digit e ∙ (unfold is_hex_digit or in rw (within-past y ascii.digit_zero ascii.digit_nine (omega arith), s));
+      hex = ap is_hex_digit e ∙ (unfold is_hex_digit or in rw (within-past y (ascii "0") (ascii "9") (omega arith), s));
       same =
           ap hex_digit e
           ∙ (unfold hex_digit pick in
           rw (
-            within-past y ascii.digit_zero ascii.digit_nine (omega arith),
+            within-past y (ascii "0") (ascii "9") (omega arith),
             s,
-            within-past x ascii.digit_zero ascii.digit_nine (omega arith),
-            sym (within-false x ascii.small_a ascii.small_f (omega arith)),
+            within-past x (ascii "0") (ascii "9") (omega arith),
+            sym (within-false x (ascii "a") (ascii "f") (omega arith)),
             h,
           ) (omega arith));
     }
@@ -124,9 +124,9 @@ small-digit : (x : ℕ) → is_hex_digit x ≡ true → Small x
 unfolding is_hex_digit
 small-digit x h =
     either (Small x) _ _ h
-    (λ e. let p = within-true x ascii.digit_zero ascii.digit_nine e in stays x h (sym (within-false x ascii.capital_a ascii.capital_z (omega arith))))
+    (λ e. let p = within-true x (ascii "0") (ascii "9") e in stays x h (sym (within-false x (ascii "A") (ascii "Z") (omega arith))))
     (λ l. either (Small x) _ _ l
-    (λ e. let p = within-true x ascii.small_a ascii.small_f e in stays x h (within-past x ascii.capital_a ascii.capital_z (omega arith)))
+    (λ e. let p = within-true x (ascii "a") (ascii "f") e in stays x h (within-past x (ascii "A") (ascii "Z") (omega arith)))
     (λ e. turned x e))
 
 -- and with the first of several
@@ -308,16 +308,16 @@ shade-value b (six h p q x y z w e d) = alone-value b _ refl refl
 comma-follows : (n : Numeral) (b : Blanks) → MayFollow (number n) (get_or (b.bytes ++ written_atom comma) 0 0) (get_or (written_atom comma) 0 0) (get_or (written_atom comma) 1 0)
 unfolding written_atom
 comma-follows n b =
-    holds _ (blank-first (λ (x : ℕ). not (may_follow (number n) x ascii.comma 0)) unblank (ascii.comma ∷ []) b.blank ends)
+    holds _ (blank-first (λ (x : ℕ). not (may_follow (number n) x (ascii ",") 0)) unblank (ascii "," ∷ []) b.blank ends)
   where
     holds : (t : Bool) → not t ≡ false → t ≡ true
     holds true e = refl
     holds false e = sym e
 
-    ends : not (may_follow (number n) ascii.comma ascii.comma 0) ≡ false
+    ends : not (may_follow (number n) (ascii ",") (ascii ",") 0) ≡ false
     ends = unfold may_follow ends_name begins_name ident_code_point ident_start letter or and within is in refl
 
-    unblank : Unblank (λ (x : ℕ). not (may_follow (number n) x ascii.comma 0))
+    unblank : Unblank (λ (x : ℕ). not (may_follow (number n) x (ascii ",") 0))
     unblank =
         unfold may_follow ends_name begins_name ident_code_point ident_start letter or and within is in
         record { of_space = refl; of-tab = refl; of-line-feed = refl; of-carriage-return = refl; of-form-feed = refl; of-solidus = refl }

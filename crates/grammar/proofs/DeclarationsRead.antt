@@ -5,7 +5,7 @@ use Prim.Native.Nat.{ℕ, suc, ◌+◌}
 use native.Mathlib.Omega.{arith}
 use lib.ListN.{length, drop, length-append}
 use lib.Seq.{get_or-append_seam, get_or-append-add, drop-append-add, drop-append_seam}
-use Rattle.combinators.specs.Ascii as ascii
+use Prim.Native.Char.{code as ascii}
 use Rattle.combinators.specs.Choice.{pick, or, and, is, within}
 use Rattle.combinators.specs.Parsed.{ok, on_parsed}
 use Rattle.lexer.specs.Name.{ident_of}
@@ -129,31 +129,31 @@ unfolding folded
 ident-read n t h = ident-sequence n.bytes t n.sequence h.no-character h.no-escape
 
 -- no white space begins with the marks of a block
-pub block-items : (r : List ℕ) → (whitespace_item (ascii.right_curly_bracket ∷ r) ≡ 0) × (whitespace_item (ascii.semicolon ∷ r) ≡ 0) × (whitespace_item (ascii.colon ∷ r) ≡ 0)
-    × (whitespace_item (ascii.left_curly_bracket ∷ r) ≡ 0)
+pub block-items : (r : List ℕ) → (whitespace_item (ascii "}" ∷ r) ≡ 0) × (whitespace_item (ascii ";" ∷ r) ≡ 0) × (whitespace_item (ascii ":" ∷ r) ≡ 0)
+    × (whitespace_item (ascii "{" ∷ r) ≡ 0)
 unfolding whitespace_item is_whitespace comment_of pick or is
 block-items r = (refl, refl, refl, refl)
 
 -- the colon behind a name, with white space or none around it
-colon-read : (a g r name : List ℕ) → skip_whitespace (g ++ (ascii.colon ∷ r)) ≡ length g → (m : ℕ) → skip_whitespace r ≡ m
-    → colon_behind (length a) name (a ++ (g ++ (ascii.colon ∷ r))) ≡ ok (length a + length g + 1 + m) name
+colon-read : (a g r name : List ℕ) → skip_whitespace (g ++ (ascii ":" ∷ r)) ≡ length g → (m : ℕ) → skip_whitespace r ≡ m
+    → colon_behind (length a) name (a ++ (g ++ (ascii ":" ∷ r))) ≡ ok (length a + length g + 1 + m) name
 unfolding colon_behind pick is
 colon-read a g r name e m d =
-    let s = a ++ (g ++ (ascii.colon ∷ r)) in
+    let s = a ++ (g ++ (ascii ":" ∷ r)) in
     let c : length a + length g + 1 ≡ length a + (length g + 1) = omega arith in
     rw (
-      drop-append_seam a (g ++ (ascii.colon ∷ r)),
+      drop-append_seam a (g ++ (ascii ":" ∷ r)),
       e,
-      get_or-append-add a (g ++ (ascii.colon ∷ r)) (length g) 0,
-      get_or-append_seam g ascii.colon r 0,
+      get_or-append-add a (g ++ (ascii ":" ∷ r)) (length g) 0,
+      get_or-append_seam g (ascii ":") r 0,
       c,
-      drop-append-add a (g ++ (ascii.colon ∷ r)) (length g + 1),
-      drop-append-add g (ascii.colon ∷ r) 1,
+      drop-append-add a (g ++ (ascii ":" ∷ r)) (length g + 1),
+      drop-append-add g (ascii ":" ∷ r) 1,
       d,
     )
 
 -- a name ends before a colon
-colon-ended : (r : List ℕ) → Ended (ascii.colon ∷ r)
+colon-ended : (r : List ℕ) → Ended (ascii ":" ∷ r)
 unfolding ident_code_point ident_start letter or and within is
 colon-ended r = record { no-character = refl; no-escape = λ q. omega arith; no-round = refl }
 
@@ -175,34 +175,34 @@ module _ (d : Item) (t : List ℕ) (z : ValueEnds t) where
   u = k.left
 
   -- a declaration is written as its name, white space, a colon, white space and the value with its mark
-  item-parts : written_item d ≡ a ++ (g ++ (ascii.colon ∷ (l ++ u)))
+  item-parts : written_item d ≡ a ++ (g ++ (ascii ":" ∷ (l ++ u)))
   unfolding written_item
-  item-parts = ap (λ (r : List ℕ). a ++ (g ++ (ascii.colon ∷ r))) k.onto
+  item-parts = ap (λ (r : List ℕ). a ++ (g ++ (ascii ":" ∷ r))) k.onto
 
   -- with t behind it
-  item-onto : written_item d ++ t ≡ a ++ (g ++ (ascii.colon ∷ (l ++ (u ++ t))))
+  item-onto : written_item d ++ t ≡ a ++ (g ++ (ascii ":" ∷ (l ++ (u ++ t))))
   item-onto =
-      ap (λ (r : List ℕ). r ++ t) item-parts ∙ append_assoc a (g ++ (ascii.colon ∷ (l ++ u))) t
-      ∙ ap (λ (r : List ℕ). a ++ r) (append_assoc g (ascii.colon ∷ (l ++ u)) t ∙ ap (λ (r : List ℕ). g ++ (ascii.colon ∷ r)) (append_assoc l u t))
+      ap (λ (r : List ℕ). r ++ t) item-parts ∙ append_assoc a (g ++ (ascii ":" ∷ (l ++ u))) t
+      ∙ ap (λ (r : List ℕ). a ++ r) (append_assoc g (ascii ":" ∷ (l ++ u)) t ∙ ap (λ (r : List ℕ). g ++ (ascii ":" ∷ r)) (append_assoc l u t))
 
   -- and how long it is
   item-length : length (written_item d) ≡ length a + length g + 1 + length l + length u
-  item-length = omega (arith, ap length item-parts, length-append a (g ++ (ascii.colon ∷ (l ++ u))), length-append g (ascii.colon ∷ (l ++ u)), length-append l u)
+  item-length = omega (arith, ap length item-parts, length-append a (g ++ (ascii ":" ∷ (l ++ u))), length-append g (ascii ":" ∷ (l ++ u)), length-append l u)
 
   -- the name and the colon are read
-  property-read : property_of (a ++ (g ++ (ascii.colon ∷ (l ++ (u ++ t))))) ≡ ok (length a + length g + 1 + length l) (folded (property d.declared))
+  property-read : property_of (a ++ (g ++ (ascii ":" ∷ (l ++ (u ++ t))))) ≡ ok (length a + length g + 1 + length l) (folded (property d.declared))
   unfolding property_of on_parsed
   property-read =
       let r = l ++ (u ++ t) in
-      rw (ident-read (property d.declared) (g ++ (ascii.colon ∷ r)) (blank-ended (ascii.colon ∷ r) d.before_colon.blank (colon-ended r)))
-      (colon-read a g r (folded (property d.declared)) (skips-blank g (ascii.colon ∷ r) d.before_colon.blank (block-items r).2) (length l) (skips-blank l (u ++ t) k.before.blank k.item))
+      rw (ident-read (property d.declared) (g ++ (ascii ":" ∷ r)) (blank-ended (ascii ":" ∷ r) d.before_colon.blank (colon-ended r)))
+      (colon-read a g r (folded (property d.declared)) (skips-blank g (ascii ":" ∷ r) d.before_colon.blank (block-items r).2) (length l) (skips-blank l (u ++ t) k.before.blank k.item))
 
   -- the value stands behind them
-  value-behind : drop (length a + length g + 1 + length l) (a ++ (g ++ (ascii.colon ∷ (l ++ (u ++ t))))) ≡ u ++ t
+  value-behind : drop (length a + length g + 1 + length l) (a ++ (g ++ (ascii ":" ∷ (l ++ (u ++ t))))) ≡ u ++ t
   value-behind =
       let e : length a + length g + 1 + length l ≡ length a + (length g + suc (length l)) = omega arith in
       rw e
-      (drop-append-add a (g ++ (ascii.colon ∷ (l ++ (u ++ t)))) (length g + suc (length l)) ∙ drop-append-add g (ascii.colon ∷ (l ++ (u ++ t))) (suc (length l))
+      (drop-append-add a (g ++ (ascii ":" ∷ (l ++ (u ++ t)))) (length g + suc (length l)) ∙ drop-append-add g (ascii ":" ∷ (l ++ (u ++ t))) (suc (length l))
       ∙ drop-append_seam l (u ++ t))
 
   -- it is read whole
@@ -215,6 +215,6 @@ module _ (d : Item) (t : List ℕ) (z : ValueEnds t) where
         value-behind,
         k.reads,
         k.meant,
-        sequence-unskipped (property d.declared).sequence (g ++ (ascii.colon ∷ (l ++ (u ++ t)))),
+        sequence-unskipped (property d.declared).sequence (g ++ (ascii ":" ∷ (l ++ (u ++ t)))),
         item-length,
       )

@@ -4,7 +4,7 @@ use mathlib.Core.Bool.{false}
 use mathlib.Core.List.{[], ◌∷◌}
 use native.Mathlib.Omega.{arith}
 use lib.IntN.{pos, negsuc}
-use Rattle.combinators.specs.Ascii as ascii
+use Prim.Native.Char.{code as ascii}
 use Rattle.combinators.specs.Choice.{pick, or, and, is, within}
 use Rattle.characters.specs.Literal.{text}
 use Rattle.characters.specs.Utf8.{utf8, continuation}
@@ -28,7 +28,7 @@ abbrev pub nothing : Blanks
 nothing = record { bytes = []; blank = blanks.none }
 
 abbrev pub blank : Blanks
-blank = record { bytes = ascii.space ∷ []; blank = white ascii.space [] blank-space blanks.none }
+blank = record { bytes = ascii " " ∷ []; blank = white (ascii " ") [] blank-space blanks.none }
 
 -- the names `a` and `b`
 unfoldable a : Name
@@ -53,7 +53,7 @@ unfoldable selector : Complex
 unfolding three text utf8 pick
 selector =
     joined (typed a (class b ∷ [])) (child nothing nothing)
-    (joined (untyped (attribute_is a b) []) (descendant (record { space = ascii.space; white = blank-space; more = nothing }))
+    (joined (untyped (attribute_is a b) []) (descendant (record { space = ascii " "; white = blank-space; more = nothing }))
     (one (typed b (nth_child nothing (sum minus two blank false (record { count = three; some = omega arith })) nothing ∷ []))))
 
 -- it is read up to the block, as seven components from the right: nth and b, descendant, the attribute, child, class and a
@@ -66,4 +66,4 @@ test-selector : selector_of (text "a.b>[a=b] b:nth-child(-2n +3){")
       pseudo = syntax.none;
     })
 unfolding selector a b two three written written_compound written_simples written_simple written_combinator written_argument written_sign sign_byte meaning in_order means_compound means_simple means_combinator means_argument negative worth numeral signed Agrees NoStarAtEnd NoStarAtStart first_compound text utf8 continuation pick
-test-selector = selector-read selector [] (ascii.left_curly_bracket ∷ []) (tt, tt, tt) blanks.none (block [])
+test-selector = selector-read selector [] (ascii "{" ∷ []) (tt, tt, tt) blanks.none (block [])

@@ -6,7 +6,7 @@ use native.Mathlib.Nat.{add-zero}
 use native.Mathlib.Omega.{arith}
 use lib.ListN.{length, drop, length-append, length-drop}
 use lib.Seq.{drop-append-add, drop-append_seam, drop-drop}
-use Rattle.combinators.specs.Ascii as ascii
+use Prim.Native.Char.{code as ascii}
 use Rattle.combinators.specs.Choice.{pick, is}
 use Rattle.lexer.specs.Whitespace.{whitespace_item}
 use Rattle.lexer.proofs.SyntaxWhitespace.{skips-blank}
@@ -118,10 +118,10 @@ selects-group {u} h = rw (h.first, h.more (length (drop h.one u)) (omega arith),
 
 -- behind a comma and white space it is read too
 selects-behind : (l : ℕ) (b : Blanks) {u : List ℕ} {n : ℕ} {ss : List Selector} → whitespace_item u ≡ 0 → length u ≤ l → Selects u n ss
-    → more_selectors (suc l) (ascii.comma ∷ (b.bytes ++ u)) ≡ reads (1 + length b.bytes + n) ss
+    → more_selectors (suc l) (ascii "," ∷ (b.bytes ++ u)) ≡ reads (1 + length b.bytes + n) ss
 unfolding more_selectors pick is on_outcome behind
 selects-behind l b {u} {n} {ss} z k h =
-    let x = ascii.comma ∷ (b.bytes ++ u) in
+    let x = ascii "," ∷ (b.bytes ++ u) in
     let w : drop (1 + length b.bytes) x ≡ u = let i : 1 + length b.bytes ≡ suc (length b.bytes) = omega arith in rw i (drop-append_seam b.bytes u) in
     let v : drop (1 + length b.bytes + h.one) x ≡ drop h.one u = sym (drop-drop h.one (1 + length b.bytes) x) ∙ ap (drop h.one) w in
     let m = h.more l (omega (arith, length-drop h.one u)) in
@@ -130,23 +130,23 @@ selects-behind l b {u} {n} {ss} z k h =
 
 -- a group before a block
 abbrev opened : List ℕ → List ℕ
-opened x = ascii.left_curly_bracket ∷ x
+opened x = ascii "{" ∷ x
 
 -- no other selector stands there, nor behind white space
 others-none : (l : ℕ) (b : Blanks) (x : List ℕ) → more_selectors l (b.bytes ++ opened x) ≡ reads 0 []
 unfolding more_selectors pick
 others-none zero b x = refl
-others-none (suc l) b x = rw (blank-first (λ (y : ℕ). is y ascii.comma) unblank (opened x) b.blank (unfold is in refl))
+others-none (suc l) b x = rw (blank-first (λ (y : ℕ). is y (ascii ",")) unblank (opened x) b.blank (unfold is in refl))
   where
-    unblank : Unblank (λ (y : ℕ). is y ascii.comma)
+    unblank : Unblank (λ (y : ℕ). is y (ascii ","))
     unblank = unfold is in record { of_space = refl; of-tab = refl; of-line-feed = refl; of-carriage-return = refl; of-form-feed = refl; of-solidus = refl }
 
 -- a group of selectors, before a block: what is read of it, and the white space that is left
 pub record GroupRead (g : Group) (x : List ℕ) : Type 0 where
   pub taken : ℕ
   pub left : Blanks
-  pub selectors : selectors_of (written_group g ++ (ascii.left_curly_bracket ∷ x)) ≡ reads taken (means_group g)
-  pub rest : drop taken (written_group g ++ (ascii.left_curly_bracket ∷ x)) ≡ left.bytes ++ (ascii.left_curly_bracket ∷ x)
+  pub selectors : selectors_of (written_group g ++ (ascii "{" ∷ x)) ≡ reads taken (means_group g)
+  pub rest : drop taken (written_group g ++ (ascii "{" ∷ x)) ≡ left.bytes ++ (ascii "{" ∷ x)
   pub whole : taken + length left.bytes ≡ length (written_group g)
 
 record Steps (g : Group) (x : List ℕ) : Type 0 where
@@ -161,7 +161,7 @@ pub group-item : (g : Group) (t : List ℕ) → whitespace_item (written_group g
 unfolding written_group
 group-item (last c) t = chosen-item c t
 group-item (several c h b g) t =
-    ap whitespace_item (append_assoc (written_chosen c) (ascii.comma ∷ (b.bytes ++ written_group g)) t) ∙ chosen-item c _
+    ap whitespace_item (append_assoc (written_chosen c) (ascii "," ∷ (b.bytes ++ written_group g)) t) ∙ chosen-item c _
 
 -- the last selector of a group is read, up to the block
 last-steps : (c : Chosen) (x : List ℕ) → Steps (last c) x
@@ -189,20 +189,20 @@ last-steps c x =
 -- a selector, a comma and a group, before t
 module _ (c : Chosen) (h : Tight c.pseudo c.gap) (b : Blanks) (g : Group) (x : List ℕ) where
   abbrev tail : List ℕ
-  tail = ascii.comma ∷ (b.bytes ++ (written_group g ++ opened x))
+  tail = ascii "," ∷ (b.bytes ++ (written_group g ++ opened x))
 
   -- how they are written
   several-onto : written_group (several c h b g) ++ opened x ≡ written_chosen c ++ tail
   unfolding written_group
   several-onto =
-      append_assoc (written_chosen c) (ascii.comma ∷ (b.bytes ++ written_group g)) (opened x)
-      ∙ ap (λ (l : List ℕ). written_chosen c ++ (ascii.comma ∷ l)) (append_assoc b.bytes (written_group g) (opened x))
+      append_assoc (written_chosen c) (ascii "," ∷ (b.bytes ++ written_group g)) (opened x)
+      ∙ ap (λ (l : List ℕ). written_chosen c ++ (ascii "," ∷ l)) (append_assoc b.bytes (written_group g) (opened x))
 
   -- and how long they are
   several-length : length (written_group (several c h b g)) ≡ length (written_chosen c) + (1 + length b.bytes + length (written_group g))
   unfolding written_group
   several-length =
-      omega (arith, length-append (written_chosen c) (ascii.comma ∷ (b.bytes ++ written_group g)), length-append b.bytes (written_group g))
+      omega (arith, length-append (written_chosen c) (ascii "," ∷ (b.bytes ++ written_group g)), length-append b.bytes (written_group g))
 
   module _ (k : Steps g x) where
     -- those behind the comma, where there are turns enough

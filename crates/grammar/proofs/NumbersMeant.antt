@@ -8,7 +8,7 @@ use borrow.Author.Tests.{leb-true, lt-ltb, le-ltb}
 use lib.Dec.{leb, ltb}
 use lib.ListN.{length, get_or, drop, replicate, drop_of_length-le}
 use lib.Seq.{take-length}
-use Rattle.combinators.specs.Ascii as ascii
+use Prim.Native.Char.{code as ascii}
 use Rattle.combinators.specs.Choice.{pick, or, and, is, within}
 use Rattle.combinators.proofs.Rules.{never, either, and_both, and-true, same_test, is-yes, is-no, is_true, within-true}
 use Rattle.decimal.specs.Decimal as decimal
@@ -60,14 +60,14 @@ part-integer p =
 
 -- ---- zero or not
 -- of a digit, the number is 0 exactly if the byte is `0`
-digit-zero : (x : ℕ) → is_digit x ≡ true → is (decimal.digit x) 0 ≡ is x ascii.digit_zero
+digit-zero : (x : ℕ) → is_digit x ≡ true → is (decimal.digit x) 0 ≡ is x (ascii "0")
 unfolding is_digit decimal.digit pick
 digit-zero x h =
-    let p = within-true x ascii.digit_zero ascii.digit_nine h in
-    rw h (same_test _ _ (λ e. let q = is_true (x - ascii.digit_zero) 0 e in is-yes x ascii.digit_zero (omega arith)) (λ e. let q = is_true x ascii.digit_zero e in is-yes _ _ (omega arith)))
+    let p = within-true x (ascii "0") (ascii "9") h in
+    rw h (same_test _ _ (λ e. let q = is_true (x - ascii "0") 0 e in is-yes x (ascii "0") (omega arith)) (λ e. let q = is_true x (ascii "0") e in is-yes _ _ (omega arith)))
 
 -- digits are all zero as numbers exactly if each is written as a 0
-digits-zero : {ds : List ℕ} → Each is_digit ds → all_zero (decimal.digits ds) ≡ all_of (λ d. is d ascii.digit_zero) ds
+digits-zero : {ds : List ℕ} → Each is_digit ds → all_zero (decimal.digits ds) ≡ all_of (λ d. is d (ascii "0")) ds
 unfolding decimal.digits all_zero all_of
 digits-zero none = refl
 digits-zero (more {x} {r} h hs) = rw (digit-zero x h, digits-zero hs)
@@ -95,7 +95,7 @@ unfolding decimal.digits all_zero and
 rounds-point ds = rounds-to-zero-digits [] ds
 
 -- so as many digits behind a point round to zero exactly if they are zero
-rounds-fraction : {ds : List ℕ} → Each is_digit ds → length ds ≤ finest → rounds_to_zero [] ds ≡ all_of (λ d. is d ascii.digit_zero) ds
+rounds-fraction : {ds : List ℕ} → Each is_digit ds → length ds ≤ finest → rounds_to_zero [] ds ≡ all_of (λ d. is d (ascii "0")) ds
 rounds-fraction {ds} h l =
     rounds-point ds ∙ ap (at_most (decimal.digits ds)) places-begin
     ∙ at-most-zeros finest (decimal.digits ds) (drop finest places) (omega (arith, digits-length ds)) ∙ digits-zero h
@@ -115,12 +115,12 @@ zeros-at-most (d ∷ ds) (t ∷ ts) h =
     settled false = unfold pick in refl
 
 -- so says the test of the digits behind a point
-rounds-zeros : {ds : List ℕ} → Each is_digit ds → all_of (λ d. is d ascii.digit_zero) ds ≡ true → rounds_to_zero [] ds ≡ true
+rounds-zeros : {ds : List ℕ} → Each is_digit ds → all_of (λ d. is d (ascii "0")) ds ≡ true → rounds_to_zero [] ds ≡ true
 rounds-zeros {ds} h z =
     rounds-point ds ∙ zeros-at-most (decimal.digits ds) places (digits-zero h ∙ z)
 
 -- digits before a point round to zero exactly if they are zero
-rounds-whole : {ds : List ℕ} → Each is_digit ds → rounds_to_zero ds [] ≡ all_of (λ d. is d ascii.digit_zero) ds
+rounds-whole : {ds : List ℕ} → Each is_digit ds → rounds_to_zero ds [] ≡ all_of (λ d. is d (ascii "0")) ds
 unfolding decimal.digits at_most
 rounds-whole {ds} h = rounds-to-zero-digits ds [] ∙ unit (all_zero (decimal.digits ds)) ∙ digits-zero h
   where
@@ -133,10 +133,10 @@ rounds-whole {ds} h = rounds-to-zero-digits ds [] ∙ unit (all_zero (decimal.di
 unsigned-zero : (u : List ℕ) → unsigned_first (get_or u 0 0) ≡ true → unsigned_zero (drop (sign u) u) ≡ unsigned_zero u
 unfolding sign pick or
 unsigned-zero u h =
-    rw (differs unsigned_first (get_or u 0 0) ascii.hyphen_minus h first-signs.1, differs unsigned_first (get_or u 0 0) ascii.plus_sign h first-signs.0)
+    rw (differs unsigned_first (get_or u 0 0) (ascii "-") h first-signs.1, differs unsigned_first (get_or u 0 0) (ascii "+") h first-signs.0)
 
 -- a '-' is passed over
-minus-zero : (u : List ℕ) → unsigned_zero (drop (sign (ascii.hyphen_minus ∷ u)) (ascii.hyphen_minus ∷ u)) ≡ unsigned_zero u
+minus-zero : (u : List ℕ) → unsigned_zero (drop (sign (ascii "-" ∷ u)) (ascii "-" ∷ u)) ≡ unsigned_zero u
 unfolding sign pick or is
 minus-zero u = refl
 
@@ -153,7 +153,7 @@ unfolding number_zero
 sign_zero s u h = rw (signed-unskipped s u h) (by_sign s u h)
 
 -- digits alone, without a full stop, are zero exactly if each is a 0
-whole-zero : {ds : List ℕ} → Each is_digit ds → unsigned_zero ds ≡ all_of (λ d. is d ascii.digit_zero) ds
+whole-zero : {ds : List ℕ} → Each is_digit ds → unsigned_zero ds ≡ all_of (λ d. is d (ascii "0")) ds
 unfolding unsigned_zero
 whole-zero {ds} h =
     let e : digits ds ≡ length ds = ap digits (sym (append-nil ds)) ∙ digits-read h [] (unfold is_digit and within in refl) in
@@ -163,20 +163,20 @@ whole-zero {ds} h =
     past n = omega arith
 
 -- and behind a full stop
-point-zero : (ds : List ℕ) → unsigned_zero (ascii.full_stop ∷ ds) ≡ rounds_to_zero [] ds
+point-zero : (ds : List ℕ) → unsigned_zero (ascii "." ∷ ds) ≡ rounds_to_zero [] ds
 unfolding unsigned_zero
 point-zero ds = rw (stop-digits ds)
 
 -- where there are not too many, or only zeros
-fraction-zero : {ds : List ℕ} → Each is_digit ds → or (all_of (λ d. is d ascii.digit_zero) ds) (leb (length ds) finest) ≡ true
-    → unsigned_zero (ascii.full_stop ∷ ds) ≡ all_of (λ d. is d ascii.digit_zero) ds
+fraction-zero : {ds : List ℕ} → Each is_digit ds → or (all_of (λ d. is d (ascii "0")) ds) (leb (length ds) finest) ≡ true
+    → unsigned_zero (ascii "." ∷ ds) ≡ all_of (λ d. is d (ascii "0")) ds
 fraction-zero {ds} h f =
     point-zero ds
-    ∙ either (rounds_to_zero [] ds ≡ all_of (λ d. is d ascii.digit_zero) ds) _ _ f (λ z. rounds-zeros h z ∙ sym z) (λ l. rounds-fraction h (leb-true _ _ l))
+    ∙ either (rounds_to_zero [] ds ≡ all_of (λ d. is d (ascii "0")) ds) _ _ f (λ z. rounds-zeros h z ∙ sym z) (λ l. rounds-fraction h (leb-true _ _ l))
 
 -- by whether there is a full stop
-stop-zero : (f : Bool) {ds : List ℕ} → Each is_digit ds → or (all_of (λ d. is d ascii.digit_zero) ds) (or (not f) (leb (length ds) finest)) ≡ true
-    → unsigned_zero (written_stop f ++ ds) ≡ all_of (λ d. is d ascii.digit_zero) ds
+stop-zero : (f : Bool) {ds : List ℕ} → Each is_digit ds → or (all_of (λ d. is d (ascii "0")) ds) (or (not f) (leb (length ds) finest)) ≡ true
+    → unsigned_zero (written_stop f ++ ds) ≡ all_of (λ d. is d (ascii "0")) ds
 unfolding written_stop
 stop-zero true h e = fraction-zero h (unfold or in e)
 stop-zero false h e = whole-zero h

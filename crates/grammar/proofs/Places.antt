@@ -6,7 +6,7 @@ use Prim.Native.Nat.{ℕ, ◌+◌}
 use native.Mathlib.Nat.{add-zero}
 use lib.ListN.{length, get_or, drop}
 use lib.Seq.{drop-append_seam, drop-drop}
-use Rattle.combinators.specs.Ascii as ascii
+use Prim.Native.Char.{code as ascii}
 use Rattle.combinators.specs.Choice.{pick, or, is}
 use Rattle.combinators.proofs.Lists.{first}
 use Rattle.combinators.proofs.Rules.{never, is-no}
@@ -42,12 +42,12 @@ module _ (t : List ℕ) (i : ℕ) where
 
 -- ---- the first byte of white space and comments, by a test that fails of all that they can begin with
 pub record Unblank (p : ℕ → Bool) : Type 0 where
-  pub of_space : p ascii.space ≡ false
-  pub of-tab : p ascii.tabulation ≡ false
-  pub of-line-feed : p ascii.line_feed ≡ false
-  pub of-carriage-return : p ascii.carriage_return ≡ false
-  pub of-form-feed : p ascii.form_feed ≡ false
-  pub of-solidus : p ascii.solidus ≡ false
+  pub of_space : p (ascii " ") ≡ false
+  pub of-tab : p (ascii "\t") ≡ false
+  pub of-line-feed : p (ascii "\n") ≡ false
+  pub of-carriage-return : p (ascii "\r") ≡ false
+  pub of-form-feed : p (ascii "\u{c}") ≡ false
+  pub of-solidus : p (ascii "/") ≡ false
 
 module _ (p : ℕ → Bool) (u : Unblank p) where
   -- a newline does not pass the test
@@ -78,10 +78,10 @@ unfolding whitespace_item is_whitespace comment_of pick or
 unblank-item p u s e =
     let x = get_or s 0 0 in
     rw (
-      differs p x ascii.space e u.of_space,
-      differs p x ascii.tabulation e u.of-tab,
-      differs p x ascii.carriage_return e u.of-carriage-return,
-      differs p x ascii.line_feed e u.of-line-feed,
-      differs p x ascii.form_feed e u.of-form-feed,
-      differs p x ascii.solidus e u.of-solidus,
+      differs p x (ascii " ") e u.of_space,
+      differs p x (ascii "\t") e u.of-tab,
+      differs p x (ascii "\r") e u.of-carriage-return,
+      differs p x (ascii "\n") e u.of-line-feed,
+      differs p x (ascii "\u{c}") e u.of-form-feed,
+      differs p x (ascii "/") e u.of-solidus,
     )

@@ -8,7 +8,7 @@ use native.Mathlib.Omega.{arith}
 use lib.ListN.{length, get_or, take, drop}
 use borrow.Author.Tests.{leb-true, not-true}
 use lib.Seq.{drop-append_seam, drop-drop}
-use Rattle.combinators.specs.Ascii as ascii
+use Prim.Native.Char.{code as ascii}
 use Rattle.combinators.specs.Choice.{pick, or, and, is, within}
 use Rattle.combinators.specs.Parsed.{Parsed, ok, err, on_parsed, or_else}
 use Rattle.combinators.specs.Parsed as parser
@@ -47,26 +47,26 @@ use Rattle.grammar.specs.Tokens as grammar
 -- ---- plain characters
 -- a plain character is none of those that are left out
 pub record PlainByte (x : ℕ) : Type 0 where
-  low : ascii.space < x
+  low : ascii " " < x
   pub high : x ≤ tilde
-  no-double : is x ascii.quotation_mark ≡ false
-  no-single : is x ascii.apostrophe ≡ false
-  no-open-round : is x ascii.left_parenthesis ≡ false
-  no-close-round : is x ascii.right_parenthesis ≡ false
-  no-open-square : is x ascii.left_square_bracket ≡ false
-  no-close-square : is x ascii.right_square_bracket ≡ false
-  no-open-curly : is x ascii.left_curly_bracket ≡ false
-  no-close-curly : is x ascii.right_curly_bracket ≡ false
-  no-semicolon : is x ascii.semicolon ≡ false
-  no-bang : is x ascii.exclamation_mark ≡ false
-  no-escape : is x ascii.reverse_solidus ≡ false
+  no-double : is x (ascii "\"") ≡ false
+  no-single : is x (ascii "'") ≡ false
+  no-open-round : is x (ascii "(") ≡ false
+  no-close-round : is x (ascii ")") ≡ false
+  no-open-square : is x (ascii "[") ≡ false
+  no-close-square : is x (ascii "]") ≡ false
+  no-open-curly : is x (ascii "{") ≡ false
+  no-close-curly : is x (ascii "}") ≡ false
+  no-semicolon : is x (ascii ";") ≡ false
+  no-bang : is x (ascii "!") ≡ false
+  no-escape : is x (ascii "\\") ≡ false
 
 -- a character that passes the test is none of those that are left out
 pub plain_byte : (x : ℕ) → is_plain x ≡ true → PlainByte x
 unfolding is_plain member text utf8 pick
 plain_byte x e =
     let p = and-true _ _ e in
-    let w = within-true x ascii.exclamation_mark tilde p.0 in
+    let w = within-true x (ascii "!") tilde p.0 in
     let a = neither _ _ (not-true _ p.1) in
     let b = neither _ _ a.1 in
     let c = neither _ _ b.1 in
@@ -98,10 +98,10 @@ plain_byte x e =
 record Plainly (p : ℕ → Bool) : Type 0 where
   unblank : Unblank p
   of_zero : p 0 ≡ false
-  of-double : p ascii.quotation_mark ≡ false
-  of-single : p ascii.apostrophe ≡ false
-  of-semicolon : p ascii.semicolon ≡ false
-  of-bang : p ascii.exclamation_mark ≡ false
+  of-double : p (ascii "\"") ≡ false
+  of-single : p (ascii "'") ≡ false
+  of-semicolon : p (ascii ";") ≡ false
+  of-bang : p (ascii "!") ≡ false
   of-open : (b : Bracket) → p (opens b) ≡ false
   of-close : (b : Bracket) → p (closes b) ≡ false
 
@@ -199,7 +199,7 @@ halts-first p k (halts {l} {t} h c) = blank-first p k.unblank t h (closes-first 
 quote-first : (p : ℕ → Bool) → Plainly p → (q : ℕ) → is_quote q ≡ true → p q ≡ false
 unfolding is_quote
 quote-first p k q e =
-    rules.either (p q ≡ false) _ _ e (λ w. ap p (is_true q ascii.quotation_mark w) ∙ k.of-double) (λ w. ap p (is_true q ascii.apostrophe w) ∙ k.of-single)
+    rules.either (p q ≡ false) _ _ e (λ w. ap p (is_true q (ascii "\"") w) ∙ k.of-double) (λ w. ap p (is_true q (ascii "'") w) ∙ k.of-single)
 
 -- a text begins with no plain character
 unfoldable Otherwise : Balanced → Type 0
@@ -227,10 +227,10 @@ head-fails p k t h (block b w v) o = k.of-open b
 -- ---- characters that pass a test, one behind the other
 -- a reader that takes one byte where the test holds of it, but for a backslash
 abbrev Takes : (List ℕ → ℕ) → (ℕ → Bool) → Type 0
-Takes u p = (s : List ℕ) → is (get_or s 0 0) ascii.reverse_solidus ≡ false → u s ≡ pick (p (get_or s 0 0)) 1 0
+Takes u p = (s : List ℕ) → is (get_or s 0 0) (ascii "\\") ≡ false → u s ≡ pick (p (get_or s 0 0)) 1 0
 
 -- no text begins with a backslash
-escapeless : Plainly (λ x. is x ascii.reverse_solidus)
+escapeless : Plainly (λ x. is x (ascii "\\"))
 unfolding is opens closes
 escapeless =
     record {
@@ -244,37 +244,37 @@ escapeless =
       of-close = close-escapeless;
     }
   where
-    open-escapeless : (b : Bracket) → is (opens b) ascii.reverse_solidus ≡ false
+    open-escapeless : (b : Bracket) → is (opens b) (ascii "\\") ≡ false
     open-escapeless round = unfold opens is in refl
     open-escapeless square = unfold opens is in refl
     open-escapeless curly = unfold opens is in refl
 
-    close-escapeless : (b : Bracket) → is (closes b) ascii.reverse_solidus ≡ false
+    close-escapeless : (b : Bracket) → is (closes b) (ascii "\\") ≡ false
     close-escapeless round = unfold closes is in refl
     close-escapeless square = unfold closes is in refl
     close-escapeless curly = unfold closes is in refl
 
 -- no text in which brackets match begins with a backslash
-no-escape-first : (v : Balanced) (t : List ℕ) → Halts t → is (get_or (written_balanced v ++ t) 0 0) ascii.reverse_solidus ≡ false
+no-escape-first : (v : Balanced) (t : List ℕ) → Halts t → is (get_or (written_balanced v ++ t) 0 0) (ascii "\\") ≡ false
 unfolding Otherwise
 no-escape-first (plain x e v) t h = unfold written_balanced in (plain_byte x e).no-escape
-no-escape-first end t h = head-fails (λ x. is x ascii.reverse_solidus) escapeless t h end tt
-no-escape-first (space x w v) t h = head-fails (λ x. is x ascii.reverse_solidus) escapeless t h (space x w v) tt
-no-escape-first (remark c w v) t h = head-fails (λ x. is x ascii.reverse_solidus) escapeless t h (remark c w v) tt
-no-escape-first (quoted q v) t h = head-fails (λ x. is x ascii.reverse_solidus) escapeless t h (quoted q v) tt
-no-escape-first (semicolon v) t h = head-fails (λ x. is x ascii.reverse_solidus) escapeless t h (semicolon v) tt
-no-escape-first (bang v) t h = head-fails (λ x. is x ascii.reverse_solidus) escapeless t h (bang v) tt
-no-escape-first (block b w v) t h = head-fails (λ x. is x ascii.reverse_solidus) escapeless t h (block b w v) tt
+no-escape-first end t h = head-fails (λ x. is x (ascii "\\")) escapeless t h end tt
+no-escape-first (space x w v) t h = head-fails (λ x. is x (ascii "\\")) escapeless t h (space x w v) tt
+no-escape-first (remark c w v) t h = head-fails (λ x. is x (ascii "\\")) escapeless t h (remark c w v) tt
+no-escape-first (quoted q v) t h = head-fails (λ x. is x (ascii "\\")) escapeless t h (quoted q v) tt
+no-escape-first (semicolon v) t h = head-fails (λ x. is x (ascii "\\")) escapeless t h (semicolon v) tt
+no-escape-first (bang v) t h = head-fails (λ x. is x (ascii "\\")) escapeless t h (bang v) tt
+no-escape-first (block b w v) t h = head-fails (λ x. is x (ascii "\\")) escapeless t h (block b w v) tt
 
 module _ (u : List ℕ → ℕ) (p : ℕ → Bool) (k : Plainly p) (z : Takes u p) (t : List ℕ) (h : Halts t) where
   -- a byte that passes the test is taken, and the rest behind it
-  many-one : (x : ℕ) (l : List ℕ) → is x ascii.reverse_solidus ≡ false → p x ≡ true → many u 0 0 (x ∷ l) ≡ 1 + many u 0 0 l
+  many-one : (x : ℕ) (l : List ℕ) → is x (ascii "\\") ≡ false → p x ≡ true → many u 0 0 (x ∷ l) ≡ 1 + many u 0 0 l
   unfolding pick
   many-one x l e d =
       many-took u (x ∷ l) 0 1 (omega arith) (z (x ∷ l) e ∙ rw d) (λ q. omega arith) ∙ many-from 1 u l 0 0
 
   -- where the first byte fails the test, none is taken
-  many-none : (s : List ℕ) → is (get_or s 0 0) ascii.reverse_solidus ≡ false → p (get_or s 0 0) ≡ false → many u 0 0 s ≡ 0
+  many-none : (s : List ℕ) → is (get_or s 0 0) (ascii "\\") ≡ false → p (get_or s 0 0) ≡ false → many u 0 0 s ≡ 0
   unfolding pick
   many-none s e d = many-stop u s 0 (z s e ∙ rw d)
 
@@ -354,7 +354,7 @@ digits-plainly =
 
 -- one character of the marks of numbers
 unfoldable is_number_mark : ℕ → Bool
-is_number_mark x = or (is x ascii.full_stop) (or (is x ascii.percent_sign) (or (is x ascii.hyphen_minus) (is x ascii.plus_sign)))
+is_number_mark x = or (is x (ascii ".")) (or (is x (ascii "%")) (or (is x (ascii "-")) (is x (ascii "+"))))
 
 -- the marks of numbers are plain characters
 marks-plainly : Plainly is_number_mark
@@ -406,15 +406,15 @@ module _ (t : List ℕ) (h : Halts t) where
   eat-decimal v =
       let s = written_balanced v ++ t in
       let k = eat-digits v t h in
-      eaten-pick (is (get_or s (digits s) 0) ascii.full_stop) _ _
-      (λ e. let j = eat-one is_number_mark marks-plainly t h k.rest (stop-mark (get_or (written_balanced k.rest ++ t) 0 0) (ap (λ (x : ℕ). is x ascii.full_stop) (sym (eaten-first k)) ∙ e)) in
+      eaten-pick (is (get_or s (digits s) 0) (ascii ".")) _ _
+      (λ e. let j = eat-one is_number_mark marks-plainly t h k.rest (stop-mark (get_or (written_balanced k.rest ++ t) 0 0) (ap (λ (x : ℕ). is x (ascii ".")) (sym (eaten-first k)) ∙ e)) in
       let i = eaten-on k j in
       let d = eat-digits i.rest t h in
       eaten-pick (is (digits (drop (digits s + 1) s)) 0) _ _ (λ q. eaten-none v t)
       (λ q. subst (λ (m : ℕ). Eaten v t (digits s + 1 + m)) (ap digits (sym i.onto)) (eaten-on i d)))
       (λ e. eaten-none v t)
     where
-      stop-mark : (x : ℕ) → is x ascii.full_stop ≡ true → is_number_mark x ≡ true
+      stop-mark : (x : ℕ) → is x (ascii ".") ≡ true → is_number_mark x ≡ true
       stop-mark x e = unfold is_number_mark in rules.or_left _ _ e
 
   -- a number without a sign
@@ -427,10 +427,10 @@ module _ (t : List ℕ) (h : Halts t) where
   unfolding numbers.sign
   eat-sign v =
       let x = get_or (written_balanced v ++ t) 0 0 in
-      eaten-pick (or (is x ascii.hyphen_minus) (is x ascii.plus_sign)) 1 0 (λ e. eat-one is_number_mark marks-plainly t h v (sign-mark x e)) (λ e. eaten-none v t)
+      eaten-pick (or (is x (ascii "-")) (is x (ascii "+"))) 1 0 (λ e. eat-one is_number_mark marks-plainly t h v (sign-mark x e)) (λ e. eaten-none v t)
     where
-      sign-mark : (x : ℕ) → or (is x ascii.hyphen_minus) (is x ascii.plus_sign) ≡ true → is_number_mark x ≡ true
-      sign-mark x e = unfold is_number_mark in or-second (is x ascii.full_stop) _ (or-second (is x ascii.percent_sign) _ e)
+      sign-mark : (x : ℕ) → or (is x (ascii "-")) (is x (ascii "+")) ≡ true → is_number_mark x ≡ true
+      sign-mark x e = unfold is_number_mark in or-second (is x (ascii ".")) _ (or-second (is x (ascii "%")) _ e)
 
   -- a number with its sign
   eat-signed : (v : Balanced) → Eaten v t (numbers.signed (written_balanced v ++ t))
@@ -444,7 +444,7 @@ module _ (t : List ℕ) (h : Halts t) where
 
 -- ---- white space and comments
 -- an asterisk is a plain character
-star-plainly : Plainly (λ x. is x ascii.asterisk)
+star-plainly : Plainly (λ x. is x (ascii "*"))
 unfolding is opens closes
 star-plainly =
     record {
@@ -454,15 +454,15 @@ star-plainly =
       of-single = refl;
       of-semicolon = refl;
       of-bang = refl;
-      of-open = all-brackets (λ x. is x ascii.asterisk) opens refl refl refl;
-      of-close = all-brackets (λ x. is x ascii.asterisk) closes refl refl refl;
+      of-open = all-brackets (λ x. is x (ascii "*")) opens refl refl refl;
+      of-close = all-brackets (λ x. is x (ascii "*")) closes refl refl refl;
     }
 
 -- no asterisk follows a solidus
-star-follows : (x : ℕ) (l t : List ℕ) → is x ascii.solidus ≡ true → starts_with (text "/*") (x ∷ l) ≡ false → Halts t → is (get_or (l ++ t) 0 0) ascii.asterisk ≡ false
+star-follows : (x : ℕ) (l t : List ℕ) → is x (ascii "/") ≡ true → starts_with (text "/*") (x ∷ l) ≡ false → Halts t → is (get_or (l ++ t) 0 0) (ascii "*") ≡ false
 unfolding starts_with text utf8 pick and
-star-follows x [] t e d h = halts-first (λ x. is x ascii.asterisk) star-plainly h
-star-follows x (y ∷ l) t e d h = by-star (is y ascii.asterisk) (rw e at d)
+star-follows x [] t e d h = halts-first (λ x. is x (ascii "*")) star-plainly h
+star-follows x (y ∷ l) t e d h = by-star (is y (ascii "*")) (rw e at d)
   where
     by-star : (b : Bool) → and b true ≡ false → b ≡ false
     by-star true e = e
@@ -471,9 +471,9 @@ star-follows x (y ∷ l) t e d h = by-star (is y ascii.asterisk) (rw e at d)
 -- so no comment begins at a plain character
 plain-item : (x : ℕ) (l t : List ℕ) → PlainByte x → is_mark (x ∷ l) ≡ false → Halts t → whitespace_item (x ∷ (l ++ t)) ≡ 0
 unfolding whitespace_item comment_of is_mark
-plain-item x l t p m h = rw (above-space x p.low) (by-solidus (is x ascii.solidus) refl)
+plain-item x l t p m h = rw (above-space x p.low) (by-solidus (is x (ascii "/")) refl)
   where
-    by-solidus : (b : Bool) → is x ascii.solidus ≡ b → pick false 1 (pick b (pick (is (get_or (l ++ t) 0 0) ascii.asterisk) (comment_end 2 (drop 1 (l ++ t))) 0) 0) ≡ 0
+    by-solidus : (b : Bool) → is x (ascii "/") ≡ b → pick false 1 (pick b (pick (is (get_or (l ++ t) 0 0) (ascii "*")) (comment_end 2 (drop 1 (l ++ t))) 0) 0) ≡ 0
     by-solidus false e = unfold pick in refl
     by-solidus true e = unfold pick in rw (star-follows x l t e (neither _ _ m).0 h)
 
@@ -524,8 +524,8 @@ abbrev nowhite : Blanks
 nowhite = record { bytes = []; blank = none }
 
 -- brackets, semicolons and quotes begin none
-mark-items : (l : List ℕ) → (whitespace_item (ascii.semicolon ∷ l) ≡ 0) × (whitespace_item (ascii.quotation_mark ∷ l) ≡ 0) × (whitespace_item (ascii.apostrophe ∷ l) ≡ 0)
-    × (whitespace_item (ascii.exclamation_mark ∷ l) ≡ 0)
+mark-items : (l : List ℕ) → (whitespace_item (ascii ";" ∷ l) ≡ 0) × (whitespace_item (ascii "\"" ∷ l) ≡ 0) × (whitespace_item (ascii "'" ∷ l) ≡ 0)
+    × (whitespace_item (ascii "!" ∷ l) ≡ 0)
 unfolding whitespace_item is_whitespace comment_of pick or is
 mark-items l = (refl, refl, refl, refl)
 
@@ -540,8 +540,8 @@ bracket-item curly l = refl
 quote-item : (q : ℕ) (l : List ℕ) → is_quote q ≡ true → whitespace_item (q ∷ l) ≡ 0
 unfolding is_quote
 quote-item q l e =
-    rules.either (whitespace_item (q ∷ l) ≡ 0) _ _ e (λ w. ap (λ (x : ℕ). whitespace_item (x ∷ l)) (is_true q ascii.quotation_mark w) ∙ (mark-items l).1)
-    (λ w. ap (λ (x : ℕ). whitespace_item (x ∷ l)) (is_true q ascii.apostrophe w) ∙ (mark-items l).2)
+    rules.either (whitespace_item (q ∷ l) ≡ 0) _ _ e (λ w. ap (λ (x : ℕ). whitespace_item (x ∷ l)) (is_true q (ascii "\"") w) ∙ (mark-items l).1)
+    (λ w. ap (λ (x : ℕ). whitespace_item (x ∷ l)) (is_true q (ascii "'") w) ∙ (mark-items l).2)
 
 -- of every text white space and comments are skipped, up to a token or to its end
 pub skipped : (v : Balanced) (t : List ℕ) → Clear v → Halts t → Skipped t v
@@ -674,7 +674,7 @@ number_in t h v c = by-skipped (skipped v t c h)
 -- ---- tokens
 -- a token that opens and closes nothing, and is no '!'
 abbrev pub Harmless : Token → Type 0
-Harmless k = (bracket_of k ≡ values.none) × (is_delim ascii.exclamation_mark k ≡ false)
+Harmless k = (bracket_of k ≡ values.none) × (is_delim (ascii "!") k ≡ false)
 
 -- what a reader of tokens takes of a text: nothing, characters and white space, or these and the bracket of a function
 pub data TokenIn (v : Balanced) (t : List ℕ) : Parsed Token → Type 0 where
@@ -694,7 +694,7 @@ unfolding bracket_of is_delim
 harmless-dimension b u = (refl, refl)
 
 -- and a delimiter that is no '!'
-harmless-delim : (x : ℕ) → is x ascii.exclamation_mark ≡ false → Harmless (tokens.delim x)
+harmless-delim : (x : ℕ) → is x (ascii "!") ≡ false → Harmless (tokens.delim x)
 unfolding bracket_of is_delim
 harmless-delim x e = (refl, e)
 
@@ -712,13 +712,13 @@ module _ (t : List ℕ) (h : Halts t) where
       let n = numbers.number s in
       let k = number_in t h v c in
       pick-holds (TokenIn v t) (is n 0) err _ (λ e. tokenless)
-      (λ e. pick-holds (TokenIn v t) (is (get_or s n 0) ascii.percent_sign) _ _
-      (λ d. token _ _ (eaten-on k (eat-one is_number_mark marks-plainly t h k.rest (percent-mark _ (ap (λ (x : ℕ). is x ascii.percent_sign) (sym (eaten-first k)) ∙ d)))) (harmless-number _).1)
+      (λ e. pick-holds (TokenIn v t) (is (get_or s n 0) (ascii "%")) _ _
+      (λ d. token _ _ (eaten-on k (eat-one is_number_mark marks-plainly t h k.rest (percent-mark _ (ap (λ (x : ℕ). is x (ascii "%")) (sym (eaten-first k)) ∙ d)))) (harmless-number _).1)
       (λ d. subst (λ (p : Parsed (List ℕ)). TokenIn v t (on_parsed p (λ m u. ok (n + m) (tokens.dimension (take n s) u)) (ok n (tokens.number (take n s))))) (ap ident_of (sym k.onto))
       (by-unit n (take n s) k _ (ident-in t h k.rest (leaves-clear k.leaves c)))))
     where
-      percent-mark : (x : ℕ) → is x ascii.percent_sign ≡ true → is_number_mark x ≡ true
-      percent-mark x e = unfold is_number_mark in or-second (is x ascii.full_stop) _ (rules.or_left _ _ e)
+      percent-mark : (x : ℕ) → is x (ascii "%") ≡ true → is_number_mark x ≡ true
+      percent-mark x e = unfold is_number_mark in or-second (is x (ascii ".")) _ (rules.or_left _ _ e)
 
       by-unit : (n : ℕ) (b : List ℕ) (k : Eaten v t n) (p : Parsed (List ℕ)) → NameIn k.rest t p
           → TokenIn v t (on_parsed p (λ m u. ok (n + m) (tokens.dimension b u)) (ok n (tokens.number b)))
@@ -730,12 +730,12 @@ data Called : Balanced → Type 0 where
   called : (w r : Balanced) → Called (block round w r)
 
 -- nothing else begins with one
-unrounded : Unblank (λ x. is x ascii.left_parenthesis)
+unrounded : Unblank (λ x. is x (ascii "("))
 unfolding is
 unrounded = record { of_space = refl; of-tab = refl; of-line-feed = refl; of-carriage-return = refl; of-form-feed = refl; of-solidus = refl }
 
 -- what closes begins with no opening round bracket
-closes-unrounded : {c : List ℕ} → Closes c → is (get_or c 0 0) ascii.left_parenthesis ≡ false
+closes-unrounded : {c : List ℕ} → Closes c → is (get_or c 0 0) (ascii "(") ≡ false
 unfolding grammar.closer is
 closes-unrounded nothing = refl
 closes-unrounded (closed (grammar.function n d) r) = refl
@@ -747,23 +747,23 @@ closes-unrounded (at-bang r) = refl
 closes-unrounded (at-brace r) = refl
 
 -- nor what may stand behind a value
-halts-unrounded : {t : List ℕ} → Halts t → is (get_or t 0 0) ascii.left_parenthesis ≡ false
-halts-unrounded (halts {l} {t} h c) = blank-first (λ x. is x ascii.left_parenthesis) unrounded t h (closes-unrounded c)
+halts-unrounded : {t : List ℕ} → Halts t → is (get_or t 0 0) (ascii "(") ≡ false
+halts-unrounded (halts {l} {t} h c) = blank-first (λ x. is x (ascii "(")) unrounded t h (closes-unrounded c)
 
 -- a quote is no round bracket
-quote-unrounded : (q : ℕ) → is_quote q ≡ true → is q ascii.left_parenthesis ≡ false
+quote-unrounded : (q : ℕ) → is_quote q ≡ true → is q (ascii "(") ≡ false
 unfolding is_quote
 quote-unrounded q e =
-    rules.either (is q ascii.left_parenthesis ≡ false) _ _ e (λ w. is-no q ascii.left_parenthesis (λ z. omega (arith, is_true q ascii.quotation_mark w)))
-    (λ w. is-no q ascii.left_parenthesis (λ z. omega (arith, is_true q ascii.apostrophe w)))
+    rules.either (is q (ascii "(") ≡ false) _ _ e (λ w. is-no q (ascii "(") (λ z. omega (arith, is_true q (ascii "\"") w)))
+    (λ w. is-no q (ascii "(") (λ z. omega (arith, is_true q (ascii "'") w)))
 
 -- so a text that begins with a round bracket begins with a block in round brackets
-round-called : (v : Balanced) (t : List ℕ) → Halts t → is (get_or (written_balanced v ++ t) 0 0) ascii.left_parenthesis ≡ true → Called v
+round-called : (v : Balanced) (t : List ℕ) → Halts t → is (get_or (written_balanced v ++ t) 0 0) (ascii "(") ≡ true → Called v
 unfolding written_balanced
 round-called end t h e = never (sym (halts-unrounded h) ∙ e)
-round-called (space x w v) t h e = never (sym (white-first (λ x. is x ascii.left_parenthesis) unrounded w) ∙ e)
+round-called (space x w v) t h e = never (sym (white-first (λ x. is x (ascii "(")) unrounded w) ∙ e)
 round-called (remark c w v) t h e =
-    never (sym (ap (λ (l : List ℕ). is (get_or l 0 0) ascii.left_parenthesis) (append_assoc c (written_balanced v) t) ∙ comment-first (λ x. is x ascii.left_parenthesis) unrounded (written_balanced v ++ t) w) ∙ e)
+    never (sym (ap (λ (l : List ℕ). is (get_or l 0 0) (ascii "(")) (append_assoc c (written_balanced v) t) ∙ comment-first (λ x. is x (ascii "(")) unrounded (written_balanced v ++ t) w) ∙ e)
 round-called (plain x p v) t h e = never (sym (plain_byte x p).no-open-round ∙ e)
 round-called (quoted q v) t h e = never (sym (quote-unrounded q.quote q.quotes) ∙ e)
 round-called (semicolon v) t h e = unfold is in never e
@@ -779,8 +779,8 @@ block-onto b w r t = ap (λ (l : List ℕ). opens b ∷ l) (append_assoc (writte
 
 module _ (t : List ℕ) (h : Halts t) where
   -- a name with a bracket behind it
-  call-in : (v : Balanced) (n : ℕ) (b : List ℕ) (k : Eaten v t n) → is (get_or (written_balanced v ++ t) n 0) ascii.left_parenthesis ≡ true → TokenIn v t (ok (n + 1) (tokens.function b))
-  call-in v n b k e = by-called k.rest k.leaves k.onto (round-called k.rest t h (ap (λ (x : ℕ). is x ascii.left_parenthesis) (sym (eaten-first k)) ∙ e))
+  call-in : (v : Balanced) (n : ℕ) (b : List ℕ) (k : Eaten v t n) → is (get_or (written_balanced v ++ t) n 0) (ascii "(") ≡ true → TokenIn v t (ok (n + 1) (tokens.function b))
+  call-in v n b k e = by-called k.rest k.leaves k.onto (round-called k.rest t h (ap (λ (x : ℕ). is x (ascii "(")) (sym (eaten-first k)) ∙ e))
     where
       by-called : (q : Balanced) → Leaves v q → drop n (written_balanced v ++ t) ≡ written_balanced q ++ t → Called q → TokenIn v t (ok (n + 1) (tokens.function b))
       by-called _ l o (called w r) =
@@ -792,11 +792,11 @@ module _ (t : List ℕ) (h : Halts t) where
   like-in v c = by_name _ (ident-in t h v c)
     where
       by_name : (p : Parsed (List ℕ)) → NameIn v t p
-          → TokenIn v t (on_parsed p (λ n b. pick (is (get_or (written_balanced v ++ t) n 0) ascii.left_parenthesis) (ok (n + 1) (tokens.function b)) (ok n (tokens.ident b))) err)
+          → TokenIn v t (on_parsed p (λ n b. pick (is (get_or (written_balanced v ++ t) n 0) (ascii "(")) (ok (n + 1) (tokens.function b)) (ok n (tokens.ident b))) err)
       by_name _ unnamed = unfold on_parsed in tokenless
       by_name _ (named n b k) =
           unfold on_parsed in
-          pick-holds (TokenIn v t) (is (get_or (written_balanced v ++ t) n 0) ascii.left_parenthesis) (ok (n + 1) (tokens.function b)) (ok n (tokens.ident b)) (λ e. call-in v n b k e)
+          pick-holds (TokenIn v t) (is (get_or (written_balanced v ++ t) n 0) (ascii "(")) (ok (n + 1) (tokens.function b)) (ok n (tokens.ident b)) (λ e. call-in v n b k e)
           (λ e. token n (tokens.ident b) k (harmless-number b).3)
 
   -- what either of two alternatives takes, the first that reads takes
@@ -836,11 +836,11 @@ module _ (t : List ℕ) (h : Halts t) where
         harmless-mark p =
             unfold tokens.mark_of pick in
             rw (p.no-semicolon, p.no-open-round, p.no-close-round, p.no-open-square, p.no-close-square, p.no-open-curly, p.no-close-curly)
-            (pick-holds Harmless (is x ascii.comma) tokens.comma _ (λ d. harmless-marks.1) (λ d. pick-holds Harmless (is x ascii.colon) tokens.colon (tokens.delim x) (λ f. harmless-marks.0) (λ f. harmless-delim x p.no-bang)))
+            (pick-holds Harmless (is x (ascii ",")) tokens.comma _ (λ d. harmless-marks.1) (λ d. pick-holds Harmless (is x (ascii ":")) tokens.colon (tokens.delim x) (λ f. harmless-marks.0) (λ f. harmless-delim x p.no-bang)))
 
 -- ---- the token that a plain character begins
 -- a '-' is a plain character
-dash-plainly : Plainly (λ x. is x ascii.hyphen_minus)
+dash-plainly : Plainly (λ x. is x (ascii "-"))
 unfolding is opens closes
 dash-plainly =
     record {
@@ -850,12 +850,12 @@ dash-plainly =
       of-single = refl;
       of-semicolon = refl;
       of-bang = refl;
-      of-open = all-brackets (λ x. is x ascii.hyphen_minus) opens refl refl refl;
-      of-close = all-brackets (λ x. is x ascii.hyphen_minus) closes refl refl refl;
+      of-open = all-brackets (λ x. is x (ascii "-")) opens refl refl refl;
+      of-close = all-brackets (λ x. is x (ascii "-")) closes refl refl refl;
     }
 
 -- '>' is a plain character
-greater-plainly : Plainly (λ x. is x ascii.greater_than_sign)
+greater-plainly : Plainly (λ x. is x (ascii ">"))
 unfolding is opens closes
 greater-plainly =
     record {
@@ -865,27 +865,27 @@ greater-plainly =
       of-single = refl;
       of-semicolon = refl;
       of-bang = refl;
-      of-open = all-brackets (λ x. is x ascii.greater_than_sign) opens refl refl refl;
-      of-close = all-brackets (λ x. is x ascii.greater_than_sign) closes refl refl refl;
+      of-open = all-brackets (λ x. is x (ascii ">")) opens refl refl refl;
+      of-close = all-brackets (λ x. is x (ascii ">")) closes refl refl refl;
     }
 
 -- so no `-->` begins where none was written
 no-cdc : (x : ℕ) (l t : List ℕ) → starts_with (text "-->") (x ∷ l) ≡ false → Halts t → starts_with (text "-->") (x ∷ (l ++ t)) ≡ false
 unfolding starts_with text utf8 pick
-no-cdc x [] t e h = rules.and_right _ _ (starts-not ascii.hyphen_minus (ascii.greater_than_sign ∷ []) t (halts-first (λ x. is x ascii.hyphen_minus) dash-plainly h))
+no-cdc x [] t e h = rules.and_right _ _ (starts-not (ascii "-") (ascii ">" ∷ []) t (halts-first (λ x. is x (ascii "-")) dash-plainly h))
 no-cdc x (y ∷ []) t e h =
-    rules.and_right _ _ (rules.and_right _ _ (starts-not ascii.greater_than_sign [] t (halts-first (λ x. is x ascii.greater_than_sign) greater-plainly h)))
+    rules.and_right _ _ (rules.and_right _ _ (starts-not (ascii ">") [] t (halts-first (λ x. is x (ascii ">")) greater-plainly h)))
 no-cdc x (y ∷ z ∷ l) t e h = e
 
 -- nor does a `<!--` begin where none was written
-no-cdo : (x : ℕ) (l t : List ℕ) → starts_with (text "<!--") (x ∷ l) ≡ false → same_text (x ∷ l) (text "<") ≡ false → is x ascii.less_than_sign ≡ true → Halts t
+no-cdo : (x : ℕ) (l t : List ℕ) → starts_with (text "<!--") (x ∷ l) ≡ false → same_text (x ∷ l) (text "<") ≡ false → is x (ascii "<") ≡ true → Halts t
     → starts_with (text "<!--") (x ∷ (l ++ t)) ≡ false
 unfolding starts_with same_text text utf8 pick
-no-cdo x [] t e d q h = never (sym d ∙ rules.and_both (is x ascii.less_than_sign) true q refl)
+no-cdo x [] t e d q h = never (sym d ∙ rules.and_both (is x (ascii "<")) true q refl)
 no-cdo x (y ∷ []) t e d q h =
-    rules.and_right _ _ (rules.and_right _ _ (starts-not ascii.hyphen_minus (ascii.hyphen_minus ∷ []) t (halts-first (λ x. is x ascii.hyphen_minus) dash-plainly h)))
+    rules.and_right _ _ (rules.and_right _ _ (starts-not (ascii "-") (ascii "-" ∷ []) t (halts-first (λ x. is x (ascii "-")) dash-plainly h)))
 no-cdo x (y ∷ z ∷ []) t e d q h =
-    rules.and_right _ _ (rules.and_right _ _ (rules.and_right _ _ (starts-not ascii.hyphen_minus [] t (halts-first (λ x. is x ascii.hyphen_minus) dash-plainly h))))
+    rules.and_right _ _ (rules.and_right _ _ (rules.and_right _ _ (starts-not (ascii "-") [] t (halts-first (λ x. is x (ascii "-")) dash-plainly h))))
 no-cdo x (y ∷ z ∷ w ∷ l) t e d q h = e
 
 module _ (t : List ℕ) (h : Halts t) (x : ℕ) (e : is_plain x ≡ true) (v : Balanced) (c : Clear (plain x e v)) where
@@ -909,7 +909,7 @@ module _ (t : List ℕ) (h : Halts t) (x : ℕ) (e : is_plain x ≡ true) (v : B
       no-mark = unfold written_balanced in no-cdc x (written_balanced v) t (unfold is_mark in (neither _ _ (neither _ _ clear_behind.0).1).0) h
 
   -- `<` is a delimiter; a `<!--` it is not
-  less-in : is x ascii.less_than_sign ≡ true → TokenIn (plain x e v) t (tokens.less_of x text-here)
+  less-in : is x (ascii "<") ≡ true → TokenIn (plain x e v) t (tokens.less_of x text-here)
   unfolding tokens.less_of
   less-in q = subst (λ (b : Bool). TokenIn (plain x e v) t (pick b (ok 4 tokens.cdo) (ok 1 (tokens.delim x)))) (sym no-mark) (unfold pick in delim-in t h x e v)
     where
@@ -925,13 +925,13 @@ module _ (t : List ℕ) (h : Halts t) (x : ℕ) (e : is_plain x ≡ true) (v : B
   start-in =
       let p = plain_byte x e in
       let By : Parsed Token → Type 0 = TokenIn (plain x e v) t in
-      pick-holds By (or (is x ascii.quotation_mark) (is x ascii.apostrophe)) _ _ (λ q. never (sym (or-none _ _ p.no-double p.no-single) ∙ q))
-      (λ _. pick-holds By (is x ascii.number_sign) _ _ (λ q. hash-in t h x e v clear_behind.1)
-      (λ _. pick-holds By (is x ascii.plus_sign) _ _ (λ q. plus-in)
-      (λ _. pick-holds By (is x ascii.hyphen_minus) _ _ (λ q. minus-in)
-      (λ _. pick-holds By (is x ascii.full_stop) _ _ (λ q. else-in t h (plain x e v) _ _ (numeric-in t h (plain x e v) c) (delim-in t h x e v))
-      (λ _. pick-holds By (is x ascii.less_than_sign) _ _ (λ q. less-in q)
-      (λ _. pick-holds By (is x ascii.reverse_solidus) _ _ (λ q. never (sym p.no-escape ∙ q))
+      pick-holds By (or (is x (ascii "\"")) (is x (ascii "'"))) _ _ (λ q. never (sym (or-none _ _ p.no-double p.no-single) ∙ q))
+      (λ _. pick-holds By (is x (ascii "#")) _ _ (λ q. hash-in t h x e v clear_behind.1)
+      (λ _. pick-holds By (is x (ascii "+")) _ _ (λ q. plus-in)
+      (λ _. pick-holds By (is x (ascii "-")) _ _ (λ q. minus-in)
+      (λ _. pick-holds By (is x (ascii ".")) _ _ (λ q. else-in t h (plain x e v) _ _ (numeric-in t h (plain x e v) c) (delim-in t h x e v))
+      (λ _. pick-holds By (is x (ascii "<")) _ _ (λ q. less-in q)
+      (λ _. pick-holds By (is x (ascii "\\")) _ _ (λ q. never (sym p.no-escape ∙ q))
       (λ _. pick-holds By (is_ident_start x) _ _ (λ q. like-in t h (plain x e v) c)
       (λ _. pick-holds By (is_digit x) _ _ (λ q. numeric-in t h (plain x e v) c) (λ q. mark-in t h x e v)))))))))
     where
@@ -965,7 +965,7 @@ unfolding is_ident_start
 letter-start x l e = rules.either (is_nmstart x ≡ true) _ _ e (λ s. s) (λ s. absurd (omega (arith, leb-true tokens.first_above_u0080 x s)))
 
 -- and so is what it begins
-letter-named : (x : ℕ) (l : List ℕ) → whitespace_item (x ∷ l) ≡ 0 → is x ascii.hyphen_minus ≡ false → is_nmstart x ≡ true
+letter-named : (x : ℕ) (l : List ℕ) → whitespace_item (x ∷ l) ≡ 0 → is x (ascii "-") ≡ false → is_nmstart x ≡ true
     → ident_of (x ∷ l) ≡ ok (0 + chars_end (x ∷ l)) (chars_text (x ∷ l))
 letter-named x l i d n = skips (skips-blank [] (x ∷ l) none i) (name-some (x ∷ l) 1 (lower x) start)
   where
@@ -978,7 +978,7 @@ letter-named x l i d n = skips (skips-blank [] (x ∷ l) none i) (name-some (x �
 -- where a name reads, a name or a function reads
 letter-some : (x : ℕ) (l : List ℕ) (n : ℕ) (b : List ℕ) → ident_of (x ∷ l) ≡ ok n b → ¬ (ident_like_of (x ∷ l) ≡ err)
 unfolding ident_like_of on_parsed
-letter-some x l n b e = rw e (pick_some (is (get_or (x ∷ l) n 0) ascii.left_parenthesis) _ _ (some_read _ _) (some_read _ _))
+letter-some x l n b e = rw e (pick_some (is (get_or (x ∷ l) n 0) (ascii "(")) _ _ (some_read _ _) (some_read _ _))
 
 -- digits are a number without a sign
 unsigned-digits : (s : List ℕ) (m : ℕ) → digits s ≡ suc m → numbers.unsigned s ≡ suc m
@@ -994,7 +994,7 @@ number_digits s m z n u = rw (z, n, u, is-no (suc m) 0 (λ q. omega arith), is-n
 digit-unsigned : (x : ℕ) (l : List ℕ) → is_digit x ≡ true → numbers.sign (x ∷ l) ≡ 0
 unfolding numbers.sign pick or
 digit-unsigned x l d =
-    rw (differs is_digit x ascii.hyphen_minus d (unfold is_digit and within in refl), differs is_digit x ascii.plus_sign d (unfold is_digit and within in refl))
+    rw (differs is_digit x (ascii "-") d (unfold is_digit and within in refl), differs is_digit x (ascii "+") d (unfold is_digit and within in refl))
 
 -- and the first of digits
 digit-first : (x : ℕ) (l : List ℕ) → is_digit x ≡ true → digits (x ∷ l) ≡ suc (digits l)
@@ -1014,7 +1014,7 @@ numeric-some : (s : List ℕ) → ¬ (numbers.number s ≡ 0) → ¬ (numeric_of
 unfolding numeric_of numeric_from pick
 numeric-some s d =
     rw (is-no (numbers.number s) 0 d)
-    (pick_some (is (get_or s (numbers.number s) 0) ascii.percent_sign) _ _ (some_read _ _) (name-some-read (ident_of (drop (numbers.number s) s)) _ _ (λ n b. some_read _ _) (some_read _ _)))
+    (pick_some (is (get_or s (numbers.number s) 0) (ascii "%")) _ _ (some_read _ _) (name-some-read (ident_of (drop (numbers.number s) s)) _ _ (λ n b. some_read _ _) (some_read _ _)))
 
 module _ (t : List ℕ) (h : Halts t) (x : ℕ) (e : is_plain x ≡ true) (v : Balanced) (c : Clear (plain x e v)) where
   abbrev text-there : List ℕ
@@ -1026,7 +1026,7 @@ module _ (t : List ℕ) (h : Halts t) (x : ℕ) (e : is_plain x ≡ true) (v : B
   there-item = plain-item x (written_balanced v) t (plain_byte x e) (clear_behind t h x e v c).0 h
 
   -- a name or a number does, where the reader looks for one
-  letter-there : is_ident_start x ≡ true → is x ascii.hyphen_minus ≡ false → ¬ (ident_like_of text-there ≡ err)
+  letter-there : is_ident_start x ≡ true → is x (ascii "-") ≡ false → ¬ (ident_like_of text-there ≡ err)
   unfolding written_balanced
   letter-there q d = letter-some x (written_balanced v ++ t) _ _ (letter-named x (written_balanced v ++ t) there-item d (letter-start x (plain_byte x e).high q))
 
@@ -1044,13 +1044,13 @@ module _ (t : List ℕ) (h : Halts t) (x : ℕ) (e : is_plain x ≡ true) (v : B
   unfolding tokens.token_with is_quote
   start-some =
       let p = plain_byte x e in
-      pick-holds Some (or (is x ascii.quotation_mark) (is x ascii.apostrophe)) _ _ (λ q. never (sym (or-none _ _ p.no-double p.no-single) ∙ q))
-      (λ _. pick-holds Some (is x ascii.number_sign) (tokens.hash_of x text-there) _ (λ q. unfold tokens.hash_of in name-some-read (identstring_of (drop 1 text-there)) _ _ (λ n b. some_read _ _) (some_read _ _))
-      (λ _. pick-holds Some (is x ascii.plus_sign) (tokens.plus_of x text-there) _ (λ q. unfold tokens.plus_of in else-some _ 1 (tokens.delim x))
-      (λ d. pick-holds Some (is x ascii.hyphen_minus) _ _ (λ q. minus-some)
-      (λ m. pick-holds Some (is x ascii.full_stop) _ _ (λ q. else-some _ 1 (tokens.delim x))
-      (λ _. pick-holds Some (is x ascii.less_than_sign) _ _ (λ q. less-some)
-      (λ _. pick-holds Some (is x ascii.reverse_solidus) _ _ (λ q. never (sym p.no-escape ∙ q))
+      pick-holds Some (or (is x (ascii "\"")) (is x (ascii "'"))) _ _ (λ q. never (sym (or-none _ _ p.no-double p.no-single) ∙ q))
+      (λ _. pick-holds Some (is x (ascii "#")) (tokens.hash_of x text-there) _ (λ q. unfold tokens.hash_of in name-some-read (identstring_of (drop 1 text-there)) _ _ (λ n b. some_read _ _) (some_read _ _))
+      (λ _. pick-holds Some (is x (ascii "+")) (tokens.plus_of x text-there) _ (λ q. unfold tokens.plus_of in else-some _ 1 (tokens.delim x))
+      (λ d. pick-holds Some (is x (ascii "-")) _ _ (λ q. minus-some)
+      (λ m. pick-holds Some (is x (ascii ".")) _ _ (λ q. else-some _ 1 (tokens.delim x))
+      (λ _. pick-holds Some (is x (ascii "<")) _ _ (λ q. less-some)
+      (λ _. pick-holds Some (is x (ascii "\\")) _ _ (λ q. never (sym p.no-escape ∙ q))
       (λ _. pick-holds Some (is_ident_start x) _ _ (λ q. letter-there q m)
       (λ _. pick-holds Some (is_digit x) _ _ (λ q. digit-there q) (λ q. some_read 1 (tokens.mark_of x))))))))))
     where

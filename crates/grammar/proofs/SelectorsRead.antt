@@ -7,7 +7,7 @@ use native.Mathlib.Nat.{zero-add, add-zero}
 use native.Mathlib.Omega.{arith}
 use lib.ListN.{length, get_or, drop, length-append}
 use lib.Seq.{drop-append-add, drop-append_seam}
-use Rattle.combinators.specs.Ascii as ascii
+use Prim.Native.Char.{code as ascii}
 use Rattle.combinators.specs.Choice.{pick, or, and, is, within}
 use Rattle.combinators.specs.Parsed.{err, on_parsed}
 use Rattle.combinators.specs.Parsed as parser
@@ -69,8 +69,8 @@ module _ (p s : List ℕ) (c : Component) (n : ℕ) (cs : List Component) (h : 1
 -- a text that begins a part of a selector which is no combinator and no `*`
 pub record Begins (t : List ℕ) : Type 0 where
   pub item : whitespace_item t ≡ 0
-  pub no-greater : is (get_or t 0 0) ascii.greater_than_sign ≡ false
-  pub no-star : is (get_or t 0 0) ascii.asterisk ≡ false
+  pub no-greater : is (get_or t 0 0) (ascii ">") ≡ false
+  pub no-star : is (get_or t 0 0) (ascii "*") ≡ false
 
 -- a name ends before a simple selector
 simple-ended : (p : Simple) (s : List ℕ) → Ended (written_simple p ++ s)
@@ -95,7 +95,7 @@ simple-begins (nth_child b x c) s = record { item = refl; no-greater = refl; no-
 -- by the first byte of a name
 code-point-begins : (x : ℕ) (l : List ℕ) → ident_code_point x ≡ true → Begins (x ∷ l)
 code-point-begins x l e =
-    record { item = code-point-item x l e; no-greater = differs ident_code_point x ascii.greater_than_sign e marks.0; no-star = differs ident_code_point x ascii.asterisk e marks.1 }
+    record { item = code-point-item x l e; no-greater = differs ident_code_point x (ascii ">") e marks.0; no-star = differs ident_code_point x (ascii "*") e marks.1 }
 
 -- with a name no white space, no `>` and no `*` begins
 name-begins : (n : Name) (s : List ℕ) → Begins (n.bytes ++ s)
@@ -103,7 +103,7 @@ name-begins n s = by-start n.bytes n.sequence
   where
     by-start : (bytes : List ℕ) → IdentSequence bytes → Begins (bytes ++ s)
     by-start _ (started {x} {r} e h) = code-point-begins x (r ++ s) (start-code-point x e)
-    by-start _ (dashed {x} {r} e h) = code-point-begins ascii.hyphen_minus (x ∷ (r ++ s)) hyphen-code-point
+    by-start _ (dashed {x} {r} e h) = code-point-begins (ascii "-") (x ∷ (r ++ s)) hyphen-code-point
 
 -- a name ends before white space, before a comment and before `>`
 newline-ended : {x : ℕ} (l : List ℕ) → Newline x → Ended (x ∷ l)
@@ -131,7 +131,7 @@ blank-ended t (white x b w r) h = white-ended (b ++ t) w
 blank-ended t (comment c b w r) h = comment-ended b t w
 
 -- a name ends at `>`
-greater-ended : (l : List ℕ) → Ended (ascii.greater_than_sign ∷ l)
+greater-ended : (l : List ℕ) → Ended (ascii ">" ∷ l)
 unfolding ident_code_point ident_start letter or and within is
 greater-ended l = record { no-character = refl; no-escape = λ q. omega arith; no-round = refl }
 
@@ -149,13 +149,13 @@ simple-some (nth_child b x c) = omega arith
 -- the lengths of what is written
 length-attribute : (n : Name) → 1 + length n.bytes + 1 ≡ length (written_simple (attribute n))
 unfolding written_simple
-length-attribute n = omega (arith, length-append n.bytes (ascii.right_square_bracket ∷ []))
+length-attribute n = omega (arith, length-append n.bytes (ascii "]" ∷ []))
 
 -- an attribute with a name as its value is as long as both names, the brackets and the `=`
 length-attribute-is : (n v : Name) → 2 + length n.bytes + length v.bytes + 1 ≡ length (written_simple (attribute_is n v))
 unfolding written_simple
 length-attribute-is n v =
-    omega (arith, length-append n.bytes (ascii.equals_sign ∷ (v.bytes ++ (ascii.right_square_bracket ∷ []))), length-append v.bytes (ascii.right_square_bracket ∷ []))
+    omega (arith, length-append n.bytes (ascii "=" ∷ (v.bytes ++ (ascii "]" ∷ []))), length-append v.bytes (ascii "]" ∷ []))
 
 -- an attribute with a string as its value is as long as its name, the string with its quotes, the brackets and the `=`
 length-attribute-string : (n : Name) (v : Quoted) → 2 + length n.bytes + (1 + length v.bytes + 1) + 1 ≡ length (written_simple (attribute_string n v))
@@ -163,47 +163,47 @@ unfolding written_simple
 length-attribute-string n v =
     omega (
       arith,
-      length-append n.bytes (ascii.equals_sign ∷ v.quote ∷ (v.bytes ++ (v.quote ∷ ascii.right_square_bracket ∷ []))),
-      length-append v.bytes (v.quote ∷ ascii.right_square_bracket ∷ []),
+      length-append n.bytes (ascii "=" ∷ v.quote ∷ (v.bytes ++ (v.quote ∷ ascii "]" ∷ []))),
+      length-append v.bytes (v.quote ∷ ascii "]" ∷ []),
     )
 
 -- what is written, with s behind it
-attribute-onto : (n : Name) (s : List ℕ) → written_simple (attribute n) ++ s ≡ ascii.left_square_bracket ∷ (n.bytes ++ (ascii.right_square_bracket ∷ s))
+attribute-onto : (n : Name) (s : List ℕ) → written_simple (attribute n) ++ s ≡ ascii "[" ∷ (n.bytes ++ (ascii "]" ∷ s))
 unfolding written_simple
-attribute-onto n s = ap (λ (l : List ℕ). ascii.left_square_bracket ∷ l) (append_assoc n.bytes (ascii.right_square_bracket ∷ []) s)
+attribute-onto n s = ap (λ (l : List ℕ). (ascii "[") ∷ l) (append_assoc n.bytes (ascii "]" ∷ []) s)
 
 -- an attribute with a name as its value, and s behind it, is its parts in order and s
 attribute-is-onto : (n v : Name) (s : List ℕ)
-    → written_simple (attribute_is n v) ++ s ≡ ascii.left_square_bracket ∷ (n.bytes ++ (ascii.equals_sign ∷ (v.bytes ++ (ascii.right_square_bracket ∷ s))))
+    → written_simple (attribute_is n v) ++ s ≡ ascii "[" ∷ (n.bytes ++ (ascii "=" ∷ (v.bytes ++ (ascii "]" ∷ s))))
 unfolding written_simple
 attribute-is-onto n v s =
-    ap (λ (l : List ℕ). ascii.left_square_bracket ∷ l)
-    (append_assoc n.bytes (ascii.equals_sign ∷ (v.bytes ++ (ascii.right_square_bracket ∷ []))) s
-    ∙ ap (λ (l : List ℕ). n.bytes ++ (ascii.equals_sign ∷ l)) (append_assoc v.bytes (ascii.right_square_bracket ∷ []) s))
+    ap (λ (l : List ℕ). (ascii "[") ∷ l)
+    (append_assoc n.bytes (ascii "=" ∷ (v.bytes ++ (ascii "]" ∷ []))) s
+    ∙ ap (λ (l : List ℕ). n.bytes ++ (ascii "=" ∷ l)) (append_assoc v.bytes (ascii "]" ∷ []) s))
 
 -- an attribute with a string as its value, and s behind it, is its parts in order and s
 attribute-string-onto : (n : Name) (v : Quoted) (s : List ℕ)
     → written_simple (attribute_string n v) ++ s
-    ≡ ascii.left_square_bracket ∷ (n.bytes ++ (ascii.equals_sign ∷ v.quote ∷ (v.bytes ++ (v.quote ∷ ascii.right_square_bracket ∷ s))))
+    ≡ ascii "[" ∷ (n.bytes ++ (ascii "=" ∷ v.quote ∷ (v.bytes ++ (v.quote ∷ ascii "]" ∷ s))))
 unfolding written_simple
 attribute-string-onto n v s =
-    ap (λ (l : List ℕ). ascii.left_square_bracket ∷ l)
-    (append_assoc n.bytes (ascii.equals_sign ∷ v.quote ∷ (v.bytes ++ (v.quote ∷ ascii.right_square_bracket ∷ []))) s
-    ∙ ap (λ (l : List ℕ). n.bytes ++ (ascii.equals_sign ∷ v.quote ∷ l)) (append_assoc v.bytes (v.quote ∷ ascii.right_square_bracket ∷ []) s))
+    ap (λ (l : List ℕ). (ascii "[") ∷ l)
+    (append_assoc n.bytes (ascii "=" ∷ v.quote ∷ (v.bytes ++ (v.quote ∷ ascii "]" ∷ []))) s
+    ∙ ap (λ (l : List ℕ). n.bytes ++ (ascii "=" ∷ v.quote ∷ l)) (append_assoc v.bytes (v.quote ∷ ascii "]" ∷ []) s))
 
 -- `nth-child`, and what is written behind it
 module _ (b : Blanks) (x : Argument) (c : Blanks) where
   -- `:nth-child()` with s behind it is its name, the bracket, white space, the argument, white space, the bracket and s
   nth-child-onto : (s : List ℕ)
       → written_simple (nth_child b x c) ++ s
-      ≡ ascii.colon ∷ (text "nth-child" ++ (ascii.left_parenthesis ∷ (b.bytes ++ (written_argument x ++ (c.bytes ++ (ascii.right_parenthesis ∷ s))))))
+      ≡ ascii ":" ∷ (text "nth-child" ++ (ascii "(" ∷ (b.bytes ++ (written_argument x ++ (c.bytes ++ (ascii ")" ∷ s))))))
   unfolding written_simple
   nth-child-onto s =
-      let v = ascii.right_parenthesis ∷ [] in
+      let v = ascii ")" ∷ [] in
       let a = written_argument x in
-      ap (λ (l : List ℕ). ascii.colon ∷ l)
-      (append_assoc (text "nth-child") (ascii.left_parenthesis ∷ (b.bytes ++ (a ++ (c.bytes ++ v)))) s
-      ∙ ap (λ (l : List ℕ). text "nth-child" ++ (ascii.left_parenthesis ∷ l))
+      ap (λ (l : List ℕ). (ascii ":") ∷ l)
+      (append_assoc (text "nth-child") (ascii "(" ∷ (b.bytes ++ (a ++ (c.bytes ++ v)))) s
+      ∙ ap (λ (l : List ℕ). text "nth-child" ++ (ascii "(" ∷ l))
       (append_assoc b.bytes (a ++ (c.bytes ++ v)) s
       ∙ ap (λ (l : List ℕ). b.bytes ++ l) (append_assoc a (c.bytes ++ v) s ∙ ap (λ (l : List ℕ). a ++ l) (append_assoc c.bytes v s))))
 
@@ -211,7 +211,7 @@ module _ (b : Blanks) (x : Argument) (c : Blanks) where
   nth-child-length : 10 + (1 + length b.bytes + length (written_argument x) + length c.bytes + 1) ≡ length (written_simple (nth_child b x c))
   unfolding written_simple text utf8 continuation pick
   nth-child-length =
-      let v = ascii.right_parenthesis ∷ [] in
+      let v = ascii ")" ∷ [] in
       let a = written_argument x in
       omega (arith, length-append b.bytes (a ++ (c.bytes ++ v)), length-append a (c.bytes ++ v), length-append c.bytes v)
 
@@ -264,7 +264,7 @@ name-some n = by-some n.bytes n.sequence
     by-some _ (dashed e h) = omega arith
 
 -- a `*` with simple selectors behind it
-star-alone : (l : List ℕ) → whitespace_item l ≡ 0 → component_of (ascii.asterisk ∷ l) ≡ reads 1 syntax.star
+star-alone : (l : List ℕ) → whitespace_item l ≡ 0 → component_of (ascii "*" ∷ l) ≡ reads 1 syntax.star
 star-alone l e = star-read [] l none e ∙ ap (λ (m : ℕ). reads m syntax.star) (omega arith)
 
 -- a compound selector is read, if it is no `*` alone
@@ -278,7 +278,7 @@ comes-compound (typed m ps) s n cs a h q =
 comes-compound (universal []) s n cs a h q = absurd a
 comes-compound (universal (p ∷ ps)) s n cs a h q =
     comes-as refl (omega arith)
-    (comes-step (ascii.asterisk ∷ []) (written_simples (p ∷ ps) ++ s) syntax.star (length (written_simples (p ∷ ps)) + n) (map means_simple (p ∷ ps) ++ cs) (omega arith)
+    (comes-step (ascii "*" ∷ []) (written_simples (p ∷ ps) ++ s) syntax.star (length (written_simples (p ∷ ps)) + n) (map means_simple (p ∷ ps) ++ cs) (omega arith)
     (star-alone (written_simples (p ∷ ps) ++ s) (simples-begin p ps s).item) (comes-simples (p ∷ ps) s n cs h q))
 comes-compound (untyped p ps) s n cs a h q = comes-simples (p ∷ ps) s n cs h q
 
@@ -286,13 +286,13 @@ comes-compound (untyped p ps) s n cs a h q = comes-simples (p ∷ ps) s n cs h q
 -- `{`, `,` or the end of the text
 pub data Ends : List ℕ → Type 0 where
   text-ends : Ends []
-  block : (t : List ℕ) → Ends (ascii.left_curly_bracket ∷ t)
-  another : (t : List ℕ) → Ends (ascii.comma ∷ t)
+  block : (t : List ℕ) → Ends (ascii "{" ∷ t)
+  another : (t : List ℕ) → Ends (ascii "," ∷ t)
 
 -- there, or before a pseudo element, whatever its name
 data Stops : List ℕ → Type 0 where
   ends : {t : List ℕ} → Ends t → Stops t
-  colons : (t : List ℕ) → Stops (ascii.colon ∷ ascii.colon ∷ t)
+  colons : (t : List ℕ) → Stops (ascii ":" ∷ ascii ":" ∷ t)
 
 -- where a selector stops, no component begins
 end-fails : {t : List ℕ} → Stops t → component_of t ≡ fails
@@ -357,17 +357,17 @@ comes-child : (b c : Blanks) (s : List ℕ) (n : ℕ) (cs : List Component) → 
     → Comes (written_combinator (child b c) ++ s) (length (written_combinator (child b c)) + n) (syntax.child ∷ cs)
 unfolding written_combinator
 comes-child b c s n cs e q =
-    let p = b.bytes ++ (ascii.greater_than_sign ∷ c.bytes) in
-    comes-step p s syntax.child n cs (omega (arith, length-append b.bytes (ascii.greater_than_sign ∷ c.bytes)))
-    (ap component_of (append_assoc b.bytes (ascii.greater_than_sign ∷ c.bytes) s) ∙ child-read b.bytes c.bytes s b.blank c.blank e
-    ∙ ap (λ (m : ℕ). reads m syntax.child) (omega (arith, length-append b.bytes (ascii.greater_than_sign ∷ c.bytes))))
+    let p = b.bytes ++ (ascii ">" ∷ c.bytes) in
+    comes-step p s syntax.child n cs (omega (arith, length-append b.bytes (ascii ">" ∷ c.bytes)))
+    (ap component_of (append_assoc b.bytes (ascii ">" ∷ c.bytes) s) ∙ child-read b.bytes c.bytes s b.blank c.blank e
+    ∙ ap (λ (m : ℕ). reads m syntax.child) (omega (arith, length-append b.bytes (ascii ">" ∷ c.bytes))))
     q
 
 -- `>` without white space before it
 comes-greater : (c : Blanks) (s : List ℕ) (n : ℕ) (cs : List Component) → whitespace_item s ≡ 0 → Comes s n cs
-    → Comes (ascii.greater_than_sign ∷ (c.bytes ++ s)) (length (ascii.greater_than_sign ∷ c.bytes) + n) (syntax.child ∷ cs)
+    → Comes (ascii ">" ∷ (c.bytes ++ s)) (length (ascii ">" ∷ c.bytes) + n) (syntax.child ∷ cs)
 comes-greater c s n cs e q =
-    comes-step (ascii.greater_than_sign ∷ c.bytes) s syntax.child n cs (omega arith)
+    comes-step (ascii ">" ∷ c.bytes) s syntax.child n cs (omega arith)
     (child-read [] c.bytes s none c.blank e ∙ ap (λ (m : ℕ). reads m syntax.child) (omega arith)) q
 
 -- white space with what follows it is read as a descendant combinator
@@ -383,12 +383,12 @@ comes-descendant w s n cs h q =
 combinator-ended : (c : Combinator) (s : List ℕ) → Ended (written_combinator c ++ s)
 unfolding written_combinator
 combinator-ended (child b c) s =
-    subst Ended (sym (append_assoc b.bytes (ascii.greater_than_sign ∷ c.bytes) s)) (blank-ended (ascii.greater_than_sign ∷ (c.bytes ++ s)) b.blank (greater-ended (c.bytes ++ s)))
+    subst Ended (sym (append_assoc b.bytes (ascii ">" ∷ c.bytes) s)) (blank-ended (ascii ">" ∷ (c.bytes ++ s)) b.blank (greater-ended (c.bytes ++ s)))
 combinator-ended (descendant w) s = white-ended (w.more.bytes ++ s) w.white
 
 -- ---- the first byte of a selector
 -- an asterisk begins no white space and no comment
-star-item : (l : List ℕ) → whitespace_item (ascii.asterisk ∷ l) ≡ 0
+star-item : (l : List ℕ) → whitespace_item (ascii "*" ∷ l) ≡ 0
 unfolding whitespace_item is_whitespace comment_of pick or is
 star-item l = refl
 
@@ -460,17 +460,17 @@ comes_of {s} {n} e h = subst (λ (r : List Component). Comes s n r) e h
 -- `*`, `>` and a selector
 module _ (x y : Blanks) (g : Complex) where
   -- star, white space, `>`, white space and what follows are written in that order
-  star-onto : (s : List ℕ) → (ascii.asterisk ∷ x.bytes) ++ (ascii.greater_than_sign ∷ (y.bytes ++ (written g ++ s))) ≡ written (joined (universal []) (child x y) g) ++ s
+  star-onto : (s : List ℕ) → (ascii "*" ∷ x.bytes) ++ (ascii ">" ∷ (y.bytes ++ (written g ++ s))) ≡ written (joined (universal []) (child x y) g) ++ s
   unfolding written_compound written_simples written_combinator
   star-onto s =
-      ap (λ (l : List ℕ). ascii.asterisk ∷ l) (sym (append_assoc x.bytes (ascii.greater_than_sign ∷ y.bytes) (written g ++ s)))
+      ap (λ (l : List ℕ). (ascii "*") ∷ l) (sym (append_assoc x.bytes (ascii ">" ∷ y.bytes) (written g ++ s)))
       ∙ sym (joined-onto (universal []) (child x y) g s)
 
   -- the lengths of these parts add up to that of the whole
-  star-length : (m : ℕ) → length (ascii.asterisk ∷ x.bytes) + (length (ascii.greater_than_sign ∷ y.bytes) + (length (written g) + m))
+  star-length : (m : ℕ) → length (ascii "*" ∷ x.bytes) + (length (ascii ">" ∷ y.bytes) + (length (written g) + m))
       ≡ length (written (joined (universal []) (child x y) g)) + m
   unfolding written_compound written_simples written_combinator
-  star-length m = omega (arith, joined_length (universal []) (child x y) g, length-append x.bytes (ascii.greater_than_sign ∷ y.bytes))
+  star-length m = omega (arith, joined_length (universal []) (child x y) g, length-append x.bytes (ascii ">" ∷ y.bytes))
 
   -- what a star, a child combinator and a selector mean, in reading order
   star-order : (cs : List Component) → syntax.star ∷ syntax.child ∷ (in_order g ++ cs) ≡ in_order (joined (universal []) (child x y) g) ++ cs
@@ -478,7 +478,7 @@ module _ (x y : Blanks) (g : Complex) where
   star-order cs = sym (joined-order (universal []) (child x y) g cs)
 
 -- `>` is no white space
-greater-item : (l : List ℕ) → whitespace_item (ascii.greater_than_sign ∷ l) ≡ 0
+greater-item : (l : List ℕ) → whitespace_item (ascii ">" ∷ l) ≡ 0
 unfolding whitespace_item is_whitespace comment_of pick or is
 greater-item l = refl
 
@@ -492,7 +492,7 @@ module _ {b t : List ℕ} (hb : Blank b) (ht : Stops t) where
         trails = no-blank;
         all =
             comes-as refl (omega arith)
-            (comes-step (ascii.asterisk ∷ b) t syntax.star 0 [] (omega arith)
+            (comes-step (ascii "*" ∷ b) t syntax.star 0 [] (omega arith)
             (star-read b t hb (end-item ht).item ∙ ap (λ (m : ℕ). reads m syntax.star) (omega arith)) (comes-stop t (end-fails ht)));
       }
 
@@ -522,14 +522,14 @@ module _ {b t : List ℕ} (hb : Blank b) (ht : Stops t) where
       → Trailing (written (joined (universal []) (child x y) g) ++ (b ++ t)) (length (written (joined (universal []) (child x y) g)) + length b) (in_order (joined (universal []) (child x y) g))
   star-child x y g w =
       let s = written g ++ (b ++ t) in
-      let r = ascii.greater_than_sign ∷ (y.bytes ++ s) in
+      let r = ascii ">" ∷ (y.bytes ++ s) in
       record {
         trail = w.trail;
         trails = w.trails;
         all =
             comes_of (star-order x y g w.trail)
             (comes-as (star-onto x y g (b ++ t)) (star-length x y g (length b))
-            (comes-step (ascii.asterisk ∷ x.bytes) r syntax.star (length (ascii.greater_than_sign ∷ y.bytes) + (length (written g) + length b)) (syntax.child ∷ (in_order g ++ w.trail)) (omega arith)
+            (comes-step (ascii "*" ∷ x.bytes) r syntax.star (length (ascii ">" ∷ y.bytes) + (length (written g) + length b)) (syntax.child ∷ (in_order g ++ w.trail)) (omega arith)
             (star-read x.bytes r x.blank (greater-item (y.bytes ++ s)) ∙ ap (λ (m : ℕ). reads m syntax.star) (omega arith))
             (comes-greater y s _ _ (complex-item g (b ++ t)) w.all)));
       }
@@ -565,7 +565,7 @@ unfolding body_of with_element_of without_element_of components_from some_of or_
 body-unnamed s n c cs e q = rw (e, q.comes (length s) (omega arith), is-no (length (c ∷ cs)) 0 (λ z. omega arith))
 
 -- no name begins with an asterisk
-star-unnamed : (l : List ℕ) → ident_of (ascii.asterisk ∷ l) ≡ err
+star-unnamed : (l : List ℕ) → ident_of (ascii "*" ∷ l) ≡ err
 unfolding ident_of name_of name_from dash nmstart_of folded_char ident_escape_of is_nmstart parser.behind skip_whitespace many took whitespace_item is_whitespace comment_of pick or and within is
 star-unnamed l = refl
 
@@ -627,7 +627,7 @@ module _ {b t : List ℕ} (hb : Blank b) (ht : Stops t) where
       }
 
   -- a `*` alone at the start
-  star-body : (g : Complex) (l : List ℕ) (cs : List Component) → Trailing (written g ++ (b ++ t)) (length (written g) + length b) (in_order g) → written g ≡ ascii.asterisk ∷ l
+  star-body : (g : Complex) (l : List ℕ) (cs : List Component) → Trailing (written g ++ (b ++ t)) (length (written g) + length b) (in_order g) → written g ≡ ascii "*" ∷ l
       → in_order g ≡ syntax.star ∷ cs → Body (written g ++ (b ++ t)) (length (written g) + length b) (in_order g)
   star-body g l cs w e o =
       record {

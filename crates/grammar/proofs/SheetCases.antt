@@ -5,7 +5,7 @@ use mathlib.Core.List.{List, [], ◌∷◌, ◌++◌}
 use Prim.Native.Nat.{ℕ}
 use native.Mathlib.Omega.{arith}
 use lib.IntN.{pos}
-use Rattle.combinators.specs.Ascii as ascii
+use Prim.Native.Char.{code as ascii}
 use Rattle.combinators.specs.Choice.{pick, or, and, is, within}
 use Rattle.combinators.specs.Word.{starts_with, same_text}
 use Rattle.combinators.specs.All.{member}
@@ -45,25 +45,25 @@ use Rattle.grammar.proofs.GrammarCases.{nothing, blank, two}
 
 -- ---- white space and a comment
 abbrev line : Blanks
-line = record { bytes = ascii.line_feed ∷ []; blank = white ascii.line_feed [] (newline line-feed) blanks.none }
+line = record { bytes = ascii "\n" ∷ []; blank = white (ascii "\n") [] (newline line-feed) blanks.none }
 
 -- a new line with two blanks
 abbrev indent : Blanks
 indent =
     record {
-      bytes = ascii.line_feed ∷ ascii.space ∷ ascii.space ∷ [];
-      blank = white ascii.line_feed _ (newline line-feed) (white ascii.space _ blank-space (white ascii.space [] blank-space blanks.none));
+      bytes = ascii "\n" ∷ ascii " " ∷ ascii " " ∷ [];
+      blank = white (ascii "\n") _ (newline line-feed) (white (ascii " ") _ blank-space (white (ascii " ") [] blank-space blanks.none));
     }
 
 -- no end of a comment stands where no asterisk does
 unfoldable starless : ℕ → Bool
-starless x = not (is x ascii.asterisk)
+starless x = not (is x (ascii "*"))
 
 -- a text without an asterisk has no end of a comment in it
-starless-end : (p q : List ℕ) → all_of starless (p ++ (ascii.asterisk ∷ ascii.solidus ∷ q)) ≡ true → ⊥
+starless-end : (p q : List ℕ) → all_of starless (p ++ (ascii "*" ∷ ascii "/" ∷ q)) ≡ true → ⊥
 unfolding all_of
 starless-end [] q e = unfold starless and is in never e
-starless-end (x ∷ p) q e = starless-end p q (and-true (starless x) (all_of starless (p ++ (ascii.asterisk ∷ ascii.solidus ∷ q))) e).1
+starless-end (x ∷ p) q e = starless-end p q (and-true (starless x) (all_of starless (p ++ (ascii "*" ∷ ascii "/" ∷ q))) e).1
 
 -- a new line, `/* page */` and a new line
 unfoldable remark : Blanks
@@ -71,7 +71,7 @@ unfolding all_of starless and is text utf8 pick
 remark =
     record {
       bytes = text "\n/* page */\n";
-      blank = white ascii.line_feed _ (newline line-feed) (comment (text "/* page */") (text "\n") (closed (text " page ") (λ p q e. starless-end p q (sym (ap (all_of starless) e)))) line.blank);
+      blank = white (ascii "\n") _ (newline line-feed) (comment (text "/* page */") (text "\n") (closed (text " page ") (λ p q e. starless-end p q (sym (ap (all_of starless) e)))) line.blank);
     }
 
 -- ---- texts in which brackets match
@@ -83,12 +83,12 @@ plains (x ∷ w) e v = let p = and-true (balanced.is_plain x) (all_of balanced.i
 
 -- a blank before a text
 abbrev spaced : balanced.Balanced → balanced.Balanced
-spaced v = balanced.space ascii.space blank-space v
+spaced v = balanced.space (ascii " ") blank-space v
 
 -- ---- `@charset "utf-8";`, an at-rule that ends with a semicolon
 unfoldable encoding : Quoted
 unfolding is_quote plain ordinary unprocessed all_of text utf8 continuation pick or and is
-encoding = quoted ascii.quotation_mark (text "utf-8") refl refl refl
+encoding = quoted (ascii "\"") (text "utf-8") refl refl refl
 
 unfoldable charset : AtRule
 unfolding balanced.Clear balanced.Outside balanced.More balanced.Tight balanced.written_balanced ends_name ident_code_point ident_start letter is_spelt all_of spelt pick or and is within text utf8 ident folded lower
@@ -192,7 +192,7 @@ odd = record { bytes = text "1"; digits = more refl each.none; fits = omega arit
 
 unfoldable star : Quoted
 unfolding is_quote plain ordinary unprocessed all_of text utf8 continuation pick or and is
-star = quoted ascii.quotation_mark (text "* ") refl refl refl
+star = quoted (ascii "\"") (text "* ") refl refl refl
 
 unfoldable bullet : Declared
 unfolding is_spelt all_of ident folded lower ident_start ident_code_point letter known_name text utf8 pick or and is within
@@ -264,7 +264,7 @@ test-sheet = ap sheet_of (sym test-text) ∙ sheet-whole page refl
 -- ---- `b("};"/*;}*/[;])` before ` ;c`: the marks in the string, in the comment and in the brackets do not end it
 unfoldable marks : Quoted
 unfolding is_quote plain ordinary unprocessed all_of text utf8 continuation pick or and is
-marks = quoted ascii.quotation_mark (text "};") refl refl refl
+marks = quoted (ascii "\"") (text "};") refl refl refl
 
 unfoldable aside : Blanks
 unfolding all_of starless and is text utf8 pick

@@ -8,7 +8,7 @@ use native.Mathlib.Omega.{arith}
 use lib.ListN.{length, get_or, drop, length-append, drop_of_length-le}
 use lib.Seq.{drop-append-add, drop-append_seam, drop-drop}
 use borrow.Author.Tests.{not-true}
-use Rattle.combinators.specs.Ascii as ascii
+use Prim.Native.Char.{code as ascii}
 use Rattle.combinators.specs.Choice.{pick, or, and, is, within}
 use Rattle.combinators.specs.Parsed.{ok, on_parsed}
 use Rattle.combinators.specs.Parsed as parser
@@ -76,7 +76,7 @@ statement-whole {s} {t} {cs} p n k e b =
     balanced-behind q i = unfold cons stop in refl
 
 -- a semicolon ends a statement, and so does the brace that closes a block outside all brackets
-end-steps : (step_of true (bracket_of tokens.semicolon) [] ≡ values.behind) × (step_of true (bracket_of (means_closer brace)) (ascii.right_curly_bracket ∷ []) ≡ values.behind)
+end-steps : (step_of true (bracket_of tokens.semicolon) [] ≡ values.behind) × (step_of true (bracket_of (means_closer brace)) (ascii "}" ∷ []) ≡ values.behind)
 unfolding step_of bracket_of means_closer closing ending is pick
 end-steps = (refl, refl)
 
@@ -102,29 +102,29 @@ module _ (v : Balanced) (h : Clear v) (o : Outside v) (r : Tight v) (g : Blanks)
   semicolon-ends : Ended (written_balanced v ++ (g.bytes ++ written_at_end semicolon)) x
   unfolding written_at_end Level
   semicolon-ends =
-      let y = ascii.semicolon ∷ x in
-      let e : (written_balanced v ++ (g.bytes ++ (ascii.semicolon ∷ []))) ++ x ≡ written_balanced v ++ (g.bytes ++ y) =
-      append_assoc (written_balanced v) (g.bytes ++ (ascii.semicolon ∷ [])) x ∙ ap (λ (l : List ℕ). written_balanced v ++ l) (append_assoc g.bytes (ascii.semicolon ∷ []) x) in
-      ended_by (written_balanced v ++ (g.bytes ++ (ascii.semicolon ∷ []))) x e (balanced-pass true [] v (g.bytes ++ y) 0 h o r (halts g.blank (at-semicolon x))).passes
+      let y = ascii ";" ∷ x in
+      let e : (written_balanced v ++ (g.bytes ++ (ascii ";" ∷ []))) ++ x ≡ written_balanced v ++ (g.bytes ++ y) =
+      append_assoc (written_balanced v) (g.bytes ++ (ascii ";" ∷ [])) x ∙ ap (λ (l : List ℕ). written_balanced v ++ l) (append_assoc g.bytes (ascii ";" ∷ []) x) in
+      ended_by (written_balanced v ++ (g.bytes ++ (ascii ";" ∷ []))) x e (balanced-pass true [] v (g.bytes ++ y) 0 h o r (halts g.blank (at-semicolon x))).passes
       (length g.bytes + 1) tokens.semicolon (token-read g y 1 tokens.semicolon (semicolon-token x)) end-steps.0 (omega (arith, length-append g.bytes y))
 
   -- or up to the end of a block
   braces-end : (w : Balanced) (c : Clear w) (t : Tight w) (b : Blanks) → Ended (written_balanced v ++ (g.bytes ++ written_at_end (braces w c t b))) x
   unfolding written_at_end written_opening closer Level
   braces-end w c t b =
-      let z = b.bytes ++ (ascii.right_curly_bracket ∷ x) in
+      let z = b.bytes ++ (ascii "}" ∷ x) in
       let y = written_balanced w ++ z in
-      let f = written_balanced w ++ (b.bytes ++ (ascii.right_curly_bracket ∷ [])) in
+      let f = written_balanced w ++ (b.bytes ++ (ascii "}" ∷ [])) in
       let i : f ++ x ≡ y =
-      append_assoc (written_balanced w) (b.bytes ++ (ascii.right_curly_bracket ∷ [])) x ∙ ap (λ (l : List ℕ). written_balanced w ++ l) (append_assoc b.bytes (ascii.right_curly_bracket ∷ []) x) in
-      let e : (written_balanced v ++ (g.bytes ++ (ascii.left_curly_bracket ∷ f))) ++ x ≡ written_balanced v ++ (g.bytes ++ (ascii.left_curly_bracket ∷ y)) =
-      append_assoc (written_balanced v) (g.bytes ++ (ascii.left_curly_bracket ∷ f)) x
-      ∙ ap (λ (l : List ℕ). written_balanced v ++ l) (append_assoc g.bytes (ascii.left_curly_bracket ∷ f) x ∙ ap (λ (l : List ℕ). g.bytes ++ (ascii.left_curly_bracket ∷ l)) i) in
-      let p = (balanced-pass true [] v (g.bytes ++ (ascii.left_curly_bracket ∷ y)) 0 h o r (halts g.blank (at-brace y))).passes in
-      let q = passes-token {include = true} g (ascii.left_curly_bracket ∷ []) y (0 + p.taken) (means_opening brace) [] (ascii.right_curly_bracket ∷ []) (opening-begins brace y) (opening-goes true g brace []) in
-      let m = (balanced-pass true (ascii.right_curly_bracket ∷ []) w z (0 + p.taken + q.taken) c tt t (halts b.blank (closed brace x))).passes in
-      ended_by (written_balanced v ++ (g.bytes ++ (ascii.left_curly_bracket ∷ f))) x e (passes_on p (passes_on q m)) (length b.bytes + 1) (means_closer brace) (closer-read b brace x) end-steps.1
-      (omega (arith, length-append b.bytes (ascii.right_curly_bracket ∷ x)))
+      append_assoc (written_balanced w) (b.bytes ++ (ascii "}" ∷ [])) x ∙ ap (λ (l : List ℕ). written_balanced w ++ l) (append_assoc b.bytes (ascii "}" ∷ []) x) in
+      let e : (written_balanced v ++ (g.bytes ++ (ascii "{" ∷ f))) ++ x ≡ written_balanced v ++ (g.bytes ++ (ascii "{" ∷ y)) =
+      append_assoc (written_balanced v) (g.bytes ++ (ascii "{" ∷ f)) x
+      ∙ ap (λ (l : List ℕ). written_balanced v ++ l) (append_assoc g.bytes (ascii "{" ∷ f) x ∙ ap (λ (l : List ℕ). g.bytes ++ (ascii "{" ∷ l)) i) in
+      let p = (balanced-pass true [] v (g.bytes ++ (ascii "{" ∷ y)) 0 h o r (halts g.blank (at-brace y))).passes in
+      let q = passes-token {include = true} g (ascii "{" ∷ []) y (0 + p.taken) (means_opening brace) [] (ascii "}" ∷ []) (opening-begins brace y) (opening-goes true g brace []) in
+      let m = (balanced-pass true (ascii "}" ∷ []) w z (0 + p.taken + q.taken) c tt t (halts b.blank (closed brace x))).passes in
+      ended_by (written_balanced v ++ (g.bytes ++ (ascii "{" ∷ f))) x e (passes_on p (passes_on q m)) (length b.bytes + 1) (means_closer brace) (closer-read b brace x) end-steps.1
+      (omega (arith, length-append b.bytes (ascii "}" ∷ x)))
 
   -- either way an at-rule ends where its statement does
   body-ends : (e : AtEnd) → Ended (written_balanced v ++ (g.bytes ++ written_at_end e)) x
@@ -134,17 +134,17 @@ module _ (v : Balanced) (h : Clear v) (o : Outside v) (r : Tight v) (g : Blanks)
 -- a token ends before white space and the end of an at-rule
 at-halts : (g : Blanks) (e : AtEnd) (x : List ℕ) → Halts ((g.bytes ++ written_at_end e) ++ x)
 unfolding written_at_end
-at-halts g semicolon x = subst Halts (sym (append_assoc g.bytes (ascii.semicolon ∷ []) x)) (halts g.blank (at-semicolon x))
+at-halts g semicolon x = subst Halts (sym (append_assoc g.bytes (ascii ";" ∷ []) x)) (halts g.blank (at-semicolon x))
 at-halts g (braces w c t b) x =
-    let f = written_balanced w ++ (b.bytes ++ (ascii.right_curly_bracket ∷ [])) in
-    subst Halts (sym (append_assoc g.bytes (ascii.left_curly_bracket ∷ f) x)) (halts g.blank (at-brace (f ++ x)))
+    let f = written_balanced w ++ (b.bytes ++ (ascii "}" ∷ [])) in
+    subst Halts (sym (append_assoc g.bytes (ascii "{" ∷ f) x)) (halts g.blank (at-brace (f ++ x)))
 
 -- what an ident sequence ends before
-name-ends : (x : ℕ) → ends_name x ≡ true → (ident_code_point x ≡ false) × ¬ (x ≡ ascii.reverse_solidus)
+name-ends : (x : ℕ) → ends_name x ≡ true → (ident_code_point x ≡ false) × ¬ (x ≡ ascii "\\")
 unfolding ends_name
 name-ends x e =
     let n = neither _ _ (not-true _ e) in
-    (n.0, λ q. never (sym n.1 ∙ ap (λ (y : ℕ). is y ascii.reverse_solidus) q ∙ (unfold is in refl)))
+    (n.0, λ q. never (sym n.1 ∙ ap (λ (y : ℕ). is y (ascii "\\")) q ∙ (unfold is in refl)))
 
 -- the body of an at-rule ends its name
 body-first : (w z : List ℕ) → ends_name (get_or w 0 0) ≡ true → Halts z → ends_name (get_or (w ++ z) 0 0) ≡ true
@@ -153,12 +153,12 @@ body-first (y ∷ w) z e h = e
 
 -- ---- an at-rule where it stands
 -- '@' begins no white space, no selector and no block
-at_first : (l : List ℕ) → (whitespace_item (ascii.commercial_at ∷ l) ≡ 0) × (selectors_of (ascii.commercial_at ∷ l) ≡ reads 0 [])
+at_first : (l : List ℕ) → (whitespace_item (ascii "@" ∷ l) ≡ 0) × (selectors_of (ascii "@" ∷ l) ≡ reads 0 [])
 unfolding selectors_of selector_of body_of with_element_of without_element_of some_of components_from components_of component_of marked blank_of class_of attr_of hash_of pseudo_class_of on_outcome or_else parsed on_parsed ident_of name_of name_from dash nmstart_of folded_char ident_escape_of is_nmstart parser.behind skip_whitespace many took whitespace_item is_whitespace comment_of pick or and within is
 at_first l = (refl, refl)
 
 -- where no selector stands behind white space, and no block, there is no rule
-no-rule : (t : List ℕ) (w : ℕ) (u : List ℕ) → skip_whitespace t ≡ w → drop w t ≡ u → selectors_of u ≡ reads 0 [] → whitespace_item u ≡ 0 → is (get_or t w 0) ascii.left_curly_bracket ≡ false
+no-rule : (t : List ℕ) (w : ℕ) (u : List ℕ) → skip_whitespace t ≡ w → drop w t ≡ u → selectors_of u ≡ reads 0 [] → whitespace_item u ≡ 0 → is (get_or t w 0) (ascii "{") ≡ false
     → ruleset_of t ≡ fails
 unfolding ruleset_of on_outcome behind
 no-rule t w u e d p z f = rw (e, d, p, no_block) refl
@@ -172,7 +172,7 @@ unfolding statements_of behind on_outcome or_else
 at-statement t n e p = rw (e, p)
 
 -- by its parts: '@' at w, its name, and its body
-at-by : (t : List ℕ) (w : ℕ) (name body x value : List ℕ) → skip_whitespace t ≡ w → get_or t w 0 ≡ ascii.commercial_at → spaced t (w + 1) ≡ w + 1 → drop (w + 1) t ≡ name ++ (body ++ x)
+at-by : (t : List ℕ) (w : ℕ) (name body x value : List ℕ) → skip_whitespace t ≡ w → get_or t w 0 ≡ ascii "@" → spaced t (w + 1) ≡ w + 1 → drop (w + 1) t ≡ name ++ (body ++ x)
     → ident_of (name ++ (body ++ x)) ≡ ok (length name) value → Ended body x → at_rule_of t ≡ reads (w + 1 + length name + length body) []
 unfolding at_rule_of pick is on_parsed
 at-by t w name body x value e b s d i h = rw (e, b, s, d, i) (end_by (w + 1 + length name) (rest-on t (w + 1) name (body ++ x) d))
@@ -181,9 +181,9 @@ at-by t w name body x value e b s d i h = rw (e, b, s, d, i) (end_by (w + 1 + le
     end_by n k = unfold statement_end pick in rw (k, h.balanced, h.taken)
 
 -- what is written, with x behind it
-at-onto : (a : AtRule) (x : List ℕ) → written_at a ++ x ≡ ascii.commercial_at ∷ (a.name.bytes ++ (written_body a ++ x))
+at-onto : (a : AtRule) (x : List ℕ) → written_at a ++ x ≡ ascii "@" ∷ (a.name.bytes ++ (written_body a ++ x))
 unfolding written_at written_body
-at-onto a x = ap (λ (l : List ℕ). ascii.commercial_at ∷ l) (append_assoc a.name.bytes (written_balanced a.prelude ++ (a.gap.bytes ++ written_at_end a.end)) x)
+at-onto a x = ap (λ (l : List ℕ). (ascii "@") ∷ l) (append_assoc a.name.bytes (written_balanced a.prelude ++ (a.gap.bytes ++ written_at_end a.end)) x)
 
 -- and how long it is
 at_length : (a : AtRule) → length (written_at a) ≡ 1 + length a.name.bytes + length (written_body a)
@@ -207,20 +207,20 @@ at_read b a x =
     let t = b.bytes ++ (written_at a ++ x) in
     let w = length b.bytes in
     let f = at_first y in
-    let d : drop w t ≡ ascii.commercial_at ∷ y = drop-append_seam b.bytes (written_at a ++ x) ∙ at-onto a x in
-    let s : skip_whitespace t ≡ w = ap (λ (l : List ℕ). skip_whitespace (b.bytes ++ l)) (at-onto a x) ∙ skips-blank b.bytes (ascii.commercial_at ∷ y) b.blank f.0 in
-    let c = byte-on t w ascii.commercial_at y d in
-    let i = rest-one t w ascii.commercial_at y d in
+    let d : drop w t ≡ ascii "@" ∷ y = drop-append_seam b.bytes (written_at a ++ x) ∙ at-onto a x in
+    let s : skip_whitespace t ≡ w = ap (λ (l : List ℕ). skip_whitespace (b.bytes ++ l)) (at-onto a x) ∙ skips-blank b.bytes (ascii "@" ∷ y) b.blank f.0 in
+    let c = byte-on t w (ascii "@") y d in
+    let i = rest-one t w (ascii "@") y d in
     let p = spaced-none t (w + 1) y (name-item a.name (written_body a ++ x)) i in
     let m : w + 1 + length n + length (written_body a) ≡ w + length (written_at a) = omega (arith, at_length a) in
-    at-statement t (w + length (written_at a)) (no-rule t w (ascii.commercial_at ∷ y) s d f.1 f.0 (ap (λ (j : ℕ). is j ascii.left_curly_bracket) c ∙ (unfold is in refl)))
+    at-statement t (w + length (written_at a)) (no-rule t w (ascii "@" ∷ y) s d f.1 f.0 (ap (λ (j : ℕ). is j (ascii "{")) c ∙ (unfold is in refl)))
     (at-by t w n (written_body a) x (folded a.name) s c p i (at_name a x) (unfold written_body in body-ends a.prelude a.clear a.outside a.tight a.gap x a.end) ∙ ap (λ (j : ℕ). reads j []) m)
 
 -- ---- rules
 -- a block begins with a brace
 record Braced (t : List ℕ) : Type 0 where
   inside : List ℕ
-  braced : t ≡ ascii.left_curly_bracket ∷ inside
+  braced : t ≡ ascii "{" ∷ inside
 
 -- so does any block of the grammar
 block-braced : (k : Block) (x : List ℕ) → Braced (written_block k ++ x)
@@ -271,7 +271,7 @@ rule-read b r x h =
     let g = written_group r.selectors in
     let v = block-braced r.block (r.behind.bytes ++ x) in
     let k = group-read r.selectors v.inside in
-    let z = ascii.left_curly_bracket ∷ v.inside in
+    let z = ascii "{" ∷ v.inside in
     let j : g ++ y ≡ g ++ z = ap (λ (l : List ℕ). g ++ l) v.braced in
     let d : drop w t ≡ g ++ y = drop-append_seam b.bytes (written_rule r ++ x) ∙ rule-onto r x in
     let i : drop (w + k.taken) t ≡ k.left.bytes ++ z = sym (drop-drop k.taken w t) ∙ ap (drop k.taken) (d ∙ j) ∙ k.rest in
@@ -339,7 +339,7 @@ blank-statement b =
     let t = b.bytes in
     let s : skip_whitespace t ≡ length t = ap skip_whitespace (sym (append-nil t)) ∙ skips-blank t [] b.blank end-first.0 in
     let z : get_or t (length t) 0 ≡ 0 = ap (λ (l : List ℕ). get_or l (length t) 0) (sym (append-nil t)) ∙ behind-blank t [] in
-    no-statement t (no-rule t (length t) [] s (drop_of_length-le t {i = length t} (omega arith)) end-first.1 end-first.0 (ap (λ (j : ℕ). is j ascii.left_curly_bracket) z ∙ (unfold is in refl)))
+    no-statement t (no-rule t (length t) [] s (drop_of_length-le t {i = length t} (omega arith)) end-first.1 end-first.0 (ap (λ (j : ℕ). is j (ascii "{")) z ∙ (unfold is in refl)))
     (no-at t (length t) s z)
   where
     no-at : (t : List ℕ) (w : ℕ) → skip_whitespace t ≡ w → get_or t w 0 ≡ 0 → at_rule_of t ≡ fails

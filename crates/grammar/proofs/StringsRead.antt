@@ -9,7 +9,7 @@ use native.Mathlib.Omega.{arith}
 use lib.ListN.{length, length-append}
 use lib.Seq.{get_or-append_seam}
 use borrow.Author.Tests.{not-true}
-use Rattle.combinators.specs.Ascii as ascii
+use Prim.Native.Char.{code as ascii}
 use Rattle.combinators.specs.Choice.{pick, or, is}
 use Rattle.combinators.specs.Parsed.{ok}
 use Rattle.combinators.specs.Repeat.{many, texts}
@@ -26,43 +26,43 @@ byte-read : (q x : ℕ) (r : List ℕ) → ordinary q x ≡ true → quoted_of q
 unfolding ordinary quoted_of pick
 byte-read q x r h =
     let p = and-true (not (is x q)) _ h in
-    let p' = and-true (not (is x ascii.line_feed)) _ p.1 in
+    let p' = and-true (not (is x (ascii "\n"))) _ p.1 in
     rw (
       is-no (suc (length r)) 0 (λ e. omega arith),
       not-true (is x q) p.0,
-      not-true (is x ascii.line_feed) p'.0,
-      not-true (is x ascii.reverse_solidus) p'.1,
+      not-true (is x (ascii "\n")) p'.0,
+      not-true (is x (ascii "\\")) p'.1,
     )
 
 module _ (q : ℕ) (h : is_quote q ≡ true) where
   -- a backslash is no quote
-  unquoted : is ascii.reverse_solidus q ≡ false
-  unquoted = is-no ascii.reverse_solidus q (λ e. let p : is_quote ascii.reverse_solidus ≡ false = unfold is_quote or is in refl in never (sym p ∙ ap is_quote e ∙ h))
+  unquoted : is (ascii "\\") q ≡ false
+  unquoted = is-no (ascii "\\") q (λ e. let p : is_quote (ascii "\\") ≡ false = unfold is_quote or is in refl in never (sym p ∙ ap is_quote e ∙ h))
 
   -- so what it stands before is read as itself
-  escaped-read : (x : ℕ) (r : List ℕ) → is x ascii.line_feed ≡ false → quoted_of q (ascii.reverse_solidus ∷ x ∷ r) ≡ Some (one_byte 2 x)
+  escaped-read : (x : ℕ) (r : List ℕ) → is x (ascii "\n") ≡ false → quoted_of q (ascii "\\" ∷ x ∷ r) ≡ Some (one_byte 2 x)
   unfolding quoted_of escaped_byte pick
   escaped-read x r e =
       rw (
         is-no (suc (suc (length r))) 0 (λ z. omega arith),
         unquoted,
-        is-no ascii.reverse_solidus ascii.line_feed (λ z. omega arith),
-        is-yes ascii.reverse_solidus ascii.reverse_solidus refl,
+        is-no (ascii "\\") (ascii "\n") (λ z. omega arith),
+        is-yes (ascii "\\") (ascii "\\") refl,
         is-no (suc (suc (length r))) 1 (λ z. omega arith),
         e,
       )
 
   -- and with a newline it is nothing
-  continued-read : (r : List ℕ) → quoted_of q (ascii.reverse_solidus ∷ ascii.line_feed ∷ r) ≡ Some (no_byte 2)
+  continued-read : (r : List ℕ) → quoted_of q (ascii "\\" ∷ ascii "\n" ∷ r) ≡ Some (no_byte 2)
   unfolding quoted_of escaped_byte pick
   continued-read r =
       rw (
         is-no (suc (suc (length r))) 0 (λ z. omega arith),
         unquoted,
-        is-no ascii.reverse_solidus ascii.line_feed (λ z. omega arith),
-        is-yes ascii.reverse_solidus ascii.reverse_solidus refl,
+        is-no (ascii "\\") (ascii "\n") (λ z. omega arith),
+        is-yes (ascii "\\") (ascii "\\") refl,
         is-no (suc (suc (length r))) 1 (λ z. omega arith),
-        is-yes ascii.line_feed ascii.line_feed refl,
+        is-yes (ascii "\n") (ascii "\n") refl,
       )
 
   module _ (u : List ℕ) where
@@ -86,10 +86,10 @@ module _ (q : ℕ) (h : is_quote q ≡ true) where
         many-took (quoted_taken q) (x ∷ (w ++ (q ∷ u))) i 1 (omega arith) (ap taken_of (byte-read q x (w ++ (q ∷ u)) e)) (λ z. omega arith)
         ∙ within_end s (i + 1) ∙ omega arith
     within_end (escaped {x} {w} d e s) i =
-        many-took (quoted_taken q) (ascii.reverse_solidus ∷ x ∷ (w ++ (q ∷ u))) i 2 (omega arith) (ap taken_of (escaped-read x (w ++ (q ∷ u)) e)) (λ z. omega arith)
+        many-took (quoted_taken q) (ascii "\\" ∷ x ∷ (w ++ (q ∷ u))) i 2 (omega arith) (ap taken_of (escaped-read x (w ++ (q ∷ u)) e)) (λ z. omega arith)
         ∙ within_end s (i + 2) ∙ omega arith
     within_end (continued {w} s) i =
-        many-took (quoted_taken q) (ascii.reverse_solidus ∷ ascii.line_feed ∷ (w ++ (q ∷ u))) i 2 (omega arith) (ap taken_of (continued-read (w ++ (q ∷ u)))) (λ z. omega arith)
+        many-took (quoted_taken q) (ascii "\\" ∷ ascii "\n" ∷ (w ++ (q ∷ u))) i 2 (omega arith) (ap taken_of (continued-read (w ++ (q ∷ u)))) (λ z. omega arith)
         ∙ within_end s (i + 2) ∙ omega arith
 
     -- and the text that it is
@@ -102,11 +102,11 @@ module _ (q : ℕ) (h : is_quote q ≡ true) where
         ∙ ap (λ (t : List ℕ). t ++ texts (quoted_taken q) (quoted_text q) 0 (w ++ (q ∷ u))) (ap text_of p) ∙ ap (λ (t : List ℕ). x ∷ t) (within_text s)
     within_text (escaped {x} {w} d e s) =
         let p = escaped-read x (w ++ (q ∷ u)) e in
-        texts-took (quoted_taken q) (quoted_text q) (ascii.reverse_solidus ∷ x ∷ (w ++ (q ∷ u))) 2 (omega arith) (ap taken_of p) (λ z. omega arith)
+        texts-took (quoted_taken q) (quoted_text q) (ascii "\\" ∷ x ∷ (w ++ (q ∷ u))) 2 (omega arith) (ap taken_of p) (λ z. omega arith)
         ∙ ap (λ (t : List ℕ). t ++ texts (quoted_taken q) (quoted_text q) 0 (w ++ (q ∷ u))) (ap text_of p) ∙ ap (λ (t : List ℕ). x ∷ t) (within_text s)
     within_text (continued {w} s) =
         let p = continued-read (w ++ (q ∷ u)) in
-        texts-took (quoted_taken q) (quoted_text q) (ascii.reverse_solidus ∷ ascii.line_feed ∷ (w ++ (q ∷ u))) 2 (omega arith) (ap taken_of p) (λ z. omega arith)
+        texts-took (quoted_taken q) (quoted_text q) (ascii "\\" ∷ ascii "\n" ∷ (w ++ (q ∷ u))) 2 (omega arith) (ap taken_of p) (λ z. omega arith)
         ∙ ap (λ (t : List ℕ). t ++ texts (quoted_taken q) (quoted_text q) 0 (w ++ (q ∷ u))) (ap text_of p) ∙ within_text s
 
 -- a string that its quote ends

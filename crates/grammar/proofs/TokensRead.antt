@@ -9,7 +9,7 @@ use native.Mathlib.Omega.{arith}
 use borrow.Author.Tests.{lt-leb, not-true}
 use lib.ListN.{length, get_or, drop, length-append}
 use lib.Seq.{get_or-drop, get_or-append-add, drop-append_seam, take-append_seam}
-use Rattle.combinators.specs.Ascii as ascii
+use Prim.Native.Char.{code as ascii}
 use Rattle.combinators.specs.Choice.{pick, or, and, is, within}
 use Rattle.combinators.specs.Parsed.{Parsed, ok, err, on_parsed, behind, or_else}
 use Rattle.combinators.specs.Repeat.{many, took}
@@ -66,8 +66,8 @@ begins-by x l n k e h p = record { item = e; reads = rw (ascii-read x l h, p) }
 
 -- ---- names: 4.3.4, Consume an ident-like token
 -- no mark is an ident-start code point
-start-marks : (ident_start ascii.quotation_mark ≡ false) × (ident_start ascii.apostrophe ≡ false) × (ident_start ascii.number_sign ≡ false) × (ident_start ascii.plus_sign ≡ false)
-    × (ident_start ascii.hyphen_minus ≡ false) × (ident_start ascii.full_stop ≡ false) × (ident_start ascii.less_than_sign ≡ false) × (ident_start ascii.reverse_solidus ≡ false)
+start-marks : (ident_start (ascii "\"") ≡ false) × (ident_start (ascii "'") ≡ false) × (ident_start (ascii "#") ≡ false) × (ident_start (ascii "+") ≡ false)
+    × (ident_start (ascii "-") ≡ false) × (ident_start (ascii ".") ≡ false) × (ident_start (ascii "<") ≡ false) × (ident_start (ascii "\\") ≡ false)
 unfolding ident_start letter or and within is
 start-marks = (refl, refl, refl, refl, refl, refl, refl, refl)
 
@@ -81,54 +81,54 @@ start-letter : (x : ℕ) (l : List ℕ) → ident_start x ≡ true → token_wit
 unfolding token_with is_quote pick or
 start-letter x l e =
     rw (
-      differs ident_start x ascii.quotation_mark e start-marks.0,
-      differs ident_start x ascii.apostrophe e start-marks.1,
-      differs ident_start x ascii.number_sign e start-marks.2,
-      differs ident_start x ascii.plus_sign e start-marks.3,
-      differs ident_start x ascii.hyphen_minus e start-marks.4,
-      differs ident_start x ascii.full_stop e start-marks.5,
-      differs ident_start x ascii.less_than_sign e start-marks.6,
-      differs ident_start x ascii.reverse_solidus e start-marks.7,
+      differs ident_start x (ascii "\"") e start-marks.0,
+      differs ident_start x (ascii "'") e start-marks.1,
+      differs ident_start x (ascii "#") e start-marks.2,
+      differs ident_start x (ascii "+") e start-marks.3,
+      differs ident_start x (ascii "-") e start-marks.4,
+      differs ident_start x (ascii ".") e start-marks.5,
+      differs ident_start x (ascii "<") e start-marks.6,
+      differs ident_start x (ascii "\\") e start-marks.7,
       crate-start x e,
     )
 
 -- it is of ASCII, and above the digits
-start_between : (x : ℕ) → ident_start x ≡ true → (x ≤ 0x7f) × (ascii.digit_nine + 1 ≤ x)
+start_between : (x : ℕ) → ident_start x ≡ true → (x ≤ 0x7f) × (ascii "9" + 1 ≤ x)
 unfolding ident_start letter
 start_between x e =
-    either ((x ≤ 0x7f) × (ascii.digit_nine + 1 ≤ x)) _ _ e
-    (λ l. either ((x ≤ 0x7f) × (ascii.digit_nine + 1 ≤ x)) _ _ l
-    (λ w. let h = within-true x ascii.capital_a ascii.capital_z w in (omega arith, omega arith))
-    (λ w. let h = within-true x ascii.small_a ascii.small_z w in (omega arith, omega arith)))
-    (λ w. let h = is_true x ascii.low_line w in (omega arith, omega arith))
+    either ((x ≤ 0x7f) × (ascii "9" + 1 ≤ x)) _ _ e
+    (λ l. either ((x ≤ 0x7f) × (ascii "9" + 1 ≤ x)) _ _ l
+    (λ w. let h = within-true x (ascii "A") (ascii "Z") w in (omega arith, omega arith))
+    (λ w. let h = within-true x (ascii "a") (ascii "z") w in (omega arith, omega arith)))
+    (λ w. let h = is_true x (ascii "_") w in (omega arith, omega arith))
 
 -- nothing that is neither a digit nor a full stop begins a number without a sign
-no_unsigned : (t : List ℕ) → is_digit (get_or t 0 0) ≡ false → is (get_or t 0 0) ascii.full_stop ≡ false → numbers.unsigned t ≡ 0
+no_unsigned : (t : List ℕ) → is_digit (get_or t 0 0) ≡ false → is (get_or t 0 0) (ascii ".") ≡ false → numbers.unsigned t ≡ 0
 unfolding numbers.unsigned numbers.decimal pick is
 no_unsigned t d e = rw (digits-read none t d, e)
 
 -- so behind a '-' there is none
-minus-none : (t : List ℕ) → is_digit (get_or t 0 0) ≡ false → is (get_or t 0 0) ascii.full_stop ≡ false → numeric_of (ascii.hyphen_minus ∷ t) ≡ err
+minus-none : (t : List ℕ) → is_digit (get_or t 0 0) ≡ false → is (get_or t 0 0) (ascii ".") ≡ false → numeric_of (ascii "-" ∷ t) ≡ err
 unfolding numeric_of numbers.number numbers.signed numbers.sign skip_whitespace whitespace_item is_whitespace comment_of many took pick or is
 minus-none t d e = rw (no_unsigned t d e)
 
 -- as before an ident-start code point
-dashed-number : (x : ℕ) (l : List ℕ) → ident_start x ≡ true → numeric_of (ascii.hyphen_minus ∷ x ∷ l) ≡ err
+dashed-number : (x : ℕ) (l : List ℕ) → ident_start x ≡ true → numeric_of (ascii "-" ∷ x ∷ l) ≡ err
 unfolding is_digit
 dashed-number x l e =
     let b = (start_between x e).1 in
-    minus-none (x ∷ l) (within-past x ascii.digit_zero ascii.digit_nine (omega arith)) (is-no x ascii.full_stop (λ q. omega arith))
+    minus-none (x ∷ l) (within-past x (ascii "0") (ascii "9") (omega arith)) (is-no x (ascii ".") (λ q. omega arith))
 
 -- what an ident-start code point begins is what the reader of names reads
 letter-begins : (x : ℕ) (l : List ℕ) (n : ℕ) (k : Token) → ident_start x ≡ true → ident_like_of (x ∷ l) ≡ ok n k → Begins (x ∷ l) n k
 letter-begins x l n k e p = begins-by x l n k (code-point-item x l (start-code-point x e)) (start_between x e).0 (start-letter x (x ∷ l) e ∙ p)
 
 -- and so is what a '-' begins before one
-dash-begins : (x : ℕ) (l : List ℕ) (n : ℕ) (k : Token) → ident_start x ≡ true → ident_like_of (ascii.hyphen_minus ∷ x ∷ l) ≡ ok n k → Begins (ascii.hyphen_minus ∷ x ∷ l) n k
+dash-begins : (x : ℕ) (l : List ℕ) (n : ℕ) (k : Token) → ident_start x ≡ true → ident_like_of (ascii "-" ∷ x ∷ l) ≡ ok n k → Begins (ascii "-" ∷ x ∷ l) n k
 unfolding token_with is_quote minus_of or_else starts_with text utf8 pick or and is
 dash-begins x l n k e p =
-    begins-by ascii.hyphen_minus (x ∷ l) n k (code-point-item ascii.hyphen_minus (x ∷ l) hyphen-code-point) (omega arith)
-    (rw (dashed-number x l e, differs ident_start x ascii.hyphen_minus e start-marks.4, p))
+    begins-by (ascii "-") (x ∷ l) n k (code-point-item (ascii "-") (x ∷ l) hyphen-code-point) (omega arith)
+    (rw (dashed-number x l e, differs ident_start x (ascii "-") e start-marks.4, p))
 
 -- so of every name
 name-begins : (bytes t : List ℕ) (n : ℕ) (k : Token) → IdentSequence bytes → ident_like_of (bytes ++ t) ≡ ok n k → Begins (bytes ++ t) n k
@@ -138,7 +138,7 @@ name-begins _ t n k (dashed {x} {r} e s) p = dash-begins x (r ++ t) n k e p
 -- a name ends before t
 pub record NameEnds (t : List ℕ) : Type 0 where
   pub no-character : ident_code_point (get_or t 0 0) ≡ false
-  pub no-escape : ¬ (get_or t 0 0 ≡ ascii.reverse_solidus)
+  pub no-escape : ¬ (get_or t 0 0 ≡ ascii "\\")
 
 -- where the grammar's test says so, a name ends
 name-ends : (t : List ℕ) → ends_name (get_or t 0 0) ≡ true → NameEnds t
@@ -153,28 +153,28 @@ unfolding folded
 name-whole n t h = ident-sequence n.bytes t n.sequence h.no-character h.no-escape
 
 -- no bracket follows the name
-like-ident : (n : Ident) (t : List ℕ) → NameEnds t → is (get_or t 0 0) ascii.left_parenthesis ≡ false → ident_like_of (n.bytes ++ t) ≡ ok (length n.bytes) (tokens.ident (folded n))
+like-ident : (n : Ident) (t : List ℕ) → NameEnds t → is (get_or t 0 0) (ascii "(") ≡ false → ident_like_of (n.bytes ++ t) ≡ ok (length n.bytes) (tokens.ident (folded n))
 unfolding ident_like_of on_parsed pick
 like-ident n t h d = rw (name-whole n t h, behind-blank n.bytes t, d)
 
 -- "Otherwise, return an <ident-token> with its value set to string"
-pub ident-token : (n : Ident) (t : List ℕ) → ends_name (get_or t 0 0) ≡ true → is (get_or t 0 0) ascii.left_parenthesis ≡ false
+pub ident-token : (n : Ident) (t : List ℕ) → ends_name (get_or t 0 0) ≡ true → is (get_or t 0 0) (ascii "(") ≡ false
     → Begins (n.bytes ++ t) (length n.bytes) (tokens.ident (folded n))
 ident-token n t e d = name-begins n.bytes t _ _ n.sequence (like-ident n t (name-ends t e) d)
 
 -- a name ends before a round bracket
-round-ends : (t : List ℕ) → NameEnds (ascii.left_parenthesis ∷ t)
+round-ends : (t : List ℕ) → NameEnds (ascii "(" ∷ t)
 unfolding ident_code_point ident_start letter or and within is
 round-ends t = record { no-character = refl; no-escape = λ q. omega arith }
 
 -- a name directly before a round bracket is read with it, as a function
-like-function : (n : Ident) (t : List ℕ) → ident_like_of (n.bytes ++ (ascii.left_parenthesis ∷ t)) ≡ ok (length n.bytes + 1) (tokens.function (folded n))
+like-function : (n : Ident) (t : List ℕ) → ident_like_of (n.bytes ++ (ascii "(" ∷ t)) ≡ ok (length n.bytes + 1) (tokens.function (folded n))
 unfolding ident_like_of on_parsed pick is
-like-function n t = rw (name-whole n (ascii.left_parenthesis ∷ t) (round-ends t), behind-blank n.bytes (ascii.left_parenthesis ∷ t))
+like-function n t = rw (name-whole n (ascii "(" ∷ t) (round-ends t), behind-blank n.bytes (ascii "(" ∷ t))
 
 -- "if the next input code point is U+0028 LEFT PARENTHESIS, consume it. Return a <function-token> with its value set to string"
-pub function-token : (n : Ident) (t : List ℕ) → Begins (n.bytes ++ (ascii.left_parenthesis ∷ t)) (length n.bytes + 1) (tokens.function (folded n))
-function-token n t = name-begins n.bytes (ascii.left_parenthesis ∷ t) _ _ n.sequence (like-function n t)
+pub function-token : (n : Ident) (t : List ℕ) → Begins (n.bytes ++ (ascii "(" ∷ t)) (length n.bytes + 1) (tokens.function (folded n))
+function-token n t = name-begins n.bytes (ascii "(" ∷ t) _ _ n.sequence (like-function n t)
 
 -- ---- hashes: 4.3.1, U+0023 NUMBER SIGN
 -- no character of a name is read where a name ends
@@ -214,12 +214,12 @@ hash-named h t e =
     hash-unskipped _ t (more {x} {r} e es) l = skips-blank [] (x ∷ (r ++ t)) blanks.none (code-point-item x (r ++ t) e)
 
 -- behind '#' the characters of a name are a hash
-hash-begins : (l : List ℕ) (m : ℕ) (b : List ℕ) → identstring_of l ≡ ok m b → Begins (ascii.number_sign ∷ l) (1 + m) (tokens.hash b)
+hash-begins : (l : List ℕ) (m : ℕ) (b : List ℕ) → identstring_of l ≡ ok m b → Begins (ascii "#" ∷ l) (1 + m) (tokens.hash b)
 unfolding whitespace_item is_whitespace comment_of token_with is_quote hash_of on_parsed pick or is
-hash-begins l m b p = begins-by ascii.number_sign l (1 + m) (tokens.hash b) refl (omega arith) (rw p)
+hash-begins l m b p = begins-by (ascii "#") l (1 + m) (tokens.hash b) refl (omega arith) (rw p)
 
 -- "If the next input code point is an ident code point ..: Consume an ident sequence, and set the <hash-token>'s value to the returned string"
-pub hash-token : (h : Hashed) (t : List ℕ) → ends_name (get_or t 0 0) ≡ true → Begins (ascii.number_sign ∷ (h.bytes ++ t)) (1 + length h.bytes) (tokens.hash (map lower h.bytes))
+pub hash-token : (h : Hashed) (t : List ℕ) → ends_name (get_or t 0 0) ≡ true → Begins (ascii "#" ∷ (h.bytes ++ t)) (1 + length h.bytes) (tokens.hash (map lower h.bytes))
 hash-token h t e = hash-begins (h.bytes ++ t) _ _ (hash-named h t (name-ends t e))
 
 -- a digit is an ident code point
@@ -246,7 +246,7 @@ quote-unblank = record { of_space = refl; of-tab = refl; of-line-feed = refl; of
 quote-low : (q : ℕ) → is_quote q ≡ true → q ≤ 0x7f
 unfolding is_quote
 quote-low q e =
-    either (q ≤ 0x7f) _ _ e (λ w. let h = is_true q ascii.quotation_mark w in omega arith) (λ w. let h = is_true q ascii.apostrophe w in omega arith)
+    either (q ≤ 0x7f) _ _ e (λ w. let h = is_true q (ascii "\"") w in omega arith) (λ w. let h = is_true q (ascii "'") w in omega arith)
 
 -- what a quote begins is a string
 quote-begins : (q : ℕ) (l : List ℕ) (n : ℕ) (k : Token) → is_quote q ≡ true → string_of (q ∷ l) ≡ ok n k → Begins (q ∷ l) n k
@@ -259,12 +259,12 @@ string-token q t = quote-begins q.quote (q.bytes ++ (q.quote ∷ t)) _ _ q.quote
 
 -- ---- numbers: 4.3.12, Consume a number; 4.3.3, Consume a numeric token
 -- no digit begins with a full stop
-pub stop-digits : (l : List ℕ) → digits (ascii.full_stop ∷ l) ≡ 0
+pub stop-digits : (l : List ℕ) → digits (ascii "." ∷ l) ≡ 0
 unfolding digits one_digit is_digit many took pick and within
 stop-digits l = refl
 
 -- a full stop and digits are a decimal
-stop-decimal : (l : List ℕ) (n : ℕ) → digits l ≡ n → 1 ≤ n → numbers.decimal (ascii.full_stop ∷ l) ≡ 1 + n
+stop-decimal : (l : List ℕ) (n : ℕ) → digits l ≡ n → 1 ≤ n → numbers.decimal (ascii "." ∷ l) ≡ 1 + n
 unfolding numbers.decimal pick is
 stop-decimal l n e h = rw (stop-digits l, e, is-no n 0 (λ z. omega arith)) (omega arith)
 
@@ -277,7 +277,7 @@ unsigned-read true ds u h l e = sym (pick_true _ _ _ _ (is-yes _ _ (stop-digits 
 
 -- what it begins with: a digit or a full stop
 unfoldable pub unsigned_first : ℕ → Bool
-unsigned_first x = or (is_digit x) (is x ascii.full_stop)
+unsigned_first x = or (is_digit x) (is x (ascii "."))
 
 -- a number without its sign does begin with one of these
 pub unsigned-first : (f : Bool) (ds u : List ℕ) → Each is_digit ds → 1 ≤ length ds → unsigned_first (get_or (written_stop f ++ (ds ++ u)) 0 0) ≡ true
@@ -291,7 +291,7 @@ unfolding unsigned_first is_digit or and within is
 first-unblank = record { of_space = refl; of-tab = refl; of-line-feed = refl; of-carriage-return = refl; of-form-feed = refl; of-solidus = refl }
 
 -- neither sign is a digit or a full stop
-pub first-signs : (unsigned_first ascii.plus_sign ≡ false) × (unsigned_first ascii.hyphen_minus ≡ false)
+pub first-signs : (unsigned_first (ascii "+") ≡ false) × (unsigned_first (ascii "-") ≡ false)
 unfolding unsigned_first is_digit or and within is
 first-signs = (refl, refl)
 
@@ -300,15 +300,15 @@ unsigned_signed : (v : List ℕ) (n : ℕ) → unsigned_first (get_or v 0 0) ≡
 unfolding numbers.signed numbers.sign pick or
 unsigned_signed v n e p l =
     rw (
-      differs unsigned_first (get_or v 0 0) ascii.hyphen_minus e first-signs.1,
-      differs unsigned_first (get_or v 0 0) ascii.plus_sign e first-signs.0,
+      differs unsigned_first (get_or v 0 0) (ascii "-") e first-signs.1,
+      differs unsigned_first (get_or v 0 0) (ascii "+") e first-signs.0,
       p,
       is-no n 0 (λ z. omega arith),
       zero-add n,
     )
 
 -- behind a '-' a number without a sign takes one byte more
-minus-signed : (v : List ℕ) (n : ℕ) → numbers.unsigned v ≡ n → 1 ≤ n → numbers.signed (ascii.hyphen_minus ∷ v) ≡ 1 + n
+minus-signed : (v : List ℕ) (n : ℕ) → numbers.unsigned v ≡ n → 1 ≤ n → numbers.signed (ascii "-" ∷ v) ≡ 1 + n
 unfolding numbers.signed numbers.sign pick or is
 minus-signed v n p l = rw (p, is-no n 0 (λ z. omega arith))
 
@@ -323,7 +323,7 @@ signed-read minus v n e p l = minus-signed v n p l
 pub signed-unskipped : (s : Sign) (v : List ℕ) → unsigned_first (get_or v 0 0) ≡ true → skip_whitespace (means_sign s ++ v) ≡ 0
 signed-unskipped unsigned v e = unfold means_sign in skips-blank [] v blanks.none (unblank-item unsigned_first first-unblank v e)
 signed-unskipped plus v e = unfold means_sign in skips-blank [] v blanks.none (unblank-item unsigned_first first-unblank v e)
-signed-unskipped minus v e = unfold means_sign in skips-blank [] (ascii.hyphen_minus ∷ v) blanks.none (code-point-item ascii.hyphen_minus v hyphen-code-point)
+signed-unskipped minus v e = unfold means_sign in skips-blank [] (ascii "-" ∷ v) blanks.none (code-point-item (ascii "-") v hyphen-code-point)
 
 module _ (n : Numeral) (u : List ℕ) (e : is_digit (get_or u 0 0) ≡ false) where
   -- the number without its sign, and what stands behind it
@@ -358,65 +358,65 @@ module _ (n : Numeral) (u : List ℕ) (e : is_digit (get_or u 0 0) ≡ false) wh
 
 module _ (m u : List ℕ) where
   -- "If the next input code point is U+0025 PERCENTAGE SIGN, consume it. Create a <percentage-token>"
-  from-percent : numeric_from (length m) (m ++ (ascii.percent_sign ∷ u)) ≡ ok (length m + 1) (tokens.percentage m)
+  from-percent : numeric_from (length m) (m ++ (ascii "%" ∷ u)) ≡ ok (length m + 1) (tokens.percentage m)
   unfolding numeric_from pick is
-  from-percent = rw (behind-blank m (ascii.percent_sign ∷ u), take-append_seam m (ascii.percent_sign ∷ u))
+  from-percent = rw (behind-blank m (ascii "%" ∷ u), take-append_seam m (ascii "%" ∷ u))
 
   -- "If the next 3 input code points would start an ident sequence: Create a <dimension-token>"
-  from-unit : (k : ℕ) (b : List ℕ) → is (get_or u 0 0) ascii.percent_sign ≡ false → ident_of u ≡ ok k b → numeric_from (length m) (m ++ u) ≡ ok (length m + k) (tokens.dimension m b)
+  from-unit : (k : ℕ) (b : List ℕ) → is (get_or u 0 0) (ascii "%") ≡ false → ident_of u ≡ ok k b → numeric_from (length m) (m ++ u) ≡ ok (length m + k) (tokens.dimension m b)
   unfolding numeric_from on_parsed pick
   from-unit k b e p = rw (behind-blank m u, e, drop-append_seam m u, p, take-append_seam m u)
 
   -- "Otherwise, create a <number-token>"
-  from-none : is (get_or u 0 0) ascii.percent_sign ≡ false → ident_of u ≡ err → numeric_from (length m) (m ++ u) ≡ ok (length m) (tokens.number m)
+  from-none : is (get_or u 0 0) (ascii "%") ≡ false → ident_of u ≡ err → numeric_from (length m) (m ++ u) ≡ ok (length m) (tokens.number m)
   unfolding numeric_from on_parsed pick
   from-none e p = rw (behind-blank m u, e, drop-append_seam m u, p, take-append_seam m u)
 
 -- no character that does not start a name is read as one that does
-no_start : (t : List ℕ) → ident_start (get_or t 0 0) ≡ false → is (get_or t 0 0) ascii.reverse_solidus ≡ false → nmstart_of t ≡ None
+no_start : (t : List ℕ) → ident_start (get_or t 0 0) ≡ false → is (get_or t 0 0) (ascii "\\") ≡ false → nmstart_of t ≡ None
 unfolding nmstart_of
 no_start t e d =
     let p = char-no is_nmstart t _ refl _ refl (sym (start_is (get_or t 0 0)) ∙ e) in
     sym (either_second _ _ _ p refl _ (escape-no t _ refl d))
 
 -- a digit and a full stop start no name and no escape
-number-goes-on : (z : ℕ) → or (is_digit z) (is z ascii.full_stop) ≡ true → (ident_start z ≡ false) × (is z ascii.reverse_solidus ≡ false)
+number-goes-on : (z : ℕ) → or (is_digit z) (is z (ascii ".")) ≡ true → (ident_start z ≡ false) × (is z (ascii "\\") ≡ false)
 unfolding is_digit
 number-goes-on z e =
     let h = below z e in
-    (not_start z h, is-no z ascii.reverse_solidus (λ q. omega arith))
+    (not_start z h, is-no z (ascii "\\") (λ q. omega arith))
   where
-    below : (z : ℕ) → or (within z ascii.digit_zero ascii.digit_nine) (is z ascii.full_stop) ≡ true → z ≤ ascii.digit_nine
-    below z e = either (z ≤ ascii.digit_nine) _ _ e (λ w. (within-true z ascii.digit_zero ascii.digit_nine w).1) (λ w. let q = is_true z ascii.full_stop w in omega arith)
+    below : (z : ℕ) → or (within z (ascii "0") (ascii "9")) (is z (ascii ".")) ≡ true → z ≤ ascii "9"
+    below z e = either (z ≤ ascii "9") _ _ e (λ w. (within-true z (ascii "0") (ascii "9") w).1) (λ w. let q = is_true z (ascii ".") w in omega arith)
 
-    not_start : (z : ℕ) → z ≤ ascii.digit_nine → ident_start z ≡ false
+    not_start : (z : ℕ) → z ≤ ascii "9" → ident_start z ≡ false
     not_start z h =
         unfold ident_start letter in
-        or-none _ _ (or-none _ _ (sym (within-false z ascii.capital_a ascii.capital_z (omega arith))) (sym (within-false z ascii.small_a ascii.small_z (omega arith)))) (is-no z ascii.low_line (λ q. omega arith))
+        or-none _ _ (or-none _ _ (sym (within-false z (ascii "A") (ascii "Z") (omega arith))) (sym (within-false z (ascii "a") (ascii "z") (omega arith)))) (is-no z (ascii "_") (λ q. omega arith))
 
 -- what does not begin a name is none
 no_name : (t : List ℕ) → begins_name (get_or t 0 0) (get_or t 1 0) ≡ false → name_of t ≡ err
 unfolding begins_name
 no_name t e =
     let n = neither (ident_start (get_or t 0 0)) _ e in
-    let m = neither (is (get_or t 0 0) ascii.reverse_solidus) _ n.1 in
-    name-none t (by-dash t (is (get_or t 0 0) ascii.hyphen_minus) refl (no_start t n.0 m.0) m.1)
+    let m = neither (is (get_or t 0 0) (ascii "\\")) _ n.1 in
+    name-none t (by-dash t (is (get_or t 0 0) (ascii "-")) refl (no_start t n.0 m.0) m.1)
   where
-    undashed : (t : List ℕ) → is (get_or t 0 0) ascii.hyphen_minus ≡ false → nmstart_of t ≡ None → nmstart_of (drop (dash t) t) ≡ None
+    undashed : (t : List ℕ) → is (get_or t 0 0) (ascii "-") ≡ false → nmstart_of t ≡ None → nmstart_of (drop (dash t) t) ≡ None
     undashed t e p = unfold dash pick in rw e p
 
-    dashes : (t : List ℕ) → is (get_or t 0 0) ascii.hyphen_minus ≡ true → nmstart_of (drop 1 t) ≡ None → nmstart_of (drop (dash t) t) ≡ None
+    dashes : (t : List ℕ) → is (get_or t 0 0) (ascii "-") ≡ true → nmstart_of (drop 1 t) ≡ None → nmstart_of (drop (dash t) t) ≡ None
     dashes t e p = unfold dash pick in rw e p
 
     goes_on : (b : Bool) → and true (not b) ≡ false → b ≡ true
     goes_on true e = refl
     goes_on false e = unfold and in never (sym e)
 
-    by-dash : (t : List ℕ) (d : Bool) → is (get_or t 0 0) ascii.hyphen_minus ≡ d → nmstart_of t ≡ None
-        → and d (not (or (is_digit (get_or t 1 0)) (is (get_or t 1 0) ascii.full_stop))) ≡ false → nmstart_of (drop (dash t) t) ≡ None
+    by-dash : (t : List ℕ) (d : Bool) → is (get_or t 0 0) (ascii "-") ≡ d → nmstart_of t ≡ None
+        → and d (not (or (is_digit (get_or t 1 0)) (is (get_or t 1 0) (ascii ".")))) ≡ false → nmstart_of (drop (dash t) t) ≡ None
     by-dash t true d p e =
         let g = number-goes-on (get_or t 1 0) (goes_on _ e) in
-        dashes t d (no_start (drop 1 t) (ap ident_start (first t 1) ∙ g.0) (ap (λ (z : ℕ). is z ascii.reverse_solidus) (first t 1) ∙ g.1))
+        dashes t d (no_start (drop 1 t) (ap ident_start (first t 1) ∙ g.0) (ap (λ (z : ℕ). is z (ascii "\\")) (first t 1) ∙ g.1))
     by-dash t false d p e = undashed t d p
 
 -- so no unit is read where white space and comments end before it
@@ -427,8 +427,8 @@ no-unit t e =
     rw (no_name (drop w t) (ap (λ (y : ℕ). begins_name y (get_or (drop w t) 1 0)) (first t w) ∙ ap (begins_name (get_or t w 0)) (get_or-drop w t 1 0) ∙ e))
 
 -- no mark is a digit
-digit-marks : (is_digit ascii.quotation_mark ≡ false) × (is_digit ascii.apostrophe ≡ false) × (is_digit ascii.number_sign ≡ false) × (is_digit ascii.plus_sign ≡ false)
-    × (is_digit ascii.hyphen_minus ≡ false) × (is_digit ascii.full_stop ≡ false) × (is_digit ascii.less_than_sign ≡ false) × (is_digit ascii.reverse_solidus ≡ false)
+digit-marks : (is_digit (ascii "\"") ≡ false) × (is_digit (ascii "'") ≡ false) × (is_digit (ascii "#") ≡ false) × (is_digit (ascii "+") ≡ false)
+    × (is_digit (ascii "-") ≡ false) × (is_digit (ascii ".") ≡ false) × (is_digit (ascii "<") ≡ false) × (is_digit (ascii "\\") ≡ false)
 unfolding is_digit and within
 digit-marks = (refl, refl, refl, refl, refl, refl, refl, refl)
 
@@ -436,12 +436,12 @@ digit-marks = (refl, refl, refl, refl, refl, refl, refl, refl)
 digit-below : (x : ℕ) → is_digit x ≡ true → (x ≤ 0x7f) × (is_ident_start x ≡ false)
 unfolding is_digit is_ident_start is_nmstart or
 digit-below x e =
-    let h = within-true x ascii.digit_zero ascii.digit_nine e in (
+    let h = within-true x (ascii "0") (ascii "9") e in (
       omega arith,
       rw (
-        sym (within-false x ascii.small_a ascii.small_z (omega arith)),
-        sym (within-false x ascii.capital_a ascii.capital_z (omega arith)),
-        is-no x ascii.low_line (λ q. omega arith),
+        sym (within-false x (ascii "a") (ascii "z") (omega arith)),
+        sym (within-false x (ascii "A") (ascii "Z") (omega arith)),
+        is-no x (ascii "_") (λ q. omega arith),
         lt-leb first_above_u0080 x (omega arith),
       ),
     )
@@ -451,14 +451,14 @@ digit-start : (x : ℕ) (l : List ℕ) → is_digit x ≡ true → token_with 1 
 unfolding token_with is_quote pick or
 digit-start x l e =
     rw (
-      differs is_digit x ascii.quotation_mark e digit-marks.0,
-      differs is_digit x ascii.apostrophe e digit-marks.1,
-      differs is_digit x ascii.number_sign e digit-marks.2,
-      differs is_digit x ascii.plus_sign e digit-marks.3,
-      differs is_digit x ascii.hyphen_minus e digit-marks.4,
-      differs is_digit x ascii.full_stop e digit-marks.5,
-      differs is_digit x ascii.less_than_sign e digit-marks.6,
-      differs is_digit x ascii.reverse_solidus e digit-marks.7,
+      differs is_digit x (ascii "\"") e digit-marks.0,
+      differs is_digit x (ascii "'") e digit-marks.1,
+      differs is_digit x (ascii "#") e digit-marks.2,
+      differs is_digit x (ascii "+") e digit-marks.3,
+      differs is_digit x (ascii "-") e digit-marks.4,
+      differs is_digit x (ascii ".") e digit-marks.5,
+      differs is_digit x (ascii "<") e digit-marks.6,
+      differs is_digit x (ascii "\\") e digit-marks.7,
       (digit-below x e).1,
       e,
     )
@@ -468,9 +468,9 @@ digit-begins : (x : ℕ) (l : List ℕ) (n : ℕ) (k : Token) → is_digit x ≡
 digit-begins x l n k e p = begins-by x l n k (code-point-item x l (digit-code-point x e)) (digit-below x e).0 (digit-start x (x ∷ l) e ∙ p)
 
 -- and so is what a full stop begins, where a number is read there
-stop-begins : (l : List ℕ) (n : ℕ) (k : Token) → numeric_of (ascii.full_stop ∷ l) ≡ ok n k → Begins (ascii.full_stop ∷ l) n k
+stop-begins : (l : List ℕ) (n : ℕ) (k : Token) → numeric_of (ascii "." ∷ l) ≡ ok n k → Begins (ascii "." ∷ l) n k
 unfolding whitespace_item is_whitespace comment_of token_with is_quote or_else pick or is
-stop-begins l n k p = begins-by ascii.full_stop l n k refl (omega arith) (rw p)
+stop-begins l n k p = begins-by (ascii ".") l n k refl (omega arith) (rw p)
 
 -- a number without a sign, by what it begins with
 unsigned-begins : (f : Bool) (ds u : List ℕ) (n : ℕ) (k : Token) → Each is_digit ds → 1 ≤ length ds → numeric_of (written_stop f ++ (ds ++ u)) ≡ ok n k → Begins (written_stop f ++ (ds ++ u)) n k
@@ -480,14 +480,14 @@ unsigned-begins false _ u n k none l p = absurd (omega arith)
 unsigned-begins false _ u n k (more {x} {r} e es) l p = digit-begins x (r ++ u) n k e p
 
 -- behind a '+' the reader starts anew, and drops it
-plus-begins : (l : List ℕ) (n : ℕ) (k : Token) → numeric_of l ≡ ok n k → Begins (ascii.plus_sign ∷ l) (1 + n) k
+plus-begins : (l : List ℕ) (n : ℕ) (k : Token) → numeric_of l ≡ ok n k → Begins (ascii "+" ∷ l) (1 + n) k
 unfolding whitespace_item is_whitespace comment_of token_with is_quote plus_of or_else behind pick or is
-plus-begins l n k p = begins-by ascii.plus_sign l (1 + n) k refl (omega arith) (rw p)
+plus-begins l n k p = begins-by (ascii "+") l (1 + n) k refl (omega arith) (rw p)
 
 -- a '-' is read with the number
-minus-begins : (l : List ℕ) (n : ℕ) (k : Token) → numeric_of (ascii.hyphen_minus ∷ l) ≡ ok n k → Begins (ascii.hyphen_minus ∷ l) n k
+minus-begins : (l : List ℕ) (n : ℕ) (k : Token) → numeric_of (ascii "-" ∷ l) ≡ ok n k → Begins (ascii "-" ∷ l) n k
 unfolding token_with is_quote minus_of or_else pick or is
-minus-begins l n k p = begins-by ascii.hyphen_minus l n k (code-point-item ascii.hyphen_minus l hyphen-code-point) (omega arith) (rw p)
+minus-begins l n k p = begins-by (ascii "-") l n k (code-point-item (ascii "-") l hyphen-code-point) (omega arith) (rw p)
 
 -- with a sign or none, by its parts
 signed-begins : (s : Sign) (f : Bool) (ds u : List ℕ) (j : ℕ) (k : Token) → Each is_digit ds → 1 ≤ length ds
@@ -498,7 +498,7 @@ signed-begins unsigned f ds u j k h l p =
     subst (λ (t : List ℕ). Begins t (length (written_stop f ++ ds) + j) k) (sym (append_assoc (written_stop f) ds u))
     (unsigned-begins f ds u _ k h l (ap numeric_of (sym (append_assoc (written_stop f) ds u)) ∙ p))
 signed-begins plus f ds u j k h l p =
-    subst (λ (i : ℕ). Begins (ascii.plus_sign ∷ ((written_stop f ++ ds) ++ u)) i k) (omega arith) (plus-begins ((written_stop f ++ ds) ++ u) _ k p)
+    subst (λ (i : ℕ). Begins (ascii "+" ∷ ((written_stop f ++ ds) ++ u)) i k) (omega arith) (plus-begins ((written_stop f ++ ds) ++ u) _ k p)
 signed-begins minus f ds u j k h l p = minus-begins ((written_stop f ++ ds) ++ u) _ k p
 
 -- a number and what follows it, as the reader of numbers has it
@@ -510,7 +510,7 @@ numeral-begins n u j k p = signed-begins n.sign n.fraction n.digits u j k n.are 
 -- what may follow a number: no digit and no percent sign, and behind white space no unit
 record NumberEnds (t : List ℕ) : Type 0 where
   no_digit : is_digit (get_or t 0 0) ≡ false
-  no-percent : is (get_or t 0 0) ascii.percent_sign ≡ false
+  no-percent : is (get_or t 0 0) (ascii "%") ≡ false
   no-name-behind : begins_name (get_or t (skip_whitespace t) 0) (get_or t (skip_whitespace t + 1) 0) ≡ false
 
 -- where the grammar says that a number ends, it does
@@ -518,8 +518,8 @@ number-ends : (n : Numeral) (t : List ℕ) → EndsBefore (number n) t → Numbe
 unfolding may_follow
 number-ends n t e =
     let a = and-true (ends_name (get_or t 0 0)) _ e in
-    let b = and-true (not (is (get_or t 0 0) ascii.full_stop)) _ a.1 in
-    let c = and-true (not (is (get_or t 0 0) ascii.percent_sign)) _ b.1 in
+    let b = and-true (not (is (get_or t 0 0) (ascii "."))) _ a.1 in
+    let c = and-true (not (is (get_or t 0 0) (ascii "%"))) _ b.1 in
     record { no_digit = ended-digit _ (name-ends t a.0).no-character; no-percent = not-true _ c.0; no-name-behind = not-true _ c.1 }
 
 -- "Otherwise, create a <number-token> with the same value", where nothing goes on with it
@@ -535,13 +535,13 @@ pub number-token : (n : Numeral) (t : List ℕ) → EndsBefore (number n) t → 
 number-token n t e = number-alone n t (number-ends n t e)
 
 -- a percent sign is no digit
-percent-digit : is_digit ascii.percent_sign ≡ false
+percent-digit : is_digit (ascii "%") ≡ false
 unfolding is_digit and within
 percent-digit = refl
 
 -- "If the next input code point is U+0025 PERCENTAGE SIGN, consume it. Create a <percentage-token> with the same value"
-pub percentage-token : (n : Numeral) (t : List ℕ) → Begins (written_numeral n ++ (ascii.percent_sign ∷ t)) (length (written_numeral n) + 1) (tokens.percentage (means_numeral n))
-percentage-token n t = numeral-begins n (ascii.percent_sign ∷ t) 1 _ (numeric-from n (ascii.percent_sign ∷ t) percent-digit ∙ from-percent (means_numeral n) t)
+pub percentage-token : (n : Numeral) (t : List ℕ) → Begins (written_numeral n ++ (ascii "%" ∷ t)) (length (written_numeral n) + 1) (tokens.percentage (means_numeral n))
+percentage-token n t = numeral-begins n (ascii "%" ∷ t) 1 _ (numeric-from n (ascii "%" ∷ t) percent-digit ∙ from-percent (means_numeral n) t)
 
 -- "Create a <dimension-token> with the same value, and a unit set initially to the empty string. Consume an ident sequence. Set the
 -- <dimension-token>'s unit to the returned value"
@@ -552,10 +552,10 @@ dimension-token n w t e =
     numeral-begins n (w.bytes ++ t) (length w.bytes) _
     (numeric-from n (w.bytes ++ t) g.0 ∙ from-unit (means_numeral n) (w.bytes ++ t) _ _ g.1 (name-whole w t (name-ends t e)))
   where
-    unit-first : (bytes t : List ℕ) → IdentSequence bytes → (is_digit (get_or (bytes ++ t) 0 0) ≡ false) × (is (get_or (bytes ++ t) 0 0) ascii.percent_sign ≡ false)
+    unit-first : (bytes t : List ℕ) → IdentSequence bytes → (is_digit (get_or (bytes ++ t) 0 0) ≡ false) × (is (get_or (bytes ++ t) 0 0) (ascii "%") ≡ false)
     unit-first _ t (started {x} e s) =
         let h = (start_between x e).1 in
-        (unfold is_digit in within-past x ascii.digit_zero ascii.digit_nine (omega arith), is-no x ascii.percent_sign (λ q. omega arith))
+        (unfold is_digit in within-past x (ascii "0") (ascii "9") (omega arith), is-no x (ascii "%") (λ q. omega arith))
     unit-first _ t (dashed e s) = unfold is_digit and within is in (refl, refl)
 
 -- ---- what the reader takes for a dimension: a number, white space and a name
@@ -576,56 +576,56 @@ name-item n t = by-start n.bytes n.sequence
   where
     by-start : (bytes : List ℕ) → IdentSequence bytes → whitespace_item (bytes ++ t) ≡ 0
     by-start _ (started {x} {r} e s) = code-point-item x (r ++ t) (start-code-point x e)
-    by-start _ (dashed {x} {r} e s) = code-point-item ascii.hyphen_minus (x ∷ (r ++ t)) hyphen-code-point
+    by-start _ (dashed {x} {r} e s) = code-point-item (ascii "-") (x ∷ (r ++ t)) hyphen-code-point
 
 -- ---- code points that are tokens by themselves: 4.3.1, Consume a token
 -- a comma is a token of one byte
-pub comma-token : (t : List ℕ) → Begins (ascii.comma ∷ t) 1 tokens.comma
+pub comma-token : (t : List ℕ) → Begins (ascii "," ∷ t) 1 tokens.comma
 unfolding whitespace_item is_whitespace comment_of token_with is_quote is_ident_start is_nmstart is_digit mark_of pick or and within is
-comma-token t = begins-by ascii.comma t 1 _ refl (omega arith) refl
+comma-token t = begins-by (ascii ",") t 1 _ refl (omega arith) refl
 
 -- a colon is a token of one byte
-pub colon-token : (t : List ℕ) → Begins (ascii.colon ∷ t) 1 tokens.colon
+pub colon-token : (t : List ℕ) → Begins (ascii ":" ∷ t) 1 tokens.colon
 unfolding whitespace_item is_whitespace comment_of token_with is_quote is_ident_start is_nmstart is_digit mark_of pick or and within is
-colon-token t = begins-by ascii.colon t 1 _ refl (omega arith) refl
+colon-token t = begins-by (ascii ":") t 1 _ refl (omega arith) refl
 
 -- a semicolon is a token of one byte
-pub semicolon-token : (t : List ℕ) → Begins (ascii.semicolon ∷ t) 1 tokens.semicolon
+pub semicolon-token : (t : List ℕ) → Begins (ascii ";" ∷ t) 1 tokens.semicolon
 unfolding whitespace_item is_whitespace comment_of token_with is_quote is_ident_start is_nmstart is_digit mark_of pick or and within is
-semicolon-token t = begins-by ascii.semicolon t 1 _ refl (omega arith) refl
+semicolon-token t = begins-by (ascii ";") t 1 _ refl (omega arith) refl
 
 -- what opens a block: a round bracket
-pub round-token : (t : List ℕ) → Begins (ascii.left_parenthesis ∷ t) 1 tokens.open_round
+pub round-token : (t : List ℕ) → Begins (ascii "(" ∷ t) 1 tokens.open_round
 unfolding whitespace_item is_whitespace comment_of token_with is_quote is_ident_start is_nmstart is_digit mark_of pick or and within is
-round-token t = begins-by ascii.left_parenthesis t 1 _ refl (omega arith) refl
+round-token t = begins-by (ascii "(") t 1 _ refl (omega arith) refl
 
 -- an opening square bracket is a token of one byte
-pub square-token : (t : List ℕ) → Begins (ascii.left_square_bracket ∷ t) 1 tokens.open_square
+pub square-token : (t : List ℕ) → Begins (ascii "[" ∷ t) 1 tokens.open_square
 unfolding whitespace_item is_whitespace comment_of token_with is_quote is_ident_start is_nmstart is_digit mark_of pick or and within is
-square-token t = begins-by ascii.left_square_bracket t 1 _ refl (omega arith) refl
+square-token t = begins-by (ascii "[") t 1 _ refl (omega arith) refl
 
 -- an opening brace is a token of one byte
-pub brace-token : (t : List ℕ) → Begins (ascii.left_curly_bracket ∷ t) 1 tokens.open_brace
+pub brace-token : (t : List ℕ) → Begins (ascii "{" ∷ t) 1 tokens.open_brace
 unfolding whitespace_item is_whitespace comment_of token_with is_quote is_ident_start is_nmstart is_digit mark_of pick or and within is
-brace-token t = begins-by ascii.left_curly_bracket t 1 _ refl (omega arith) refl
+brace-token t = begins-by (ascii "{") t 1 _ refl (omega arith) refl
 
 -- the byte that closes it
 pub closer-token : (o : Opening) (t : List ℕ) → Begins (closer o ∷ t) 1 (means_closer o)
 unfolding closer means_closer whitespace_item is_whitespace comment_of token_with is_quote is_ident_start is_nmstart is_digit mark_of pick or and within is
-closer-token (function n d) t = begins-by ascii.right_parenthesis t 1 _ refl (omega arith) refl
-closer-token round t = begins-by ascii.right_parenthesis t 1 _ refl (omega arith) refl
-closer-token square t = begins-by ascii.right_square_bracket t 1 _ refl (omega arith) refl
-closer-token brace t = begins-by ascii.right_curly_bracket t 1 _ refl (omega arith) refl
+closer-token (function n d) t = begins-by (ascii ")") t 1 _ refl (omega arith) refl
+closer-token round t = begins-by (ascii ")") t 1 _ refl (omega arith) refl
+closer-token square t = begins-by (ascii "]") t 1 _ refl (omega arith) refl
+closer-token brace t = begins-by (ascii "}") t 1 _ refl (omega arith) refl
 
 -- "If the next 3 input code points are U+0021 EXCLAMATION MARK U+002D HYPHEN-MINUS U+002D HYPHEN-MINUS (!--), consume them and return a <CDO-token>"
 pub cdo-token : (t : List ℕ) → Begins (text "<!--" ++ t) 4 tokens.cdo
 unfolding whitespace_item is_whitespace comment_of token_with is_quote less_of starts_with text utf8 pick or and is
-cdo-token t = begins-by ascii.less_than_sign (ascii.exclamation_mark ∷ ascii.hyphen_minus ∷ ascii.hyphen_minus ∷ t) 4 tokens.cdo refl (omega arith) refl
+cdo-token t = begins-by (ascii "<") (ascii "!" ∷ ascii "-" ∷ ascii "-" ∷ t) 4 tokens.cdo refl (omega arith) refl
 
 -- "if the next 2 input code points are U+002D HYPHEN-MINUS U+003E GREATER-THAN SIGN (->), consume them and return a <CDC-token>"
 pub cdc-token : (t : List ℕ) → Begins (text "-->" ++ t) 3 tokens.cdc
 unfolding whitespace_item is_whitespace comment_of token_with is_quote minus_of numeric_of numbers.number numbers.signed numbers.sign numbers.unsigned numbers.decimal digits one_digit is_digit skip_whitespace many took or_else starts_with text utf8 pick or and within is
-cdc-token t = begins-by ascii.hyphen_minus (ascii.hyphen_minus ∷ ascii.greater_than_sign ∷ t) 3 tokens.cdc refl (omega arith) refl
+cdc-token t = begins-by (ascii "-") (ascii "-" ∷ ascii ">" ∷ t) 3 tokens.cdc refl (omega arith) refl
 
 -- a delimiter is of ASCII, is a token by itself, and is no white space
 abbrev Plain : ℕ → Type 0
@@ -656,7 +656,7 @@ by-solidus true b n e = rw e
 by-solidus false b n e = refl
 
 -- so where no asterisk follows a solidus no comment begins
-no-comment : (c : ℕ) (t : List ℕ) → is_whitespace c ≡ false → and (is c ascii.solidus) (is (get_or t 0 0) ascii.asterisk) ≡ false → whitespace_item (c ∷ t) ≡ 0
+no-comment : (c : ℕ) (t : List ℕ) → is_whitespace c ≡ false → and (is c (ascii "/")) (is (get_or t 0 0) (ascii "*")) ≡ false → whitespace_item (c ∷ t) ≡ 0
 unfolding whitespace_item comment_of
 no-comment c t w e = sym (pick-false _ _ _ _ w (sym (by-solidus _ _ _ e)))
 
@@ -668,42 +668,42 @@ delim-token c d t e =
     begins-by c t 1 (tokens.delim c) (no-comment c t p.2 (not-true _ e)) p.0 (p.1 (c ∷ t))
 
 -- a full stop begins no number where no digit follows
-stop-none : (t : List ℕ) → is_digit (get_or t 0 0) ≡ false → numeric_of (ascii.full_stop ∷ t) ≡ err
+stop-none : (t : List ℕ) → is_digit (get_or t 0 0) ≡ false → numeric_of (ascii "." ∷ t) ≡ err
 unfolding numeric_of numbers.number numbers.signed numbers.sign numbers.unsigned numbers.decimal skip_whitespace whitespace_item is_whitespace comment_of many took pick or is
 stop-none t e = rw (stop-digits t, digits-read none t e)
 
 -- "If the input stream starts with a number ..; otherwise, return a <delim-token>": U+002E FULL STOP
-pub point-token : (t : List ℕ) → is_digit (get_or t 0 0) ≡ false → Begins (ascii.full_stop ∷ t) 1 (tokens.delim ascii.full_stop)
+pub point-token : (t : List ℕ) → is_digit (get_or t 0 0) ≡ false → Begins (ascii "." ∷ t) 1 (tokens.delim (ascii "."))
 unfolding whitespace_item is_whitespace comment_of token_with is_quote or_else pick or is
-point-token t e = begins-by ascii.full_stop t 1 (tokens.delim ascii.full_stop) refl (omega arith) (rw (stop-none t e))
+point-token t e = begins-by (ascii ".") t 1 (tokens.delim (ascii ".")) refl (omega arith) (rw (stop-none t e))
 
 -- no name begins with a '-' that nothing of a name follows
-hyphen-unnamed : (t : List ℕ) → NameEnds t → ident_like_of (ascii.hyphen_minus ∷ t) ≡ err
+hyphen-unnamed : (t : List ℕ) → NameEnds t → ident_like_of (ascii "-" ∷ t) ≡ err
 unfolding ident_like_of on_parsed
-hyphen-unnamed t h = rw (name-at (ascii.hyphen_minus ∷ t) (skips-blank [] (ascii.hyphen_minus ∷ t) blanks.none (code-point-item ascii.hyphen_minus t hyphen-code-point)), unnamed t h)
+hyphen-unnamed t h = rw (name-at (ascii "-" ∷ t) (skips-blank [] (ascii "-" ∷ t) blanks.none (code-point-item (ascii "-") t hyphen-code-point)), unnamed t h)
   where
     no-first : (x : ℕ) → ident_code_point x ≡ false → ident_start x ≡ false
     no-first x e = unfold ident_code_point in (neither _ _ e).0
 
-    unnamed : (t : List ℕ) → NameEnds t → name_of (ascii.hyphen_minus ∷ t) ≡ err
-    unnamed t h = name-none (ascii.hyphen_minus ∷ t) (unfold dash pick is in no_start t (no-first (get_or t 0 0) h.no-character) (is-no _ _ h.no-escape))
+    unnamed : (t : List ℕ) → NameEnds t → name_of (ascii "-" ∷ t) ≡ err
+    unnamed t h = name-none (ascii "-" ∷ t) (unfold dash pick is in no_start t (no-first (get_or t 0 0) h.no-character) (is-no _ _ h.no-escape))
 
 -- a hyphen before which no name goes on is not the mark `-->`
-hyphen-unmarked : (t : List ℕ) → NameEnds t → starts_with (text "-->") (ascii.hyphen_minus ∷ t) ≡ false
-hyphen-unmarked t h = unfold starts_with text utf8 pick and is in starts-not ascii.hyphen_minus (ascii.greater_than_sign ∷ []) t (is-no _ _ (λ q. never (sym h.no-character ∙ ap ident_code_point q ∙ hyphen-code-point)))
+hyphen-unmarked : (t : List ℕ) → NameEnds t → starts_with (text "-->") (ascii "-" ∷ t) ≡ false
+hyphen-unmarked t h = unfold starts_with text utf8 pick and is in starts-not (ascii "-") (ascii ">" ∷ []) t (is-no _ _ (λ q. never (sym h.no-character ∙ ap ident_code_point q ∙ hyphen-code-point)))
 
 -- "Otherwise, return a <delim-token>": U+002D HYPHEN-MINUS
-pub hyphen-token : (t : List ℕ) → NameEnds t → is (get_or t 0 0) ascii.full_stop ≡ false → Begins (ascii.hyphen_minus ∷ t) 1 (tokens.delim ascii.hyphen_minus)
+pub hyphen-token : (t : List ℕ) → NameEnds t → is (get_or t 0 0) (ascii ".") ≡ false → Begins (ascii "-" ∷ t) 1 (tokens.delim (ascii "-"))
 hyphen-token t h e =
-    begins-by ascii.hyphen_minus t 1 (tokens.delim ascii.hyphen_minus) (code-point-item ascii.hyphen_minus t hyphen-code-point) (omega arith)
+    begins-by (ascii "-") t 1 (tokens.delim (ascii "-")) (code-point-item (ascii "-") t hyphen-code-point) (omega arith)
     (by-minus t (minus-none t (ended-digit _ h.no-character) e) (hyphen-unmarked t h) (hyphen-unnamed t h))
   where
-    by-minus : (t : List ℕ) → numeric_of (ascii.hyphen_minus ∷ t) ≡ err → starts_with (text "-->") (ascii.hyphen_minus ∷ t) ≡ false → ident_like_of (ascii.hyphen_minus ∷ t) ≡ err
-        → token_with 1 ascii.hyphen_minus (ascii.hyphen_minus ∷ t) ≡ ok 1 (tokens.delim ascii.hyphen_minus)
+    by-minus : (t : List ℕ) → numeric_of (ascii "-" ∷ t) ≡ err → starts_with (text "-->") (ascii "-" ∷ t) ≡ false → ident_like_of (ascii "-" ∷ t) ≡ err
+        → token_with 1 (ascii "-") (ascii "-" ∷ t) ≡ ok 1 (tokens.delim (ascii "-"))
     by-minus t p q r = unfold token_with is_quote minus_of or_else pick or is in rw (p, q, r)
 
 -- nothing is signed where no sign and no number stands
-unsigned-none : (s : List ℕ) → numbers.unsigned s ≡ 0 → is (get_or s 0 0) ascii.hyphen_minus ≡ false → is (get_or s 0 0) ascii.plus_sign ≡ false → numbers.signed s ≡ 0
+unsigned-none : (s : List ℕ) → numbers.unsigned s ≡ 0 → is (get_or s 0 0) (ascii "-") ≡ false → is (get_or s 0 0) (ascii "+") ≡ false → numbers.signed s ≡ 0
 unfolding numbers.signed numbers.sign pick or is
 unsigned-none s u m p = rw (m, p, u)
 
@@ -712,8 +712,8 @@ signed-none : (s : List ℕ) → begins_number (get_or s 0 0) ≡ false → numb
 unfolding begins_number
 signed-none s e =
     let a = neither (is_digit (get_or s 0 0)) _ e in
-    let b = neither (is (get_or s 0 0) ascii.full_stop) _ a.1 in
-    let c = neither (is (get_or s 0 0) ascii.plus_sign) _ b.1 in
+    let b = neither (is (get_or s 0 0) (ascii ".")) _ a.1 in
+    let c = neither (is (get_or s 0 0) (ascii "+")) _ b.1 in
     unsigned-none s (no_unsigned s a.0 b.0) c.1 c.0
 
 -- so no number is read where none begins behind white space
@@ -722,9 +722,9 @@ unfolding numeric_of numbers.number pick is
 no_number t e = rw (signed-none (drop (skip_whitespace t) t) (ap begins_number (first t (skip_whitespace t)) ∙ e))
 
 -- "Otherwise, return a <delim-token>": U+002B PLUS SIGN
-pub addition-token : (t : List ℕ) → begins_number (get_or t (skip_whitespace t) 0) ≡ false → Begins (ascii.plus_sign ∷ t) 1 (tokens.delim ascii.plus_sign)
+pub addition-token : (t : List ℕ) → begins_number (get_or t (skip_whitespace t) 0) ≡ false → Begins (ascii "+" ∷ t) 1 (tokens.delim (ascii "+"))
 unfolding whitespace_item is_whitespace comment_of token_with is_quote plus_of or_else behind pick or is
-addition-token t e = begins-by ascii.plus_sign t 1 (tokens.delim ascii.plus_sign) refl (omega arith) (rw (no_number t e))
+addition-token t e = begins-by (ascii "+") t 1 (tokens.delim (ascii "+")) refl (omega arith) (rw (no_number t e))
 
 -- ---- all of them
 -- every token of the grammar is read whole, where what follows it may follow
@@ -737,12 +737,12 @@ atom-begins (string q) t e =
     let l : length (q.quote ∷ (q.bytes ++ (q.quote ∷ []))) ≡ 1 + length q.bytes + 1 = omega (arith, length-append q.bytes (q.quote ∷ [])) in
     subst (λ (i : ℕ). Begins ((q.quote ∷ (q.bytes ++ (q.quote ∷ []))) ++ t) i (tokens.string q.body)) (sym l)
     (subst (λ (r : List ℕ). Begins (q.quote ∷ r) (1 + length q.bytes + 1) (tokens.string q.body)) (sym (append_assoc q.bytes (q.quote ∷ []) t)) (string-token q t))
-atom-begins (hash h) t e = subst (λ (i : ℕ). Begins (ascii.number_sign ∷ (h.bytes ++ t)) i (tokens.hash (map lower h.bytes))) (omega arith) (hash-token h t e)
+atom-begins (hash h) t e = subst (λ (i : ℕ). Begins (ascii "#" ∷ (h.bytes ++ t)) i (tokens.hash (map lower h.bytes))) (omega arith) (hash-token h t e)
 atom-begins (number n) t e = number-token n t e
 atom-begins (percentage n) t e =
     let m = written_numeral n in
-    subst (λ (i : ℕ). Begins ((m ++ (ascii.percent_sign ∷ [])) ++ t) i (tokens.percentage (means_numeral n))) (sym (length-append m (ascii.percent_sign ∷ [])))
-    (subst (λ (r : List ℕ). Begins r (length m + 1) (tokens.percentage (means_numeral n))) (sym (append_assoc m (ascii.percent_sign ∷ []) t)) (percentage-token n t))
+    subst (λ (i : ℕ). Begins ((m ++ (ascii "%" ∷ [])) ++ t) i (tokens.percentage (means_numeral n))) (sym (length-append m (ascii "%" ∷ [])))
+    (subst (λ (r : List ℕ). Begins r (length m + 1) (tokens.percentage (means_numeral n))) (sym (append_assoc m (ascii "%" ∷ []) t)) (percentage-token n t))
 atom-begins (dimension n u) t e =
     let m = written_numeral n in
     let w = u.name.bytes in
@@ -760,11 +760,11 @@ atom-begins addition t e = addition-token t (not-true _ e)
 
 -- a function's name and its bracket
 function-begins : (n : Ident) (t : List ℕ)
-    → Begins ((n.bytes ++ (ascii.left_parenthesis ∷ [])) ++ t) (length (n.bytes ++ (ascii.left_parenthesis ∷ []))) (tokens.function (folded n))
+    → Begins ((n.bytes ++ (ascii "(" ∷ [])) ++ t) (length (n.bytes ++ (ascii "(" ∷ []))) (tokens.function (folded n))
 function-begins n t =
     let b = n.bytes in
-    subst (λ (i : ℕ). Begins ((b ++ (ascii.left_parenthesis ∷ [])) ++ t) i (tokens.function (folded n))) (sym (length-append b (ascii.left_parenthesis ∷ [])))
-    (subst (λ (r : List ℕ). Begins r (length b + 1) (tokens.function (folded n))) (sym (append_assoc b (ascii.left_parenthesis ∷ []) t)) (function-token n t))
+    subst (λ (i : ℕ). Begins ((b ++ (ascii "(" ∷ [])) ++ t) i (tokens.function (folded n))) (sym (length-append b (ascii "(" ∷ [])))
+    (subst (λ (r : List ℕ). Begins r (length b + 1) (tokens.function (folded n))) (sym (append_assoc b (ascii "(" ∷ []) t)) (function-token n t))
 
 -- and so is every token that opens a block
 pub opening-begins : (o : Opening) (t : List ℕ) → Begins (written_opening o ++ t) (length (written_opening o)) (means_opening o)

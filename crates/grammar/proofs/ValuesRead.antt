@@ -8,7 +8,7 @@ use native.Mathlib.Omega.{arith}
 use lib.ListN.{length, get_or, drop, length-append, drop_of_length-le}
 use lib.Seq.{drop-append-add, drop-append_seam}
 use borrow.Author.Tests.{not-true}
-use Rattle.combinators.specs.Ascii as ascii
+use Prim.Native.Char.{code as ascii}
 use Rattle.combinators.specs.Choice.{pick, or, and, is, within}
 use Rattle.combinators.specs.Parsed.{ok, err, on_parsed}
 use Rattle.combinators.specs.Word.{same_text}
@@ -180,9 +180,9 @@ module _ (include : Bool) (b : Blanks) where
 pub data Closes : List ℕ → Type 0 where
   nothing : Closes []
   closed : (o : Opening) (r : List ℕ) → Closes (closer o ∷ r)
-  at-semicolon : (r : List ℕ) → Closes (ascii.semicolon ∷ r)
-  at-bang : (r : List ℕ) → Closes (ascii.exclamation_mark ∷ r)
-  at-brace : (r : List ℕ) → Closes (ascii.left_curly_bracket ∷ r)
+  at-semicolon : (r : List ℕ) → Closes (ascii ";" ∷ r)
+  at-bang : (r : List ℕ) → Closes (ascii "!" ∷ r)
+  at-brace : (r : List ℕ) → Closes (ascii "{" ∷ r)
 
 -- with the white space before it
 pub data Halts : List ℕ → Type 0 where
@@ -192,18 +192,18 @@ pub data Halts : List ℕ → Type 0 where
 unfoldable continues : ℕ → Bool
 continues x =
     or (ident_code_point x)
-    (or (is x ascii.reverse_solidus)
-    (or (is x ascii.left_parenthesis) (or (is x ascii.full_stop) (or (is x ascii.percent_sign) (or (is x ascii.plus_sign) (is x ascii.asterisk))))))
+    (or (is x (ascii "\\"))
+    (or (is x (ascii "(")) (or (is x (ascii ".")) (or (is x (ascii "%")) (or (is x (ascii "+")) (is x (ascii "*")))))))
 
 -- none of them: each test by itself
 record Quiet (x : ℕ) : Type 0 where
   no-code-point : ident_code_point x ≡ false
-  no-escape : is x ascii.reverse_solidus ≡ false
-  no-round : is x ascii.left_parenthesis ≡ false
-  no_stop : is x ascii.full_stop ≡ false
-  no-percent : is x ascii.percent_sign ≡ false
-  no_plus : is x ascii.plus_sign ≡ false
-  no-asterisk : is x ascii.asterisk ≡ false
+  no-escape : is x (ascii "\\") ≡ false
+  no-round : is x (ascii "(") ≡ false
+  no_stop : is x (ascii ".") ≡ false
+  no-percent : is x (ascii "%") ≡ false
+  no_plus : is x (ascii "+") ≡ false
+  no-asterisk : is x (ascii "*") ≡ false
 
 -- where the test of all does not hold
 quiet : (x : ℕ) → continues x ≡ false → Quiet x
@@ -229,7 +229,7 @@ atom-ends (dimension n u) x y z e d f = let q = quiet x e in rw (q.no-code-point
 atom-ends comma x y z e d f = refl
 atom-ends colon x y z e d f = refl
 atom-ends semicolon x y z e d f = refl
-atom-ends (delimiter c h) x y z e d f = ap not (and_right (is c ascii.solidus) (is x ascii.asterisk) (quiet x e).no-asterisk)
+atom-ends (delimiter c h) x y z e d f = ap not (and_right (is c (ascii "/")) (is x (ascii "*")) (quiet x e).no-asterisk)
 atom-ends point x y z e d f = ap not (ended-digit x (quiet x e).no-code-point)
 atom-ends hyphen x y z e d f = let q = quiet x e in rw (q.no-code-point, q.no-escape, q.no_stop)
 atom-ends addition x y z e d f = ap not f
@@ -282,10 +282,10 @@ any-second : (y : ℕ) → begins_name y 0 ≡ false → (z : ℕ) → begins_na
 unfolding begins_name
 any-second y e z =
     let a = neither (ident_start y) _ e in
-    let b = neither (is y ascii.reverse_solidus) _ a.1 in
-    or-none _ _ a.0 (or-none _ _ b.0 (and_left _ _ (first-fails (is y ascii.hyphen_minus) b.1)))
+    let b = neither (is y (ascii "\\")) _ a.1 in
+    or-none _ _ a.0 (or-none _ _ b.0 (and_left _ _ (first-fails (is y (ascii "-")) b.1)))
   where
-    first-fails : (t : Bool) → and t (not (or (is_digit 0) (is 0 ascii.full_stop))) ≡ false → t ≡ false
+    first-fails : (t : Bool) → and t (not (or (is_digit 0) (is 0 (ascii ".")))) ≡ false → t ≡ false
     first-fails true h = unfold and or is_digit within is in never (sym h)
     first-fails false h = refl
 
@@ -297,8 +297,8 @@ any-follows (string q) x y e z = e
 any-follows (hash h) x y e z = e
 any-follows (number n) x y e z =
     let a = and-true (ends_name x) _ e in
-    let b = and-true (not (is x ascii.full_stop)) _ a.1 in
-    let c = and-true (not (is x ascii.percent_sign)) _ b.1 in
+    let b = and-true (not (is x (ascii "."))) _ a.1 in
+    let c = and-true (not (is x (ascii "%"))) _ b.1 in
     and_both _ _ a.0 (and_both _ _ b.0 (and_both _ _ c.0 (ap not (any-second y (not-true _ c.1) z))))
 any-follows (percentage n) x y e z = e
 any-follows (dimension n u) x y e z = e
@@ -354,12 +354,12 @@ closer-halts o r = halts {l = []} none (closed o r)
 
 -- ---- the last two tokens of a value
 -- both of the mark go on
-mark-goes : (step_of false (bracket_of (tokens.delim ascii.exclamation_mark)) [] ≡ next []) × (step_of false (bracket_of (tokens.ident (text "important"))) [] ≡ next [])
+mark-goes : (step_of false (bracket_of (tokens.delim (ascii "!"))) [] ≡ next []) × (step_of false (bracket_of (tokens.ident (text "important"))) [] ≡ next [])
 unfolding step_of bracket_of
 mark-goes = (refl, refl)
 
 -- one that is no '!' is not of the mark
-pub plain-first : (k : Token) (ks : List Token) → is_delim ascii.exclamation_mark k ≡ false → (marked (k ∷ ks)).important ≡ (marked ks).important
+pub plain-first : (k : Token) (ks : List Token) → is_delim (ascii "!") k ≡ false → (marked (k ∷ ks)).important ≡ (marked ks).important
 unfolding marked is_mark and pick
 plain-first k [] e = refl
 plain-first k (a ∷ []) e = rw e
@@ -375,7 +375,7 @@ plain-behind (x ∷ z ∷ []) k ys e = plain-behind (z ∷ []) k ys e
 plain-behind (x ∷ z ∷ a ∷ xs) k ys e = plain-behind (z ∷ a ∷ xs) k ys e
 
 -- an atom that is no '!'
-atom-plain : (a : Atom) → is_bang a ≡ false → is_delim ascii.exclamation_mark (means_atom a) ≡ false
+atom-plain : (a : Atom) → is_bang a ≡ false → is_delim (ascii "!") (means_atom a) ≡ false
 unfolding is_bang means_atom is_delim is
 atom-plain (word n) e = refl
 atom-plain (string q) e = refl
@@ -392,7 +392,7 @@ atom-plain hyphen e = refl
 atom-plain addition e = refl
 
 -- nor is a bracket, which is no word either
-brackets-plain : (o : Opening) → (is_delim ascii.exclamation_mark (means_opening o) ≡ false) × (is_delim ascii.exclamation_mark (means_closer o) ≡ false)
+brackets-plain : (o : Opening) → (is_delim (ascii "!") (means_opening o) ≡ false) × (is_delim (ascii "!") (means_closer o) ≡ false)
     × (is_word (text "important") (means_closer o) ≡ false)
 unfolding means_opening means_closer is_delim is_word
 brackets-plain (function n d) = (refl, refl, refl)
@@ -424,7 +424,7 @@ unmarked-whole (a ∷ b ∷ c ∷ ks) e = ap (onto a) (unmarked-whole (b ∷ c �
 
 -- the tokens of the mark
 abbrev pub mark_tokens : List Token
-mark_tokens = tokens.delim ascii.exclamation_mark ∷ tokens.ident (text "important") ∷ []
+mark_tokens = tokens.delim (ascii "!") ∷ tokens.ident (text "important") ∷ []
 
 -- the mark behind any tokens is taken off, and the tokens are left
 marked-is : (ks : List Token) → marked (ks ++ mark_tokens) ≡ record { tokens = ks; important = true }
@@ -480,8 +480,8 @@ module _ {include : Bool} where
 -- the document ends a declaration's value before a semicolon or the brace that closes its block (5.4.4, 5.4.6), and at the end of the text
 pub data ValueEnds : List ℕ → Type 0 where
   at-end : (b : Blanks) → ValueEnds b.bytes
-  before-semicolon : (b : Blanks) (r : List ℕ) → ValueEnds (b.bytes ++ (ascii.semicolon ∷ r))
-  before-brace : (b : Blanks) (r : List ℕ) → ValueEnds (b.bytes ++ (ascii.right_curly_bracket ∷ r))
+  before-semicolon : (b : Blanks) (r : List ℕ) → ValueEnds (b.bytes ++ (ascii ";" ∷ r))
+  before-brace : (b : Blanks) (r : List ℕ) → ValueEnds (b.bytes ++ (ascii "}" ∷ r))
 
 -- a token that ends the statement
 stop-scan : (l : ℕ) (t : List ℕ) (at n : ℕ) (k : Token) → token_of t ≡ ok n k → step_of false (bracket_of k) [] ≡ before → scan l false t at [] ≡ stop at true
@@ -514,9 +514,9 @@ pub value-stops : {z : List ℕ} → ValueEnds z → (l at : ℕ) → scan l fal
 unfolding closer means_closer
 value-stops (at-end b) l at = none-scan l b.bytes at (blank-token b)
 value-stops (before-semicolon b r) l at =
-    stop-scan l (b.bytes ++ (ascii.semicolon ∷ r)) at _ _ (token-read b (ascii.semicolon ∷ r) 1 tokens.semicolon (semicolon-token r)) mark-steps.0
+    stop-scan l (b.bytes ++ (ascii ";" ∷ r)) at _ _ (token-read b (ascii ";" ∷ r) 1 tokens.semicolon (semicolon-token r)) mark-steps.0
 value-stops (before-brace b r) l at =
-    stop-scan l (b.bytes ++ (ascii.right_curly_bracket ∷ r)) at _ _ (closer-read b brace r) mark-steps.1
+    stop-scan l (b.bytes ++ (ascii "}" ∷ r)) at _ _ (closer-read b brace r) mark-steps.1
 
 -- where a value ends in a declaration, values may end
 pub ends-halt : {z : List ℕ} → ValueEnds z → Halts z
@@ -577,9 +577,9 @@ value-ends v z h o e =
 
 -- ---- the mark `!important`
 -- the '!' is a delimiter
-pub bang-begins : (t : List ℕ) → Begins (ascii.exclamation_mark ∷ t) 1 (tokens.delim ascii.exclamation_mark)
+pub bang-begins : (t : List ℕ) → Begins (ascii "!" ∷ t) 1 (tokens.delim (ascii "!"))
 unfolding is_delimiter member text utf8 written_atom means_atom may_follow or and is pick
-bang-begins t = atom-begins (delimiter ascii.exclamation_mark refl) t refl
+bang-begins t = atom-begins (delimiter (ascii "!") refl) t refl
 
 -- and the word ends before what closes
 important-begins : (n : Ident) → folded n ≡ text "important" → (z : List ℕ) → Halts z → Begins (n.bytes ++ z) (length n.bytes) (tokens.ident (text "important"))
@@ -592,22 +592,22 @@ pub mark-halts : (m : Importance) (z : List ℕ) → Halts z → Halts (written_
 unfolding written_importance
 mark-halts normal z h = h
 mark-halts (important b c n i) z h =
-    subst Halts (sym (append_assoc b.bytes (ascii.exclamation_mark ∷ (c.bytes ++ n.bytes)) z)) (halts b.blank (at-bang ((c.bytes ++ n.bytes) ++ z)))
+    subst Halts (sym (append_assoc b.bytes (ascii "!" ∷ (c.bytes ++ n.bytes)) z)) (halts b.blank (at-bang ((c.bytes ++ n.bytes) ++ z)))
 
 module _ (b c : Blanks) (n : Ident) (i : folded n ≡ text "important") (z : List ℕ) where
   -- the mark, with z behind it
-  mark-onto : written_importance (important b c n i) ++ z ≡ b.bytes ++ (ascii.exclamation_mark ∷ (c.bytes ++ (n.bytes ++ z)))
+  mark-onto : written_importance (important b c n i) ++ z ≡ b.bytes ++ (ascii "!" ∷ (c.bytes ++ (n.bytes ++ z)))
   unfolding written_importance
   mark-onto =
-      append_assoc b.bytes (ascii.exclamation_mark ∷ (c.bytes ++ n.bytes)) z
-      ∙ ap (λ (l : List ℕ). b.bytes ++ (ascii.exclamation_mark ∷ l)) (append_assoc c.bytes n.bytes z)
+      append_assoc b.bytes (ascii "!" ∷ (c.bytes ++ n.bytes)) z
+      ∙ ap (λ (l : List ℕ). b.bytes ++ (ascii "!" ∷ l)) (append_assoc c.bytes n.bytes z)
 
   -- its tokens pass behind others
   mark-pass : {s : List ℕ} {ks : List Token} → Passes false s (written_importance (important b c n i) ++ z) 0 [] [] ks → Halts z → Passes false s z 0 [] [] (ks ++ mark_tokens)
   mark-pass {s} {ks} k g =
       let x = c.bytes ++ (n.bytes ++ z) in
       let p = subst (λ (l : List ℕ). Passes false s l 0 [] [] ks) mark-onto k in
-      let q = passes-token {include = false} b (ascii.exclamation_mark ∷ []) x (0 + p.taken) (tokens.delim ascii.exclamation_mark) [] [] (bang-begins x) mark-goes.0 in
+      let q = passes-token {include = false} b (ascii "!" ∷ []) x (0 + p.taken) (tokens.delim (ascii "!")) [] [] (bang-begins x) mark-goes.0 in
       passes_on p (passes_on q (passes-token {include = false} c n.bytes z (0 + p.taken + q.taken) (tokens.ident (text "important")) [] [] (important-begins n i z g) mark-goes.1))
 
 -- ---- `value_of`

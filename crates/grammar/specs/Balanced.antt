@@ -3,7 +3,7 @@
 -- such as `1.5`, names with capital letters and `0 auto` are in it, which the reader takes apart in another way than the
 -- document. Sections were not held against the document's text.
 use Rattle.std.specs.Prelude.{◌≡◌, refl, Bool, true, false, not, List, [], ◌∷◌, ◌++◌, map, ℕ, get_or, drop}
-use Rattle.combinators.specs.Ascii as ascii
+use Prim.Native.Char.{code as ascii}
 use Rattle.combinators.specs.Choice.{pick, or, and, is, within}
 use Rattle.combinators.specs.Word.{starts_with, same_text}
 use Rattle.combinators.specs.All.{member}
@@ -21,7 +21,7 @@ tilde = 0x7e
 -- a printed character of ASCII that opens and closes nothing, quotes nothing and ends nothing. A '\' is left out, whose escapes the reader reads in
 -- another way.
 unfoldable pub is_plain : ℕ → Bool
-is_plain x = and (within x ascii.exclamation_mark tilde) (not (member x (text "\"'()[]{};!\\")))
+is_plain x = and (within x (ascii "!") tilde) (not (member x (text "\"'()[]{};!\\")))
 
 pub data Bracket : Type 0 where
   round : Bracket
@@ -41,14 +41,14 @@ pub data Balanced : Type 0 where
 
 -- ---- how it is written
 unfoldable pub opens : Bracket → ℕ
-opens round = ascii.left_parenthesis
-opens square = ascii.left_square_bracket
-opens curly = ascii.left_curly_bracket
+opens round = ascii "("
+opens square = ascii "["
+opens curly = ascii "{"
 
 unfoldable pub closes : Bracket → ℕ
-closes round = ascii.right_parenthesis
-closes square = ascii.right_square_bracket
-closes curly = ascii.right_curly_bracket
+closes round = ascii ")"
+closes square = ascii "]"
+closes curly = ascii "}"
 
 unfoldable pub written_balanced : Balanced → List ℕ
 written_balanced end = []
@@ -56,15 +56,15 @@ written_balanced (space x w v) = x ∷ written_balanced v
 written_balanced (remark c w v) = c ++ written_balanced v
 written_balanced (plain x e v) = x ∷ written_balanced v
 written_balanced (quoted q v) = q.quote ∷ (q.bytes ++ (q.quote ∷ written_balanced v))
-written_balanced (semicolon v) = ascii.semicolon ∷ written_balanced v
-written_balanced (bang v) = ascii.exclamation_mark ∷ written_balanced v
+written_balanced (semicolon v) = ascii ";" ∷ written_balanced v
+written_balanced (bang v) = ascii "!" ∷ written_balanced v
 written_balanced (block b w v) = opens b ∷ (written_balanced w ++ (closes b ∷ written_balanced v))
 
 -- ---- what makes its parts what they are
 -- printed characters up to a `)`: behind `url(` the document takes them for one <url-token> (4.3.6, Consume a url token)
 unfoldable pub is_address : List ℕ → Bool
 is_address [] = false
-is_address (x ∷ t) = or (is x ascii.right_parenthesis) (and (is_plain x) (is_address t))
+is_address (x ∷ t) = or (is x (ascii ")")) (and (is_plain x) (is_address t))
 
 -- `url(`, in letters of either case, with neither a string nor such characters behind it
 unfoldable pub is_odd_url : List ℕ → Bool

@@ -4,7 +4,7 @@
 -- where no other document is named; they and what is quoted were not held against the documents' texts.
 use Rattle.std.specs.Prelude.{◌≡◌, Bool, true, false, not, List, [], ◌∷◌, ◌++◌, ℕ, ◌+◌, ◌*◌, ◌≤◌, leb, length}
 use Rattle.std.proofs.Common.{ap}
-use Rattle.combinators.specs.Ascii as ascii
+use Prim.Native.Char.{code as ascii}
 use Rattle.combinators.specs.Choice.{pick, or, and, is}
 use Rattle.combinators.specs.Word.{same_text}
 use Rattle.characters.specs.Literal.{text}
@@ -79,7 +79,7 @@ length_units = text "em" ∷ text "ex" ∷ text "in" ∷ text "cm" ∷ text "mm"
 
 -- the number is zero
 unfoldable pub is_zero : Numeral → Bool
-is_zero n = all_of (λ d. is d ascii.digit_zero) n.digits
+is_zero n = all_of (λ d. is d (ascii "0")) n.digits
 
 -- so many digits behind a full stop are zero as an f32 only if they are zero
 abbrev pub finest : ℕ

@@ -1,7 +1,7 @@
 -- The argument of `:nth-child()` in the words of Selectors Level 3 (section 6.6.5.2, and `nth` in section 10.1), as far as the reader agrees
 -- with the document: `n`, `even` and `odd` in small letters, and no white space between the second sign and its digits.
 use Rattle.std.specs.Prelude.{Bool, true, false, List, [], ◌∷◌, ◌++◌, ℕ, ◌-◌, ◌≤◌, pos, length}
-use Rattle.combinators.specs.Ascii as ascii
+use Prim.Native.Char.{code as ascii}
 use Rattle.characters.specs.Literal.{text}
 use Rattle.lexer.specs.Number.{is_digit}
 use Rattle.lexer.proofs.SyntaxName.{Each}
@@ -24,7 +24,7 @@ pub data Sign : Type 0 where
 -- what digits are worth; none are worth 1
 unfoldable pub worth : List ℕ → ℕ
 worth [] = 1
-worth (x ∷ r) = numeral 10 (λ d. d - ascii.digit_zero) 0 (x ∷ r)
+worth (x ∷ r) = numeral 10 (λ d. d - ascii "0") 0 (x ∷ r)
 
 -- INTEGER?, of what the crate converts
 pub record Count : Type 0 where
@@ -50,18 +50,18 @@ pub data Argument : Type 0 where
 -- ---- how it is written
 unfoldable pub written_sign : Sign → List ℕ
 written_sign unsigned = []
-written_sign plus = ascii.plus_sign ∷ []
-written_sign minus = ascii.hyphen_minus ∷ []
+written_sign plus = ascii "+" ∷ []
+written_sign minus = ascii "-" ∷ []
 
 unfoldable pub sign_byte : Bool → ℕ
-sign_byte true = ascii.hyphen_minus
-sign_byte false = ascii.plus_sign
+sign_byte true = ascii "-"
+sign_byte false = ascii "+"
 
 unfoldable pub written_argument : Argument → List ℕ
 written_argument even = text "even"
 written_argument odd = text "odd"
-written_argument (multiple s a) = written_sign s ++ (a.bytes ++ (ascii.small_n ∷ []))
-written_argument (sum s a w m b) = written_sign s ++ (a.bytes ++ (ascii.small_n ∷ (w.bytes ++ (sign_byte m ∷ b.count.bytes))))
+written_argument (multiple s a) = written_sign s ++ (a.bytes ++ (ascii "n" ∷ []))
+written_argument (sum s a w m b) = written_sign s ++ (a.bytes ++ (ascii "n" ∷ (w.bytes ++ (sign_byte m ∷ b.count.bytes))))
 written_argument (number s b) = written_sign s ++ b.count.bytes
 
 -- ---- what it means

@@ -1,7 +1,7 @@
 -- Selectors in the words of Selectors Level 3 (section 10.1, the grammar; sections 5 to 8, what its parts are called), as far as the reader
 -- agrees with the document: how a selector is written, and the components that it means.
 use Rattle.std.specs.Prelude.{◌≡◌, Bool, true, false, not, List, [], ◌∷◌, ◌++◌, map, reverse, ℕ}
-use Rattle.combinators.specs.Ascii as ascii
+use Prim.Native.Char.{code as ascii}
 use Rattle.combinators.specs.Choice.{or, is}
 use Rattle.characters.specs.Literal.{text}
 use Rattle.lexer.specs.Name.{lower, is_hex_digit}
@@ -29,7 +29,7 @@ pub record Spaces : Type 0 where
 
 -- the document's preprocessing leaves the byte as it is. It makes a newline of a carriage return and of a form feed, which the reader does not.
 unfoldable pub unprocessed : ℕ → Bool
-unprocessed x = not (or (is x 0) (or (is x ascii.carriage_return) (is x ascii.form_feed)))
+unprocessed x = not (or (is x 0) (or (is x (ascii "\r")) (is x (ascii "\u{c}"))))
 
 -- what stands between two quotes q, and the text that it is (CSS Syntax 4.3.5, CSS 2.1 4.3.7): a byte that is neither a quote nor a newline nor a
 -- backslash; a backslash and a byte that is neither a newline nor a hexadecimal digit, which is that byte; a backslash and a newline, which are
@@ -37,8 +37,8 @@ unprocessed x = not (or (is x 0) (or (is x ascii.carriage_return) (is x ascii.fo
 pub data Within (q : ℕ) : List ℕ → List ℕ → Type 0 where
   nothing : Within q [] []
   byte : {x : ℕ} {w b : List ℕ} → ordinary q x ≡ true → Within q w b → Within q (x ∷ w) (x ∷ b)
-  escaped : {x : ℕ} {w b : List ℕ} → is_hex_digit x ≡ false → is x ascii.line_feed ≡ false → Within q w b → Within q (ascii.reverse_solidus ∷ x ∷ w) (x ∷ b)
-  continued : {w b : List ℕ} → Within q w b → Within q (ascii.reverse_solidus ∷ ascii.line_feed ∷ w) b
+  escaped : {x : ℕ} {w b : List ℕ} → is_hex_digit x ≡ false → is x (ascii "\n") ≡ false → Within q w b → Within q (ascii "\\" ∷ x ∷ w) (x ∷ b)
+  continued : {w b : List ℕ} → Within q w b → Within q (ascii "\\" ∷ ascii "\n" ∷ w) b
 
 -- STRING
 pub record Quoted : Type 0 where
@@ -76,14 +76,14 @@ pub data Complex : Type 0 where
 
 -- ---- how it is written
 unfoldable pub written_simple : Simple → List ℕ
-written_simple (id n) = ascii.number_sign ∷ n.bytes
-written_simple (class n) = ascii.full_stop ∷ n.bytes
-written_simple (attribute n) = ascii.left_square_bracket ∷ (n.bytes ++ (ascii.right_square_bracket ∷ []))
-written_simple (attribute_is n v) = ascii.left_square_bracket ∷ (n.bytes ++ (ascii.equals_sign ∷ (v.bytes ++ (ascii.right_square_bracket ∷ []))))
+written_simple (id n) = ascii "#" ∷ n.bytes
+written_simple (class n) = ascii "." ∷ n.bytes
+written_simple (attribute n) = ascii "[" ∷ (n.bytes ++ (ascii "]" ∷ []))
+written_simple (attribute_is n v) = ascii "[" ∷ (n.bytes ++ (ascii "=" ∷ (v.bytes ++ (ascii "]" ∷ []))))
 written_simple (attribute_string n v) =
-    ascii.left_square_bracket ∷ (n.bytes ++ (ascii.equals_sign ∷ v.quote ∷ (v.bytes ++ (v.quote ∷ ascii.right_square_bracket ∷ []))))
+    (ascii "[") ∷ (n.bytes ++ (ascii "=" ∷ v.quote ∷ (v.bytes ++ (v.quote ∷ ascii "]" ∷ []))))
 written_simple (nth_child b x c) =
-    ascii.colon ∷ (text "nth-child" ++ (ascii.left_parenthesis ∷ (b.bytes ++ (written_argument x ++ (c.bytes ++ (ascii.right_parenthesis ∷ []))))))
+    (ascii ":") ∷ (text "nth-child" ++ (ascii "(" ∷ (b.bytes ++ (written_argument x ++ (c.bytes ++ (ascii ")" ∷ []))))))
 
 unfoldable pub written_simples : List Simple → List ℕ
 written_simples [] = []
@@ -91,11 +91,11 @@ written_simples (p ∷ ps) = written_simple p ++ written_simples ps
 
 unfoldable pub written_compound : Compound → List ℕ
 written_compound (typed n ps) = n.bytes ++ written_simples ps
-written_compound (universal ps) = ascii.asterisk ∷ written_simples ps
+written_compound (universal ps) = ascii "*" ∷ written_simples ps
 written_compound (untyped p ps) = written_simple p ++ written_simples ps
 
 unfoldable pub written_combinator : Combinator → List ℕ
-written_combinator (child b c) = b.bytes ++ (ascii.greater_than_sign ∷ c.bytes)
+written_combinator (child b c) = b.bytes ++ (ascii ">" ∷ c.bytes)
 written_combinator (descendant s) = s.space ∷ s.more.bytes
 
 unfoldable pub written : Complex → List ℕ
@@ -181,7 +181,7 @@ written_chosen c = written c.selector ++ (written_pseudo c.pseudo ++ c.gap.bytes
 
 unfoldable pub written_group : Group → List ℕ
 written_group (last c) = written_chosen c
-written_group (several c h b g) = written_chosen c ++ (ascii.comma ∷ (b.bytes ++ written_group g))
+written_group (several c h b g) = written_chosen c ++ (ascii "," ∷ (b.bytes ++ written_group g))
 
 unfoldable pub means_chosen : Chosen → Selector
 means_chosen c = record { components = reverse (in_order c.selector); pseudo = c.pseudo }

@@ -2,7 +2,7 @@
 -- block's contents; 5.4.6, a declaration) and Selectors Level 3 (section 5, groups of selectors), as far as the reader agrees with the documents: how
 -- a sheet is written, what it means, and what it is to be read. Sections and what is quoted were not held against the documents' texts.
 use Rattle.std.specs.Prelude.{◌≡◌, true, List, [], ◌∷◌, ◌++◌, ℕ, ◌+◌, length, get_or}
-use Rattle.combinators.specs.Ascii as ascii
+use Prim.Native.Char.{code as ascii}
 use Rattle.lexer.proofs.SyntaxWhitespace.{none}
 use Rattle.syntax.specs.Declaration.{Declaration}
 use Rattle.syntax.specs.Selector.{RuleSet}
@@ -78,36 +78,36 @@ pub record Sheet : Type 0 where
 unfoldable pub written_item : Item → List ℕ
 written_item d =
     (property d.declared).bytes
-    ++ (d.before_colon.bytes ++ (ascii.colon ∷ (written_value d.declared ++ written_importance d.importance)))
+    ++ (d.before_colon.bytes ++ (ascii ":" ∷ (written_value d.declared ++ written_importance d.importance)))
 
 unfoldable pub written_next : Next → List ℕ
-written_next m = ascii.semicolon ∷ (m.lead.bytes ++ written_item m.item)
+written_next m = ascii ";" ∷ (m.lead.bytes ++ written_item m.item)
 
 unfoldable pub written_nexts : List Next → List ℕ
 written_nexts [] = []
 written_nexts (m ∷ ms) = written_next m ++ written_nexts ms
 
 unfoldable pub written_shut : Shut → List ℕ
-written_shut closed = ascii.right_curly_bracket ∷ []
-written_shut (parted b) = ascii.semicolon ∷ (b.bytes ++ (ascii.right_curly_bracket ∷ []))
+written_shut closed = ascii "}" ∷ []
+written_shut (parted b) = ascii ";" ∷ (b.bytes ++ (ascii "}" ∷ []))
 
 unfoldable pub written_end : End → List ℕ
 written_end e = e.gap.bytes ++ written_shut e.shut
 
 unfoldable pub written_block : Block → List ℕ
-written_block (empty e) = ascii.left_curly_bracket ∷ written_end e
-written_block (filled b d ms e) = ascii.left_curly_bracket ∷ (b.bytes ++ (written_item d ++ (written_nexts ms ++ written_end e)))
+written_block (empty e) = ascii "{" ∷ written_end e
+written_block (filled b d ms e) = ascii "{" ∷ (b.bytes ++ (written_item d ++ (written_nexts ms ++ written_end e)))
 
 unfoldable pub written_rule : Rule → List ℕ
 written_rule r = written_group r.selectors ++ (written_block r.block ++ r.behind.bytes)
 
 unfoldable pub written_at_end : AtEnd → List ℕ
-written_at_end semicolon = ascii.semicolon ∷ []
-written_at_end (braces v c t b) = ascii.left_curly_bracket ∷ (written_balanced v ++ (b.bytes ++ (ascii.right_curly_bracket ∷ [])))
+written_at_end semicolon = ascii ";" ∷ []
+written_at_end (braces v c t b) = ascii "{" ∷ (written_balanced v ++ (b.bytes ++ (ascii "}" ∷ [])))
 
 -- without the white space behind it
 unfoldable pub written_at : AtRule → List ℕ
-written_at a = ascii.commercial_at ∷ (a.name.bytes ++ (written_balanced a.prelude ++ (a.gap.bytes ++ written_at_end a.end)))
+written_at a = ascii "@" ∷ (a.name.bytes ++ (written_balanced a.prelude ++ (a.gap.bytes ++ written_at_end a.end)))
 
 unfoldable pub written_statement : Statement → List ℕ
 written_statement (rule r) = written_rule r

@@ -80,5 +80,5 @@ case-start :
       start = 5;
     } ∷ []))
     × (ident_of (drop 13 escaped) ≡ ok 7 (literal.text "color"))
-unfolding escaped outcome.on_outcome outcome.behind outcome.parsed outcome.or_else selector.class_of selector.hash_of selector.attr_of selector.pseudo_class_of selector.marked selector.blank_of selector.component_of selector.components_of selector.components_from selector.some_of selector.with_element_of selector.without_element_of selector.body_of selector.without_blank selector.pseudo_of selector.pseudo_taken selector.selector_of sheet.spaced sheet.before_end sheet.block_of sheet.ruleset_of sheet.at_rule_of sheet.statements_of sheet.moved_by sheet.sheet_from sheet.sheet_of selector_list.more_selectors selector_list.more_from selector_list.selectors_of choice.pick choice.or choice.and choice.is choice.within parsed.on_parsed parsed.behind repeat.took repeat.many repeat.texts word.starts_with word.same_text literal.text utf8.is_scalar utf8.or_replacement utf8.utf8 utf8.taken_of name.is_nmstart name.is_nmchar name.lower name.folded_char name.is_hex_digit name.hex_digit name.hex_run name.hex_count name.hex_value name.escaped_of name.ident_escape_of name.nmstart_of name.nmchar_of name.bytes_of name.char_taken name.char_text name.chars_end name.chars_text name.name_from name.dash name.name_of name.ident_of token.ident_like_of token.is_ident_start token.mark_of token.token_with token.token_at token.token_of token.is_quote whitespace.comment_end whitespace.comment_of whitespace.is_whitespace whitespace.whitespace_item whitespace.skip_whitespace colour.rgb colour.colour_of property.decl_of rules.colon_behind rules.property_of rules.value_behind rules.declaration_of rules.starts_at rules.more_rules rules.declarations_of value.bracket_of value.closing value.ending value.step_of value.stop value.cons value.on_step value.scan value.statement_of value.tokens_of value.is_mark value.marked value.value_from value.value_of words.is_word words.is_delim words.lookup words.on_found utf8.scalar_of utf8.scalar_by utf8.lead_of token.coded number.is_digit row.columns_of token.text_of
+unfolding escaped outcome.on_outcome outcome.behind outcome.parsed outcome.or_else selector.class_of selector.hash_of selector.attr_of selector.pseudo_class_of selector.marked selector.blank_of selector.component_of selector.components_of selector.components_from selector.some_of selector.with_element_of selector.without_element_of selector.body_of selector.without_blank selector.pseudo_of selector.pseudo_taken selector.selector_of sheet.spaced sheet.before_end sheet.past_semicolon sheet.block_of sheet.ruleset_of sheet.at_rule_of sheet.statements_of sheet.moved_by sheet.sheet_from sheet.sheet_of selector_list.more_selectors selector_list.more_from selector_list.selectors_of choice.pick choice.or choice.and choice.is choice.within parsed.on_parsed parsed.behind repeat.took repeat.many repeat.texts word.starts_with word.same_text literal.text utf8.is_scalar utf8.or_replacement utf8.utf8 utf8.taken_of name.is_nmstart name.is_nmchar name.lower name.folded_char name.is_hex_digit name.hex_digit name.hex_run name.hex_count name.hex_value name.escaped_of name.ident_escape_of name.nmstart_of name.nmchar_of name.bytes_of name.char_taken name.char_text name.chars_end name.chars_text name.name_from name.dash name.name_of name.ident_of token.ident_like_of token.is_ident_start token.mark_of token.token_with token.token_at token.token_of token.is_quote whitespace.comment_end whitespace.comment_of whitespace.is_whitespace whitespace.whitespace_item whitespace.skip_whitespace colour.rgb colour.colour_of property.decl_of rules.colon_behind rules.property_of rules.value_behind rules.declaration_of rules.starts_at rules.more_rules rules.declarations_of value.bracket_of value.closing value.ending value.step_of value.stop value.cons value.on_step value.scan value.statement_of value.tokens_of value.is_mark value.marked value.value_from value.value_of words.is_word words.is_delim words.lookup words.on_found utf8.scalar_of utf8.scalar_by utf8.lead_of token.coded number.is_digit row.columns_of token.text_of
 case-start = (refl, refl)

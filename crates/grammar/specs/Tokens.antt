@@ -2,7 +2,7 @@
 -- what it means, and what may stand behind it so that it ends there.
 use Rattle.std.specs.Prelude.{◌≡◌, refl, Bool, true, false, not, List, [], ◌∷◌, ◌++◌, map, ℕ, ◌+◌, ◌≤◌, length, get_or}
 use Rattle.std.proofs.Common.{arith}
-use Rattle.combinators.specs.Ascii as ascii
+use Prim.Native.Char.{code as ascii}
 use Rattle.combinators.specs.Choice.{pick, or, and, is, within}
 use Rattle.combinators.specs.Word.{starts_with, same_text}
 use Rattle.combinators.specs.All.{member}
@@ -44,7 +44,7 @@ pub record Hashed : Type 0 where
 
 -- a name that is the exponent of the number before it (4.3.12): `e` and a digit, with a '-' or none between them
 unfoldable pub is_exponent : List ℕ → Bool
-is_exponent u = and (starts_with (text "e") u) (or (is_digit (get_or u 1 0)) (and (is (get_or u 1 0) ascii.hyphen_minus) (is_digit (get_or u 2 0))))
+is_exponent u = and (starts_with (text "e") u) (or (is_digit (get_or u 1 0)) (and (is (get_or u 1 0) (ascii "-")) (is_digit (get_or u 2 0))))
 
 -- the unit of a <dimension-token> (4.3.3)
 pub record UnitName : Type 0 where
@@ -81,7 +81,7 @@ pub data Opening : Type 0 where
 
 -- ---- how it is written
 unfoldable pub written_stop : Bool → List ℕ
-written_stop true = ascii.full_stop ∷ []
+written_stop true = ascii "." ∷ []
 written_stop false = []
 
 unfoldable pub written_numeral : Numeral → List ℕ
@@ -90,37 +90,37 @@ written_numeral n = written_sign n.sign ++ (written_stop n.fraction ++ n.digits)
 unfoldable pub written_atom : Atom → List ℕ
 written_atom (word n) = n.bytes
 written_atom (string q) = q.quote ∷ (q.bytes ++ (q.quote ∷ []))
-written_atom (hash h) = ascii.number_sign ∷ h.bytes
+written_atom (hash h) = ascii "#" ∷ h.bytes
 written_atom (number n) = written_numeral n
-written_atom (percentage n) = written_numeral n ++ (ascii.percent_sign ∷ [])
+written_atom (percentage n) = written_numeral n ++ (ascii "%" ∷ [])
 written_atom (dimension n u) = written_numeral n ++ u.name.bytes
-written_atom comma = ascii.comma ∷ []
-written_atom colon = ascii.colon ∷ []
-written_atom semicolon = ascii.semicolon ∷ []
+written_atom comma = ascii "," ∷ []
+written_atom colon = ascii ":" ∷ []
+written_atom semicolon = ascii ";" ∷ []
 written_atom (delimiter c d) = c ∷ []
-written_atom point = ascii.full_stop ∷ []
-written_atom hyphen = ascii.hyphen_minus ∷ []
-written_atom addition = ascii.plus_sign ∷ []
+written_atom point = ascii "." ∷ []
+written_atom hyphen = ascii "-" ∷ []
+written_atom addition = ascii "+" ∷ []
 
 unfoldable pub written_opening : Opening → List ℕ
-written_opening (function n d) = n.bytes ++ (ascii.left_parenthesis ∷ [])
-written_opening round = ascii.left_parenthesis ∷ []
-written_opening square = ascii.left_square_bracket ∷ []
-written_opening brace = ascii.left_curly_bracket ∷ []
+written_opening (function n d) = n.bytes ++ (ascii "(" ∷ [])
+written_opening round = ascii "(" ∷ []
+written_opening square = ascii "[" ∷ []
+written_opening brace = ascii "{" ∷ []
 
 -- the byte that closes what it opens: the ending token is the mirror of the opening one
 unfoldable pub closer : Opening → ℕ
-closer (function n d) = ascii.right_parenthesis
-closer round = ascii.right_parenthesis
-closer square = ascii.right_square_bracket
-closer brace = ascii.right_curly_bracket
+closer (function n d) = ascii ")"
+closer round = ascii ")"
+closer square = ascii "]"
+closer brace = ascii "}"
 
 -- ---- what it means
 -- the sign as the token's text has it: a '+' is left out
 unfoldable pub means_sign : Sign → List ℕ
 means_sign unsigned = []
 means_sign plus = []
-means_sign minus = ascii.hyphen_minus ∷ []
+means_sign minus = ascii "-" ∷ []
 
 unfoldable pub means_numeral : Numeral → List ℕ
 means_numeral n = means_sign n.sign ++ (written_stop n.fraction ++ n.digits)
@@ -136,9 +136,9 @@ means_atom comma = tokens.comma
 means_atom colon = tokens.colon
 means_atom semicolon = tokens.semicolon
 means_atom (delimiter c d) = tokens.delim c
-means_atom point = tokens.delim ascii.full_stop
-means_atom hyphen = tokens.delim ascii.hyphen_minus
-means_atom addition = tokens.delim ascii.plus_sign
+means_atom point = tokens.delim (ascii ".")
+means_atom hyphen = tokens.delim (ascii "-")
+means_atom addition = tokens.delim (ascii "+")
 
 unfoldable pub means_opening : Opening → Token
 means_opening (function n d) = tokens.function (folded n)
@@ -155,32 +155,32 @@ means_closer brace = tokens.close_brace
 -- ---- where it ends
 -- an ident sequence ends before x (4.3.11): no ident code point and no escape
 unfoldable pub ends_name : ℕ → Bool
-ends_name x = not (or (ident_code_point x) (is x ascii.reverse_solidus))
+ends_name x = not (or (ident_code_point x) (is x (ascii "\\")))
 
 -- y and z behind it would start an ident sequence (4.3.9): an ident-start code point, an escape, or a '-' behind which no number goes on
 unfoldable pub begins_name : ℕ → ℕ → Bool
-begins_name y z = or (ident_start y) (or (is y ascii.reverse_solidus) (and (is y ascii.hyphen_minus) (not (or (is_digit z) (is z ascii.full_stop)))))
+begins_name y z = or (ident_start y) (or (is y (ascii "\\")) (and (is y (ascii "-")) (not (or (is_digit z) (is z (ascii "."))))))
 
 -- what a number begins with (4.3.10): a digit, a full stop or a sign
 unfoldable pub begins_number : ℕ → Bool
-begins_number y = or (is_digit y) (or (is y ascii.full_stop) (or (is y ascii.plus_sign) (is y ascii.hyphen_minus)))
+begins_number y = or (is_digit y) (or (is y (ascii ".")) (or (is y (ascii "+")) (is y (ascii "-"))))
 
 -- the token ends where the byte x stands behind it, and behind white space and comments the bytes y and z; each is 0 where there is none. The reader
 -- takes a name behind white space for a number's unit, so none may begin there: to the document `0 auto` is two tokens. It takes a number behind a
 -- '+' and white space with the '+'.
 unfoldable pub may_follow : Atom → ℕ → ℕ → ℕ → Bool
-may_follow (word n) x y z = and (ends_name x) (not (is x ascii.left_parenthesis))
+may_follow (word n) x y z = and (ends_name x) (not (is x (ascii "(")))
 may_follow (string q) x y z = true
 may_follow (hash h) x y z = ends_name x
-may_follow (number n) x y z = and (ends_name x) (and (not (is x ascii.full_stop)) (and (not (is x ascii.percent_sign)) (not (begins_name y z))))
+may_follow (number n) x y z = and (ends_name x) (and (not (is x (ascii "."))) (and (not (is x (ascii "%"))) (not (begins_name y z))))
 may_follow (percentage n) x y z = true
-may_follow (dimension n u) x y z = and (ends_name x) (not (is x ascii.plus_sign))
+may_follow (dimension n u) x y z = and (ends_name x) (not (is x (ascii "+")))
 may_follow comma x y z = true
 may_follow colon x y z = true
 may_follow semicolon x y z = true
-may_follow (delimiter c d) x y z = not (and (is c ascii.solidus) (is x ascii.asterisk))
+may_follow (delimiter c d) x y z = not (and (is c (ascii "/")) (is x (ascii "*")))
 may_follow point x y z = not (is_digit x)
-may_follow hyphen x y z = and (ends_name x) (not (is x ascii.full_stop))
+may_follow hyphen x y z = and (ends_name x) (not (is x (ascii ".")))
 may_follow addition x y z = not (begins_number y)
 
 abbrev pub MayFollow : Atom → ℕ → ℕ → ℕ → Type 0
@@ -201,9 +201,9 @@ em = record { name = record { bytes = text "eM"; sequence = started refl (more r
 
 -- `+.5eM` is a dimension of `.5` and `em`; `.5` ends before `,` and ` -9`, and not before ` a`, ` -a` or `%`; `e3` is an exponent and `em` is none
 test-tokens : (written_atom (dimension half em) ≡ text "+.5eM") × (means_atom (dimension half em) ≡ tokens.dimension (text ".5") (text "em"))
-    × (may_follow (number half) ascii.comma ascii.comma 0 ≡ true) × (may_follow (number half) ascii.space ascii.small_a 0 ≡ false)
-    × (may_follow (number half) ascii.space ascii.hyphen_minus ascii.digit_nine ≡ true) × (may_follow (number half) ascii.space ascii.hyphen_minus ascii.small_a ≡ false)
-    × (may_follow (number half) ascii.percent_sign ascii.percent_sign 0 ≡ false)
+    × (may_follow (number half) (ascii ",") (ascii ",") 0 ≡ true) × (may_follow (number half) (ascii " ") (ascii "a") 0 ≡ false)
+    × (may_follow (number half) (ascii " ") (ascii "-") (ascii "9") ≡ true) × (may_follow (number half) (ascii " ") (ascii "-") (ascii "a") ≡ false)
+    × (may_follow (number half) (ascii "%") (ascii "%") 0 ≡ false)
     × (is_exponent (text "e3") ≡ true) × (is_exponent (text "e-3") ≡ true) × (is_exponent (text "em") ≡ false)
 unfolding written_atom written_numeral written_sign written_stop means_atom means_numeral means_sign may_follow ends_name begins_name is_exponent is_digit ident_code_point ident_start letter starts_with half em folded lower text utf8 continuation pick or and within is
 test-tokens = (refl, refl, refl, refl, refl, refl, refl, refl, refl, refl)

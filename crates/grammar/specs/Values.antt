@@ -2,7 +2,7 @@
 -- what a declaration's value may be (8.2, <declaration-value>), as far as the reader agrees with the document. Sections and what is quoted were not held
 -- against the document's text.
 use Rattle.std.specs.Prelude.{◌≡◌, Bool, true, false, List, [], ◌∷◌, ◌++◌, ℕ, get_or}
-use Rattle.combinators.specs.Ascii as ascii
+use Prim.Native.Char.{code as ascii}
 use Rattle.combinators.specs.Choice.{is}
 use Rattle.characters.specs.Literal.{text}
 use Rattle.lexer.specs.Token.{Token}
@@ -64,7 +64,7 @@ is_bang (dimension n u) = false
 is_bang comma = false
 is_bang colon = false
 is_bang semicolon = false
-is_bang (delimiter c d) = is c ascii.exclamation_mark
+is_bang (delimiter c d) = is c (ascii "!")
 is_bang point = false
 is_bang hyphen = false
 is_bang addition = false
@@ -109,7 +109,7 @@ pub data Importance : Type 0 where
 
 unfoldable pub written_importance : Importance → List ℕ
 written_importance normal = []
-written_importance (important b c n h) = b.bytes ++ (ascii.exclamation_mark ∷ (c.bytes ++ n.bytes))
+written_importance (important b c n h) = b.bytes ++ (ascii "!" ∷ (c.bytes ++ n.bytes))
 
 unfoldable pub is_marked : Importance → Bool
 is_marked normal = false

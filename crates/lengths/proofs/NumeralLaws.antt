@@ -9,7 +9,7 @@ use native.Mathlib.Omega.{arith}
 use borrow.Author.Tests.{lt-ltb, le-ltb}
 use lib.ListN.{length, get_or, take, drop, drop_of_length-le}
 use lib.Seq.{drop-cons}
-use Rattle.combinators.specs.Ascii.{hyphen_minus}
+use Prim.Native.Char.{code as ascii}
 use Rattle.combinators.specs.Choice.{is}
 use Rattle.combinators.proofs.Lists.{rest}
 use Rattle.combinators.proofs.Rules.{lt-or-ge, pick_true, pick-false}
@@ -113,9 +113,9 @@ module _ (negative : Bool) (u : List ℕ) (n : ℕ) (e : n ≡ digits u) (w : �
 -- ---- `numeral_of`: w bytes of white space, and a sign of k
 -- the number behind white space and its sign, read without a sign, is that of the whole text
 pub numeral-read : (s : List ℕ) (w : ℕ) → w ≡ skip_whitespace s → (t : List ℕ) → t ≡ take (length s - w) (drop w s) → (b : Bool)
-    → b ≡ is (get_or t 0 0) hyphen_minus → (k : ℕ) → k ≡ sign t → (r : Numeral) → r ≡ unsigned_numeral b (take (length t - k) (drop k t)) → r ≡ numeral_of s
+    → b ≡ is (get_or t 0 0) (ascii "-") → (k : ℕ) → k ≡ sign t → (r : Numeral) → r ≡ unsigned_numeral b (take (length t - k) (drop k t)) → r ≡ numeral_of s
 unfolding numeral_of unsigned_numeral digits_number decimals is_negative integer_of fraction_of unsigned_of
 numeral-read s w ew t et b eb k ek r er =
     let p : t ≡ drop (skip_whitespace s) s = et ∙ rest s w ∙ ap (λ (i : ℕ). drop i s) ew in
     er ∙ ap (unsigned_numeral b) (rest t k ∙ ap (λ (i : ℕ). drop i t) ek) ∙ ap (λ (x : Bool). unsigned_numeral x (drop (sign t) t)) eb
-    ∙ ap (λ (l : List ℕ). unsigned_numeral (is (get_or l 0 0) hyphen_minus) (drop (sign l) l)) p
+    ∙ ap (λ (l : List ℕ). unsigned_numeral (is (get_or l 0 0) (ascii "-")) (drop (sign l) l)) p

@@ -7,7 +7,7 @@ use native.Mathlib.Omega.{arith}
 use lib.ListN.{length, get_or, take, drop}
 use lib.Seq.{sets, drop-drop}
 use Rattle.std.specs.Int.{from_bool}
-use Rattle.combinators.specs.Ascii.{percent_sign, plus_sign}
+use Prim.Native.Char.{code as ascii}
 use Rattle.combinators.specs.Choice.{pick, is}
 use Rattle.combinators.specs.Parsed.{Parsed, ok, err, on_parsed, behind}
 use Rattle.combinators.specs.Part.{part}
@@ -31,9 +31,9 @@ use Rattle.lengths.specs.declared.answers.Length.{Length}
 use Rattle.lengths.specs.declared.answers.LengthError.{LengthError}
 
 -- ---- `plus_of`: a '+' that is there takes one byte
-pub plus-read : (t : List ℕ) (b : Bool) → b ≡ is (get_or t 0 0) plus_sign → (k : ℕ) → k ≡ from_bool b → (k ≡ plus t) × (k ≤ length t)
+pub plus-read : (t : List ℕ) (b : Bool) → b ≡ is (get_or t 0 0) (ascii "+") → (k : ℕ) → k ≡ from_bool b → (k ≡ plus t) × (k ≤ length t)
 unfolding plus
-plus-read t true e k ek = (ek ∙ pick_true _ _ _ _ (sym e) refl, omega (arith, ek, byte-there t 0 plus_sign (omega arith) (sym e)))
+plus-read t true e k ek = (ek ∙ pick_true _ _ _ _ (sym e) refl, omega (arith, ek, byte-there t 0 (ascii "+") (omega arith) (sym e)))
 plus-read t false e k ek = (ek ∙ pick-false _ _ _ _ (sym e) refl, omega (arith, ek))
 
 -- ---- `length_behind`, by the name that is read behind the number
@@ -170,7 +170,7 @@ module _ (s st : List ℕ) (w : ℕ) (ew : w ≡ skip_whitespace s) (p : ℕ) (e
   no_number z =
       (length-err s (token-is ∙ sym (pick_true _ _ _ _ (is-yes _ _ (sym en ∙ z)) refl)), kept (sym (pick_true _ _ _ _ (is-yes _ _ z) refl)))
 
-  module _ (d : ¬ (n ≡ 0)) (b : Bool) (eb : b ≡ is (get_or t n 0) percent_sign) where
+  module _ (d : ¬ (n ≡ 0)) (b : Bool) (eb : b ≡ is (get_or t n 0) (ascii "%")) where
     -- where there is a number, the token is what follows from its length
     token-from : numeric_of (drop (text_start s) s) ≡ numeric_from n t
     unfolding numeric_of

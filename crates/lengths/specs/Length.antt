@@ -1,6 +1,6 @@
 -- The length that a height's value is (document 02, S-8): no length, so much of a kind, or refusal 12 with its place.
 use Rattle.std.specs.Prelude.{ℕ, ◌-◌, ◌*◌, ◌^◌, Bool, Option, Some, None, Result, Ok, Err, List, ◌++◌, ltb, length, get_or, drop}
-use Rattle.combinators.specs.Ascii.{hyphen_minus}
+use Prim.Native.Char.{code as ascii}
 use Rattle.combinators.specs.Choice.{pick, or, and, is}
 use Rattle.combinators.specs.Parsed.{on_parsed}
 use Rattle.lexer.specs.Name.{hex_digit}
@@ -31,7 +31,7 @@ unfoldable pub decimals : List ℕ → ℕ
 decimals n = length (fraction_of n)
 
 unfoldable pub is_negative : List ℕ → Bool
-is_negative n = is (get_or (drop (skip_whitespace n) n) 0 0) hyphen_minus
+is_negative n = is (get_or (drop (skip_whitespace n) n) 0 0) (ascii "-")
 
 -- ---- refusal 12
 

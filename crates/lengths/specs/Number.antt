@@ -1,7 +1,7 @@
 -- Numbers of S-8: "The new reading takes `1.5` as one number, however many its decimals; all else reads as document 01's tokens". Each gives the bytes
 -- that it takes, 0 where it does not read.
 use Rattle.std.specs.Prelude.{ℕ, ◌+◌, List, ◌≡◌, refl, get_or, drop}
-use Rattle.combinators.specs.Ascii.{plus_sign}
+use Prim.Native.Char.{code as ascii}
 use Rattle.combinators.specs.Choice.{pick, or, and, is, within}
 use Rattle.combinators.specs.Parsed.{Parsed, err, behind}
 use Rattle.combinators.specs.Repeat.{many, took}
@@ -34,7 +34,7 @@ numeric_of s = pick (is (number s) 0) err (numeric_from (number s) s)
 
 -- a '+' at the start of a token is dropped from the number's text, and white space, comments and one more sign may follow it
 unfoldable pub plus : List ℕ → ℕ
-plus t = pick (is (get_or t 0 0) plus_sign) 1 0
+plus t = pick (is (get_or t 0 0) (ascii "+")) 1 0
 
 -- where a number's text begins: behind white space and comments, and that '+'
 unfoldable pub text_start : List ℕ → ℕ

@@ -1,6 +1,6 @@
 -- How the code reads a value: the number, and then what stands behind it. The unit's name goes to the text store.
 use Rattle.std.specs.Prelude.{ℕ, Option, None, Result, Ok, List, [], get_or, drop}
-use Rattle.combinators.specs.Ascii.{percent_sign}
+use Prim.Native.Char.{code as ascii}
 use Rattle.combinators.specs.Choice.{pick, is}
 use Rattle.combinators.specs.Parsed.{on_parsed}
 use Rattle.lexer.specs.Name.{ident_of, name_text}
@@ -16,7 +16,7 @@ length_behind place n t =
 
 -- the name behind a number of n bytes, unless a '%' stands there
 unfoldable pub name_behind : List ℕ → ℕ → List ℕ
-name_behind t n = pick (is n 0) [] (pick (is (get_or t n 0) percent_sign) [] (name_text (ident_of (drop n t))))
+name_behind t n = pick (is n 0) [] (pick (is (get_or t n 0) (ascii "%")) [] (name_text (ident_of (drop n t))))
 
 -- the name that reading a value leaves at the start of the text store
 unfoldable pub unit_text : List ℕ → List ℕ

@@ -8,7 +8,7 @@ use native.Mathlib.Nat.{add-zero}
 use native.Mathlib.Omega.{arith}
 use lib.ListN.{length, get_or, drop, length-append, length-drop}
 use lib.Seq.{get_or-drop}
-use Rattle.combinators.specs.Ascii.{reverse_solidus}
+use Prim.Native.Char.{code as ascii}
 use Rattle.combinators.specs.Parsed.{Parsed, ok, err, behind}
 use Rattle.combinators.specs.Repeat.{many, texts, took}
 use Rattle.combinators.proofs.Lists.{nil-of}
@@ -18,7 +18,7 @@ use Rattle.combinators.proofs.Repeats.{texts-all, many-all, many-stopped, many-l
 -- the bytes b that n bytes at the start of s stand for: no more than n, or two more where a lone backslash ends the text there
 pub data Bound (s : List ℕ) (n : ℕ) (b : List ℕ) : Type 0 where
   short : length b ≤ n → Bound s n b
-  lone : length b ≤ n + 2 → n ≡ length s → get_or s (n - 1) 0 ≡ reverse_solidus → Bound s n b
+  lone : length b ≤ n + 2 → n ≡ length s → get_or s (n - 1) 0 ≡ ascii "\\" → Bound s n b
 
 -- two bytes more at most
 pub bound-two : {s : List ℕ} {n : ℕ} {b : List ℕ} → Bound s n b → length b ≤ n + 2
@@ -79,10 +79,10 @@ behind-keeps text s k err h f = tt
 -- the text t of the repetition from i on, k bytes of s passed over first; m is where it stops
 data Span (s : List ℕ) (i k m : ℕ) (t : List ℕ) : Type 0 where
   fits : length t + (i + k) ≤ m → Span s i k m t
-  ends : length t + (i + k) ≤ m + 2 → m ≡ i + length s → get_or s (length s - 1) 0 ≡ reverse_solidus → Span s i k m t
+  ends : length t + (i + k) ≤ m + 2 → m ≡ i + length s → get_or s (length s - 1) 0 ≡ ascii "\\" → Span s i k m t
 
 -- the last byte of a text is the last behind one byte more
-last_cons : (x : ℕ) (r : List ℕ) → get_or r (length r - 1) 0 ≡ reverse_solidus → get_or (x ∷ r) (suc (length r) - 1) 0 ≡ reverse_solidus
+last_cons : (x : ℕ) (r : List ℕ) → get_or r (length r - 1) 0 ≡ ascii "\\" → get_or (x ∷ r) (suc (length r) - 1) 0 ≡ ascii "\\"
 last_cons x [] e = absurd (omega arith)
 last_cons x (y ∷ r) e =
     let p : suc (suc (length r)) - 1 ≡ suc (length r) = omega arith in

@@ -8,7 +8,7 @@ use Prim.Native.Nat.{ℕ, zero, suc, ◌+◌, ◌<◌, ◌≤◌}
 use native.Mathlib.Omega.{arith}
 use lib.ListN.{length, get_or, drop, length-drop}
 use Rattle.combinators.specs.Choice.{pick, or, and, is, within}
-use Rattle.combinators.specs.Ascii.{digit_zero, digit_nine, capital_a, capital_z, small_a, small_z, low_line, hyphen_minus, reverse_solidus}
+use Prim.Native.Char.{code as ascii}
 use Rattle.combinators.proofs.Rules.{pick-holds, is_true, within-true}
 use Rattle.combinators.proofs.Rules as rules
 use Rattle.combinators.proofs.Lists.{inside, test-there}
@@ -38,23 +38,23 @@ unfolding is_nmchar is_nmstart is_digit or and within is
 nmchar-null = refl
 
 -- what can start a name is at most 'z'
-nmstart-le : (x : ℕ) → is_nmstart x ≡ true → x ≤ small_z
+nmstart-le : (x : ℕ) → is_nmstart x ≡ true → x ≤ ascii "z"
 unfolding is_nmstart
 nmstart-le x e =
-    rules.either (x ≤ small_z) _ _ e (λ w. omega (arith, is_true x low_line w))
-    (λ h. rules.either (x ≤ small_z) _ _ h (λ w. omega (arith, within-true x small_a small_z w)) (λ w. omega (arith, within-true x capital_a capital_z w)))
+    rules.either (x ≤ ascii "z") _ _ e (λ w. omega (arith, is_true x (ascii "_") w))
+    (λ h. rules.either (x ≤ ascii "z") _ _ h (λ w. omega (arith, within-true x (ascii "a") (ascii "z") w)) (λ w. omega (arith, within-true x (ascii "A") (ascii "Z") w)))
 
 -- and so is every character of names
-nmchar-le : (x : ℕ) → is_nmchar x ≡ true → x ≤ small_z
+nmchar-le : (x : ℕ) → is_nmchar x ≡ true → x ≤ ascii "z"
 unfolding is_nmchar is_digit
 nmchar-le x e =
-    rules.either (x ≤ small_z) _ _ e (nmstart-le x)
-    (λ h. rules.either (x ≤ small_z) _ _ h (λ w. omega (arith, within-true x digit_zero digit_nine w)) (λ w. omega (arith, is_true x hyphen_minus w)))
+    rules.either (x ≤ ascii "z") _ _ e (nmstart-le x)
+    (λ h. rules.either (x ≤ ascii "z") _ _ h (λ w. omega (arith, within-true x (ascii "0") (ascii "9") w)) (λ w. omega (arith, is_true x (ascii "-") w)))
 
 -- folded, it is still ASCII
-lower-le : (x : ℕ) → x ≤ small_z → lower x ≤ 0x7f
+lower-le : (x : ℕ) → x ≤ ascii "z" → lower x ≤ 0x7f
 unfolding lower
-lower-le x h = pick-holds (λ (y : ℕ). y ≤ 0x7f) _ _ _ (λ w. omega (arith, within-true x capital_a capital_z w)) (λ _. omega arith)
+lower-le x h = pick-holds (λ (y : ℕ). y ≤ 0x7f) _ _ _ (λ w. omega (arith, within-true x (ascii "A") (ascii "Z") w)) (λ _. omega arith)
 
 -- so it stands for one byte
 pub lower-byte : (x : ℕ) → is_nmchar x ≡ true → utf8 (lower x) ≡ lower x ∷ []
@@ -142,7 +142,7 @@ replacement-three : length (utf8 replacement_character) ≤ 1 + 2
 unfolding utf8 pick
 replacement-three = omega arith
 
-module _ (s : List ℕ) (h : get_or s 0 0 ≡ reverse_solidus) where
+module _ (s : List ℕ) (h : get_or s 0 0 ≡ ascii "\\") where
   -- the backslash stands before the end of the text
   backslash : 1 ≤ length s
   backslash = inside s 0 0x5b h

@@ -15,7 +15,7 @@ use lib.Dec.{eqb, ltb}
 use lib.Pointwise.{pointwise}
 use lib.ListN.{length, get_or, take, drop, length-drop}
 use Rattle.combinators.specs.Choice.{and, or, pick, is}
-use Rattle.combinators.specs.Ascii.{asterisk, solidus, space}
+use Prim.Native.Char.{code as ascii}
 use Rattle.combinators.proofs.Rules.{never, pick_true, is-no, and-true, or-none, pick-holds}
 use Rattle.combinators.proofs.Lists.{test-there, byte-there}
 use Rattle.combinators.proofs.Repeats.{many-le}
@@ -26,15 +26,15 @@ use Rattle.lexer.specs.Whitespace.{comment_end, comment_of, is_whitespace, white
 
 -- ---- the returns of `match_comment`
 -- the library's test of the first two bytes
-opened : (s : List ℕ) → pointwise eqb (take 2 s) (solidus ∷ asterisk ∷ []) ≡ and (is (get_or s 0 0) solidus) (is (get_or s 1 0) asterisk)
+opened : (s : List ℕ) → pointwise eqb (take 2 s) (ascii "/" ∷ ascii "*" ∷ []) ≡ and (is (get_or s 0 0) (ascii "/")) (is (get_or s 1 0) (ascii "*"))
 unfolding and is
 opened [] = refl
-opened (x ∷ []) = go (eqb x solidus)
+opened (x ∷ []) = go (eqb x (ascii "/"))
   where
     go : (b : Bool) → (b && false) ≡ and b false
     go true = refl
     go false = refl
-opened (x ∷ y ∷ s) = go (eqb x solidus) (eqb y asterisk)
+opened (x ∷ y ∷ s) = go (eqb x (ascii "/")) (eqb y (ascii "*"))
   where
     go : (b c : Bool) → (b && (c && true)) ≡ and b c
     go true true = refl
@@ -50,14 +50,14 @@ not-both false b n e = refl
 
 module _ (s : List ℕ) where
   -- behind "/*", the end that is found in the rest of the text is the comment's
-  pub comment-opened : (t : List ℕ) → (pointwise eqb (take 2 s) (solidus ∷ asterisk ∷ []) ≡ true) × (t ≡ drop 2 s) × (length t + 2 ≡ length s) → (x : Option ℕ) → x ≡ taken_answer (comment_end 2 t) → x ≡ taken_answer (comment_of s)
+  pub comment-opened : (t : List ℕ) → (pointwise eqb (take 2 s) (ascii "/" ∷ ascii "*" ∷ []) ≡ true) × (t ≡ drop 2 s) × (length t + 2 ≡ length s) → (x : Option ℕ) → x ≡ taken_answer (comment_end 2 t) → x ≡ taken_answer (comment_of s)
   unfolding comment_of
   comment-opened t h x ex =
       let p = and-true _ _ (sym (opened s) ∙ h.0) in
       ex ∙ ap (λ l. taken_answer (comment_end 2 l)) h.1 ∙ ap taken_answer (pick_true _ _ _ _ p.0 (pick_true _ _ _ _ p.1 refl))
 
   -- where it is not there, there is no comment
-  pub comment-none : pointwise eqb (take 2 s) (solidus ∷ asterisk ∷ []) ≡ false → None ≡ taken_answer (comment_of s)
+  pub comment-none : pointwise eqb (take 2 s) (ascii "/" ∷ ascii "*" ∷ []) ≡ false → None ≡ taken_answer (comment_of s)
   unfolding comment_of
   comment-none h = taken-none _ (not-both _ _ _ (sym (opened s) ∙ h))
 
@@ -68,7 +68,7 @@ unfolding comment_end
 end-le [] j = zero-le
 end-le (x ∷ r) j =
     pick-holds (λ n. n ≤ j + suc (length r)) _ _ _
-    (λ e. let l = byte-there r 0 solidus (omega arith) (and-true (is x asterisk) _ e).1 in omega arith)
+    (λ e. let l = byte-there r 0 (ascii "/") (omega arith) (and-true (is x (ascii "*")) _ e).1 in omega arith)
     (λ _. let l = end-le r (j + 1) in omega arith)
 
 -- a comment lies within the text
@@ -78,13 +78,13 @@ comment-le s =
     pick-holds (λ n. n ≤ length s) _ _ _
     (λ _. pick-holds (λ n. n ≤ length s) _ _ _
     (λ e.
-    let l = byte-there s 1 asterisk (omega arith) e in
+    let l = byte-there s 1 (ascii "*") (omega arith) e in
     omega (arith, end-le (drop 2 s) 2, length-drop 2 s))
     (λ _. zero-le))
     (λ _. zero-le)
 
 -- no byte above the space is white space
-pub above-space : (b : ℕ) → space < b → is_whitespace b ≡ false
+pub above-space : (b : ℕ) → ascii " " < b → is_whitespace b ≡ false
 unfolding is_whitespace
 above-space b h =
     or-none _ _ (other _ (omega arith))
@@ -93,7 +93,7 @@ above-space b h =
     (or-none _ _ (other _ (omega arith))
     (other _ (omega arith)))))
   where
-    other : (k : ℕ) → k ≤ space → is b k ≡ false
+    other : (k : ℕ) → k ≤ ascii " " → is b k ≡ false
     other k l = is-no b k (λ e. omega arith)
 
 -- 0, which a place past the end reads as, is no white space
@@ -150,7 +150,7 @@ windows-pairs s l e f =
 
 -- whether two bytes end a comment
 abbrev pub ends : List ℕ → Bool
-ends w = pointwise eqb w (asterisk ∷ solidus ∷ [])
+ends w = pointwise eqb w (ascii "*" ∷ ascii "/" ∷ [])
 
 -- the first place, of one or more
 one-first : (m : ℕ) → ltb 0 (suc m) ≡ true
@@ -171,15 +171,15 @@ window false j n m e h =
     h ∙ ap (λ (k : ℕ). cond (ltb n m) k 0) q ∙ ap (λ (b : Bool). cond b (j + (1 + n) + 2) 0) (sym (one-behind n m))
 
 -- a last byte ends none
-last-byte : (b : Bool) (j : ℕ) → pick (and b (is 0 solidus)) (j + 2) 0 ≡ 0
+last-byte : (b : Bool) (j : ℕ) → pick (and b (is 0 (ascii "/"))) (j + 2) 0 ≡ 0
 unfolding pick and is
 last-byte true j = refl
 last-byte false j = refl
 
 -- the test of two bytes
-opened-end : (x y : ℕ) → ends (x ∷ y ∷ []) ≡ and (is x asterisk) (is y solidus)
+opened-end : (x y : ℕ) → ends (x ∷ y ∷ []) ≡ and (is x (ascii "*")) (is y (ascii "/"))
 unfolding and is
-opened-end x y = go (eqb x asterisk) (eqb y solidus)
+opened-end x y = go (eqb x (ascii "*")) (eqb y (ascii "/"))
   where
     go : (b c : Bool) → (b && (c && true)) ≡ and b c
     go true true = refl
@@ -190,7 +190,7 @@ opened-end x y = go (eqb x asterisk) (eqb y solidus)
 pub end-window : (s : List ℕ) (j : ℕ) → comment_end j s ≡ cond (ltb (position_or_len ends (pairs s)) (length (pairs s))) (j + position_or_len ends (pairs s) + 2) 0
 unfolding comment_end pairs
 end-window [] j = refl
-end-window (x ∷ []) j = last-byte (is x asterisk) j
+end-window (x ∷ []) j = last-byte (is x (ascii "*")) j
 end-window (x ∷ y ∷ r) j = rw (sym (opened-end x y)) (window (ends (x ∷ y ∷ [])) j _ _ _ (end-window (y ∷ r) (j + 1)))
 
 module _ (s : List ℕ) (r : Option ℕ)

@@ -11,7 +11,7 @@ use Rattle.std.proofs.lemmas.Bool.{ltb-false}
 use lib.Dec.{ltb}
 use lib.ListN.{length, get_or, take, drop, length-drop}
 use Rattle.combinators.specs.Choice.{pick, is}
-use Rattle.combinators.specs.Ascii.{hyphen_minus, plus_sign, full_stop}
+use Prim.Native.Char.{code as ascii}
 use Rattle.combinators.proofs.Rules.{is-yes, is-no, pick_true, pick-false, pick-holds, either}
 use Rattle.combinators.proofs.Lists.{byte-there}
 use Rattle.combinators.proofs.Repeats.{many-le}
@@ -65,16 +65,16 @@ followed-le u le s w h = pick-holds (λ k. k ≤ length s) _ _ _ (λ _. zero-le)
 -- ---- a decimal, by the byte behind its n digits
 module _ (s : List ℕ) (n : ℕ) (p : n ≡ digits s) where
   -- it is no full stop
-  pub decimal-none : is (get_or s n 0) full_stop ≡ false → None ≡ taken_answer (decimal s)
+  pub decimal-none : is (get_or s n 0) (ascii ".") ≡ false → None ≡ taken_answer (decimal s)
   unfolding decimal
-  decimal-none e = taken-none _ (pick-false _ _ _ _ (ap (λ i. is (get_or s i 0) full_stop) (sym p) ∙ e) refl)
+  decimal-none e = taken-none _ (pick-false _ _ _ _ (ap (λ i. is (get_or s i 0) (ascii ".")) (sym p) ∙ e) refl)
 
   -- where it is a full stop, the decimal is the digits and the full stop with the digits behind them
-  decimal-is : is (get_or s n 0) full_stop ≡ true → followed digits (digits s + 1) s ≡ decimal s
+  decimal-is : is (get_or s n 0) (ascii ".") ≡ true → followed digits (digits s + 1) s ≡ decimal s
   unfolding decimal
-  decimal-is e = pick_true _ _ _ _ (ap (λ i. is (get_or s i 0) full_stop) (sym p) ∙ e) refl
+  decimal-is e = pick_true _ _ _ _ (ap (λ i. is (get_or s i 0) (ascii ".")) (sym p) ∙ e) refl
 
-  module _ (m : ℕ) (em : m ≡ digits (take (length s - (n + 1)) (drop (n + 1) s))) (e : is (get_or s n 0) full_stop ≡ true) where
+  module _ (m : ℕ) (em : m ≡ digits (take (length s - (n + 1)) (drop (n + 1) s))) (e : is (get_or s n 0) (ascii ".") ≡ true) where
     -- no digit stands behind the full stop
     decimal-bare : m ≡ 0 → None ≡ taken_answer (decimal s)
     decimal-bare h = taken-none _ (followed-none digits s _ _ m (ap (λ i. i + 1) p) em h ∙ decimal-is e)
@@ -97,7 +97,7 @@ pub decimal-le : (s : List ℕ) → decimal s ≤ length s
 unfolding decimal
 decimal-le s =
     pick-holds (λ k. k ≤ length s) _ _ _
-    (λ e. followed-le digits digits_le s (digits s + 1) (let l = byte-there s (digits s) full_stop (omega arith) e in omega arith))
+    (λ e. followed-le digits digits_le s (digits s + 1) (let l = byte-there s (digits s) (ascii ".") (omega arith) e in omega arith))
     (λ _. zero-le)
 
 -- a number without a sign
@@ -110,7 +110,7 @@ pub sign_le : (s : List ℕ) → sign s ≤ length s
 unfolding sign
 sign_le s =
     pick-holds (λ k. k ≤ length s) _ _ _
-    (λ e. either (1 ≤ length s) _ _ e (byte-there s 0 hyphen_minus (omega arith)) (byte-there s 0 plus_sign (omega arith)))
+    (λ e. either (1 ≤ length s) _ _ e (byte-there s 0 (ascii "-") (omega arith)) (byte-there s 0 (ascii "+") (omega arith)))
     (λ _. zero-le)
 
 -- a number with a sign or none

@@ -13,7 +13,7 @@ use lib.Pointwise.{pointwise}
 use lib.ListN.{length, get_or, take, drop}
 use lib.Seq.{drop-drop}
 use Rattle.combinators.specs.Choice.{is}
-use Rattle.combinators.specs.Ascii.{digit_zero, digit_nine, capital_a, capital_f, small_a, small_f, reverse_solidus}
+use Prim.Native.Char.{code as ascii}
 use Rattle.combinators.proofs.Rules.{pick-holds, pick_true, pick-false, told, is-no, is-no-of, within-true}
 use Rattle.combinators.proofs.Lists.{first}
 use Rattle.characters.specs.Utf8.{or_replacement}
@@ -41,9 +41,9 @@ power_small (suc (suc (suc (suc (suc (suc k)))))) h = absurd (omega arith)
 pub digit-le : (x : ℕ) → hex_digit x ≤ 15
 unfolding hex_digit
 digit-le x =
-    pick-holds (λ (y : ℕ). y ≤ 15) _ _ _ (λ e. omega (arith, within-true x digit_zero digit_nine e))
-    (λ _. pick-holds (λ (y : ℕ). y ≤ 15) _ _ _ (λ e. omega (arith, within-true x small_a small_f e))
-    (λ _. pick-holds (λ (y : ℕ). y ≤ 15) _ _ _ (λ e. omega (arith, within-true x capital_a capital_f e)) (λ _. omega arith)))
+    pick-holds (λ (y : ℕ). y ≤ 15) _ _ _ (λ e. omega (arith, within-true x (ascii "0") (ascii "9") e))
+    (λ _. pick-holds (λ (y : ℕ). y ≤ 15) _ _ _ (λ e. omega (arith, within-true x (ascii "a") (ascii "f") e))
+    (λ _. pick-holds (λ (y : ℕ). y ≤ 15) _ _ _ (λ e. omega (arith, within-true x (ascii "A") (ascii "F") e)) (λ _. omega arith)))
 
 -- k digits more make the number at most 16 times as large each
 pub value-lt : (k j a : ℕ) (s : List ℕ) → a < power_of_sixteen j → hex_value a k s < power_of_sixteen (j + k)
@@ -120,26 +120,26 @@ escaped-hex t d b eb r er e n m v en em ev =
 
 -- ---- the returns of `ident_escape`
 -- the library's test of the first byte
-backslash-told : (s : List ℕ) → pointwise eqb (take 1 s) (reverse_solidus ∷ []) ≡ is (get_or s 0 0) reverse_solidus
+backslash-told : (s : List ℕ) → pointwise eqb (take 1 s) (ascii "\\" ∷ []) ≡ is (get_or s 0 0) (ascii "\\")
 unfolding is
 backslash-told [] = refl
-backslash-told (x ∷ s) = go (eqb x reverse_solidus)
+backslash-told (x ∷ s) = go (eqb x (ascii "\\"))
   where
     go : (b : Bool) → (b && true) ≡ b
     go true = refl
     go false = refl
 
 -- where no backslash stands, there is no escape
-pub escape-no : (s : List ℕ) (r : Bool) → r ≡ is (get_or s 0 0) reverse_solidus → r ≡ false → None ≡ ident_escape_of s
+pub escape-no : (s : List ℕ) (r : Bool) → r ≡ is (get_or s 0 0) (ascii "\\") → r ≡ false → None ≡ ident_escape_of s
 unfolding ident_escape_of
 escape-no s r er h = pick-false _ _ _ _ (told _ _ _ er h) refl
 
 -- as the library tells it
-pub escape-missing : (s : List ℕ) → pointwise eqb (take 1 s) (reverse_solidus ∷ []) ≡ false → None ≡ ident_escape_of s
+pub escape-missing : (s : List ℕ) → pointwise eqb (take 1 s) (ascii "\\" ∷ []) ≡ false → None ≡ ident_escape_of s
 escape-missing s h = escape-no s _ (backslash-told s) h
 
 -- behind a backslash, what `escaped` reads of the rest of the text is the escape
-pub escape-yes : (s t : List ℕ) → (pointwise eqb (take 1 s) (reverse_solidus ∷ []) ≡ true) × (t ≡ drop 1 s) × (length t + 1 ≡ length s)
+pub escape-yes : (s t : List ℕ) → (pointwise eqb (take 1 s) (ascii "\\" ∷ []) ≡ true) × (t ≡ drop 1 s) × (length t + 1 ≡ length s)
     → (x : Option (Taken ℕ)) → x ≡ escaped_of t → x ≡ ident_escape_of s
 unfolding ident_escape_of
 escape-yes s t h x ex = pick_true _ _ _ _ (sym (backslash-told s) ∙ h.0) (ex ∙ ap escaped_of h.1)

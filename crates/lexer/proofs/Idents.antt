@@ -15,7 +15,7 @@ use lib.Dec.{ltb}
 use lib.ListN.{length, get_or, take, drop}
 use lib.Seq.{sets}
 use Rattle.combinators.specs.Choice.{pick, or, and, is, within}
-use Rattle.combinators.specs.Ascii.{hyphen_minus, reverse_solidus}
+use Prim.Native.Char.{code as ascii}
 use Rattle.combinators.specs.Parsed.{Parsed, ok, err, behind}
 use Rattle.combinators.proofs.Rules.{pick_true, pick-false, or_left, is_true, is-yes-of, is-no-of}
 use Rattle.combinators.proofs.Lists.{rest, inside, front-one, byte-there}
@@ -31,12 +31,12 @@ use Rattle.lexer.proofs.CharacterRuns.{Emitted, chars-bound, chars-step, chars-t
 
 -- ---- what starts a name is a character of names too
 -- a backslash neither starts a name nor continues one
-slash-no : (is_nmstart reverse_solidus ≡ false) × (is_nmchar reverse_solidus ≡ false)
+slash-no : (is_nmstart (ascii "\\") ≡ false) × (is_nmchar (ascii "\\") ≡ false)
 unfolding is_nmstart is_nmchar is_digit or and within is
 slash-no = (refl, refl)
 
 -- a '-' is one that is not folded
-dash-yes : (is_nmchar hyphen_minus ≡ true) × (lower hyphen_minus ≡ hyphen_minus) × (utf8 hyphen_minus ≡ hyphen_minus ∷ [])
+dash-yes : (is_nmchar (ascii "-") ≡ true) × (lower (ascii "-") ≡ ascii "-") × (utf8 (ascii "-") ≡ ascii "-" ∷ [])
 unfolding is_nmstart is_nmchar is_digit lower utf8 or and within is pick
 dash-yes = (refl, refl, refl)
 
@@ -51,21 +51,21 @@ unfolding nmstart_of is_nmchar
 start_plain s e = rw (← char-yes is_nmstart s _ refl _ refl e _ refl) (sym (char-plain s (or_left _ _ e)))
 
 -- at a backslash, what starts a name is any character of names
-start-escape : (s : List ℕ) → get_or s 0 0 ≡ reverse_solidus → nmstart_of s ≡ nmchar_of s
+start-escape : (s : List ℕ) → get_or s 0 0 ≡ ascii "\\" → nmstart_of s ≡ nmchar_of s
 unfolding nmstart_of nmchar_of
 start-escape s e =
     rw (← char-no is_nmstart s _ refl _ refl (ap is_nmstart e ∙ slash-no.0), ← char-no is_nmchar s _ refl _ refl (ap is_nmchar e ∙ slash-no.1))
 
 -- where the first byte can start no name and is no backslash, nothing starts a name
-start_none : (s : List ℕ) → is_nmstart (get_or s 0 0) ≡ false → is (get_or s 0 0) reverse_solidus ≡ false → nmstart_of s ≡ None
+start_none : (s : List ℕ) → is_nmstart (get_or s 0 0) ≡ false → is (get_or s 0 0) (ascii "\\") ≡ false → nmstart_of s ≡ None
 unfolding nmstart_of ident_escape_of pick
 start_none s e d = rw (← char-no is_nmstart s _ refl _ refl e, d)
 
 -- what starts a name reads as a character of a name does
 pub start-same : (s : List ℕ) (n v : ℕ) → nmstart_of s ≡ Some (record { taken = n; value = v }) → nmchar_of s ≡ Some (record { taken = n; value = v })
-start-same s n v e = go (is_nmstart (get_or s 0 0)) refl (is (get_or s 0 0) reverse_solidus) refl
+start-same s n v e = go (is_nmstart (get_or s 0 0)) refl (is (get_or s 0 0) (ascii "\\")) refl
   where
-    go : (a : Bool) → is_nmstart (get_or s 0 0) ≡ a → (b : Bool) → is (get_or s 0 0) reverse_solidus ≡ b → nmchar_of s ≡ Some (record { taken = n; value = v })
+    go : (a : Bool) → is_nmstart (get_or s 0 0) ≡ a → (b : Bool) → is (get_or s 0 0) (ascii "\\") ≡ b → nmchar_of s ≡ Some (record { taken = n; value = v })
     go true p b q = sym (start_plain s p) ∙ e
     go false p true q = sym (start-escape s (is_true _ _ q)) ∙ e
     go false p false q = absurd (let z = start_none s p q in let w : ◌≡◌ {A = ℕ} 0 1 = cc in omega arith)
@@ -79,25 +79,25 @@ from_start b u n v e =
     rw (← chars-step u n v c, ← chars-text-step u n v c)
 
 -- a '-' is a character of the name
-dashed : (t : List ℕ) → get_or t 0 0 ≡ hyphen_minus → nmchar_of t ≡ Some (record { taken = 1; value = hyphen_minus })
+dashed : (t : List ℕ) → get_or t 0 0 ≡ ascii "-" → nmchar_of t ≡ Some (record { taken = 1; value = ascii "-" })
 dashed t e = char-plain t (ap is_nmchar e ∙ dash-yes.0) ∙ ap (λ x. Some (record { taken = 1; value = x })) (ap lower e ∙ dash-yes.1)
 
 -- a '-' with the start of a name behind it: the name is the run of characters from the '-' on
-with-dash : (t : List ℕ) → get_or t 0 0 ≡ hyphen_minus → (n v : ℕ) → nmstart_of (drop 1 t) ≡ Some (record { taken = n; value = v })
+with-dash : (t : List ℕ) → get_or t 0 0 ≡ ascii "-" → (n v : ℕ) → nmstart_of (drop 1 t) ≡ Some (record { taken = n; value = v })
     → name_from (take 1 t) (drop 1 t) (Some (record { taken = n; value = v })) ≡ ok (chars_end t) (chars_text t)
 with-dash t e n v h =
     let c = dashed t e in
-    let p : take 1 t ≡ hyphen_minus ∷ [] = front-one t (inside t 0 0x2c e) ∙ ap (λ x. x ∷ []) e in
-    let a = chars-step t 1 hyphen_minus c in
-    let b = chars-text-step t 1 hyphen_minus c ∙ ap (λ x. x ++ chars_text (drop 1 t)) dash-yes.2 in
+    let p : take 1 t ≡ ascii "-" ∷ [] = front-one t (inside t 0 0x2c e) ∙ ap (λ x. x ∷ []) e in
+    let a = chars-step t 1 (ascii "-") c in
+    let b = chars-text-step t 1 (ascii "-") c ∙ ap (λ x. x ++ chars_text (drop 1 t)) dash-yes.2 in
     from_start (take 1 t) (drop 1 t) n v h ∙ rw (p, a, b)
 
 -- where a name starts, behind a '-' or not, it is the run of characters from the start of the text on
 pub name-some : (t : List ℕ) (n v : ℕ) → nmstart_of (drop (dash t) t) ≡ Some (record { taken = n; value = v }) → name_of t ≡ ok (chars_end t) (chars_text t)
 unfolding name_of dash pick
-name-some t n v e = go (is (get_or t 0 0) hyphen_minus) refl e
+name-some t n v e = go (is (get_or t 0 0) (ascii "-")) refl e
   where
-    go : (b : Bool) → is (get_or t 0 0) hyphen_minus ≡ b → nmstart_of (drop (pick b 1 0) t) ≡ Some (record { taken = n; value = v })
+    go : (b : Bool) → is (get_or t 0 0) (ascii "-") ≡ b → nmstart_of (drop (pick b 1 0) t) ≡ Some (record { taken = n; value = v })
         → name_from (take (pick b 1 0) t) (drop (pick b 1 0) t) (nmstart_of (drop (pick b 1 0) t)) ≡ ok (chars_end t) (chars_text t)
     go true p h = ap (name_from (take 1 t) (drop 1 t)) h ∙ with-dash t (is_true _ _ p) n v h
     go false p h = ap (name_from [] t) h ∙ from_start [] t n v h ∙ rw (zero-add)
@@ -108,7 +108,7 @@ unfolding name_of name_from
 name-none t e = ap (name_from (take (dash t) t) (drop (dash t) t)) e
 
 -- ---- `dash_of`
-module _ (t : List ℕ) (r : Bool) (er : r ≡ is (get_or t 0 0) hyphen_minus) (n : ℕ) (en : n ≡ bool_byte r) where
+module _ (t : List ℕ) (r : Bool) (er : r ≡ is (get_or t 0 0) (ascii "-")) (n : ℕ) (en : n ≡ bool_byte r) where
   -- a '-' counts as one byte
   pub dash-is : n ≡ dash t
   unfolding dash pick
@@ -122,8 +122,8 @@ module _ (t : List ℕ) (r : Bool) (er : r ≡ is (get_or t 0 0) hyphen_minus) (
   pub dash-there : n ≤ length t
   dash-there = go r er en
     where
-      go : (b : Bool) → b ≡ is (get_or t 0 0) hyphen_minus → n ≡ bool_byte b → n ≤ length t
-      go true e k = omega (arith, k, byte-there t 0 hyphen_minus (omega arith) (sym e))
+      go : (b : Bool) → b ≡ is (get_or t 0 0) (ascii "-") → n ≡ bool_byte b → n ≤ length t
+      go true e k = omega (arith, k, byte-there t 0 (ascii "-") (omega arith) (sym e))
       go false e k = omega (arith, k)
 
 -- ---- the returns of `parse_name` and `parse_chars`

@@ -8,8 +8,7 @@ use Prim.Native.Nat.{ℕ, ◌+◌, ◌-◌}
 use lib.ListN.{length, take, drop}
 use lib.Seq.{sets}
 use Rattle.combinators.specs.Choice.{pick, is}
-use Rattle.combinators.specs.Ascii.{left_parenthesis, right_parenthesis, left_square_bracket, right_square_bracket, left_curly_bracket, right_curly_bracket}
-use Rattle.combinators.specs.Ascii as ascii
+use Prim.Native.Char.{code as ascii}
 use Rattle.combinators.specs.Parsed.{Parsed, ok, err, behind}
 use Rattle.combinators.proofs.Lists.{rest}
 use Rattle.characters.specs.Utf8.{scalar_of}
@@ -31,15 +30,15 @@ no_text false x y p q = q
 pub mark-text : (c : ℕ) → text_of (mark_of c) ≡ []
 unfolding mark_of text_of
 mark-text c =
-    no_text (is c ascii.semicolon) _ _ refl
-    (no_text (is c left_parenthesis) _ _ refl
-    (no_text (is c right_parenthesis) _ _ refl
-    (no_text (is c ascii.comma) _ _ refl
-    (no_text (is c ascii.colon) _ _ refl
-    (no_text (is c left_square_bracket) _ _ refl
-    (no_text (is c right_square_bracket) _ _ refl
-    (no_text (is c left_curly_bracket) _ _ refl
-    (no_text (is c right_curly_bracket) _ _ refl
+    no_text (is c (ascii ";")) _ _ refl
+    (no_text (is c (ascii "(")) _ _ refl
+    (no_text (is c (ascii ")")) _ _ refl
+    (no_text (is c (ascii ",")) _ _ refl
+    (no_text (is c (ascii ":")) _ _ refl
+    (no_text (is c (ascii "[")) _ _ refl
+    (no_text (is c (ascii "]")) _ _ refl
+    (no_text (is c (ascii "{")) _ _ refl
+    (no_text (is c (ascii "}")) _ _ refl
     refl))))))))
 
 -- so the store is left alone

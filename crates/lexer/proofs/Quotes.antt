@@ -9,7 +9,7 @@ use Prim.Native.Nat.{ℕ, ◌+◌, ◌-◌, ◌≤◌}
 use native.Mathlib.Omega.{arith}
 use lib.ListN.{length, get_or, take, drop, length-drop}
 use lib.Seq.{sets}
-use Rattle.combinators.specs.Ascii.{line_feed}
+use Prim.Native.Char.{code as ascii}
 use Rattle.combinators.specs.Repeat.{many}
 use Rattle.combinators.specs.Store.{Store, emits}
 use Rattle.combinators.proofs.Rules.{pick-holds, is_true, is_false}
@@ -123,7 +123,7 @@ string-short q s = repeated-short (quoted_taken q) (quoted_text q) (quoted-le q)
 -- ---- what stands at the end of a string
 -- a character that takes nothing is the end of the text, the quote or a line feed
 abbrev Ends : ℕ → List ℕ → Type 0
-Ends q s = (length s ≡ 0) ⊎ ((get_or s 0 0 ≡ q) ⊎ (get_or s 0 0 ≡ line_feed))
+Ends q s = (length s ≡ 0) ⊎ ((get_or s 0 0 ≡ q) ⊎ (get_or s 0 0 ≡ ascii "\n"))
 
 -- a character takes a byte
 quoted-some : (q : ℕ) (s : List ℕ) → ¬ (quoted_of q s ≡ None) → ¬ (quoted_taken q s ≡ 0)
@@ -155,7 +155,7 @@ taken-stop q s h = go (quoted_of q s) refl
     go None e = e
 
 -- the characters of a string end at the end of the text, at the quote or at a line feed
-pub string-at : (q : ℕ) (s : List ℕ) → (string_end q s ≡ length s) ⊎ ((get_or s (string_end q s) 0 ≡ q) ⊎ (get_or s (string_end q s) 0 ≡ line_feed))
+pub string-at : (q : ℕ) (s : List ℕ) → (string_end q s ≡ length s) ⊎ ((get_or s (string_end q s) 0 ≡ q) ⊎ (get_or s (string_end q s) 0 ≡ ascii "\n"))
 unfolding string_end
 string-at q s =
     let m = many (quoted_taken q) 0 0 s in

@@ -13,7 +13,7 @@ use borrow.Author.Tests.{lt-leb, lt-ltb, le-ltb}
 use lib.Dec.{ltb}
 use lib.ListN.{length, get_or, length-append}
 use Rattle.combinators.specs.Choice.{pick, or, and, is, within}
-use Rattle.combinators.specs.Ascii.{reverse_solidus}
+use Prim.Native.Char.{code as ascii}
 use Rattle.combinators.proofs.Rules.{within-past, within-yes, pick_true, pick-false, or_left, or_right, or-none, is-no, lt-or-ge, within-false}
 use Rattle.characters.specs.Utf8.{is_scalar, or_replacement, replacement_character}
 use Rattle.characters.proofs.Scalars.{or-replacement-same}
@@ -66,7 +66,7 @@ unfolding code_point
 code-point-some n d = pick-false _ _ _ _ (is-no n 0 d) refl
 
 -- a backslash begins an escape
-escape-begins : (l : List ℕ) → nmchar_of (reverse_solidus ∷ l) ≡ escaped_of l
+escape-begins : (l : List ℕ) → nmchar_of (ascii "\\" ∷ l) ≡ escaped_of l
 unfolding nmchar_of folded_char is_nmchar is_nmstart is_digit ident_escape_of or and within is pick
 escape-begins l = refl
 
@@ -79,7 +79,7 @@ first-digit (more e es) h l = e
 -- The byte behind them is left to be read, and so is white space, which the document takes with the digits.
 pub escaped-code-point : (ds : List ℕ) (c : ℕ) (t : List ℕ) → HexDigits ds → 1 ≤ length ds → length ds ≤ maximum_digits
     → (length ds < maximum_digits → is_hex_digit c ≡ false) → ¬ (hexadecimal 0 ds ≡ 0)
-    → nmchar_of (reverse_solidus ∷ (ds ++ c ∷ t)) ≡ Some (record { taken = 1 + length ds; value = code_point (hexadecimal 0 ds) })
+    → nmchar_of (ascii "\\" ∷ (ds ++ c ∷ t)) ≡ Some (record { taken = 1 + length ds; value = code_point (hexadecimal 0 ds) })
 escaped-code-point ds c t h some six e d =
     let l = length-append ds (c ∷ t) in
     let run : length ds ≡ hex_run 0 maximum_digits (ds ++ c ∷ t) = sym (counted h 0 maximum_digits c t six e ∙ omega arith) in
@@ -90,7 +90,7 @@ escaped-code-point ds c t h some six e d =
 
 -- behind six hex digits an escape ends, whatever follows
 pub six-digits : (ds : List ℕ) (c : ℕ) (t : List ℕ) → HexDigits ds → length ds ≡ maximum_digits → ¬ (hexadecimal 0 ds ≡ 0)
-    → nmchar_of (reverse_solidus ∷ (ds ++ c ∷ t)) ≡ Some (record { taken = 1 + maximum_digits; value = code_point (hexadecimal 0 ds) })
+    → nmchar_of (ascii "\\" ∷ (ds ++ c ∷ t)) ≡ Some (record { taken = 1 + maximum_digits; value = code_point (hexadecimal 0 ds) })
 six-digits ds c t h l d =
     escaped-code-point ds c t h (omega arith) (omega arith) (λ q. absurd (omega arith)) d
     ∙ ap (λ n. Some (record { taken = 1 + n; value = code_point (hexadecimal 0 ds) })) l

@@ -11,7 +11,7 @@ use native.Mathlib.Nat.{zero-add}
 use native.Mathlib.Omega.{arith}
 use lib.ListN.{length, get_or}
 use Rattle.combinators.specs.Choice.{pick, or, and, is, within}
-use Rattle.combinators.specs.Ascii.{space, hyphen_minus, solidus, digit_zero, digit_nine, capital_a, capital_z, reverse_solidus, low_line, small_a, small_z}
+use Prim.Native.Char.{code as ascii}
 use Rattle.combinators.specs.Parsed.{ok, behind}
 use Rattle.combinators.proofs.Rules.{pick-false, either, or_left, is-no, is_true, within-true}
 use Rattle.combinators.proofs.Repeats.{many-stop, texts-stop}
@@ -35,20 +35,20 @@ pub data Each (p : ℕ → Bool) : List ℕ → Type 0 where
 -- ---- an ident sequence
 -- letter: an uppercase letter or a lowercase letter
 unfoldable pub letter : ℕ → Bool
-letter x = or (within x capital_a capital_z) (within x small_a small_z)
+letter x = or (within x (ascii "A") (ascii "Z")) (within x (ascii "a") (ascii "z"))
 
 -- ident-start code point, of ASCII: a letter or '_'
 unfoldable pub ident_start : ℕ → Bool
-ident_start x = or (letter x) (is x low_line)
+ident_start x = or (letter x) (is x (ascii "_"))
 
 -- ident code point, of ASCII: an ident-start code point, a digit or '-'
 unfoldable pub ident_code_point : ℕ → Bool
-ident_code_point x = or (ident_start x) (or (within x digit_zero digit_nine) (is x hyphen_minus))
+ident_code_point x = or (ident_start x) (or (within x (ascii "0") (ascii "9")) (is x (ascii "-")))
 
 -- a '-' or none, an ident-start code point, and any number of ident code points
 pub data IdentSequence : List ℕ → Type 0 where
   started : {x : ℕ} {r : List ℕ} → ident_start x ≡ true → Each ident_code_point r → IdentSequence (x ∷ r)
-  dashed : {x : ℕ} {r : List ℕ} → ident_start x ≡ true → Each ident_code_point r → IdentSequence (hyphen_minus ∷ x ∷ r)
+  dashed : {x : ℕ} {r : List ℕ} → ident_start x ≡ true → Each ident_code_point r → IdentSequence (ascii "-" ∷ x ∷ r)
 
 -- the order of or-order tests is free
 or-order : (a b c : Bool) → or (or a b) c ≡ or c (or b a)
@@ -70,7 +70,7 @@ start_is x = or-order _ _ _
 -- and its ident code points are the characters of names
 pub code-point-is : (x : ℕ) → ident_code_point x ≡ is_nmchar x
 unfolding ident_code_point is_nmchar is_digit
-code-point-is x = ap (λ b. or b (or (within x digit_zero digit_nine) (is x hyphen_minus))) (start_is x)
+code-point-is x = ap (λ b. or b (or (within x (ascii "0") (ascii "9")) (is x (ascii "-")))) (start_is x)
 
 -- an ident-start code point is an ident code point
 pub start-code-point : (x : ℕ) → ident_start x ≡ true → ident_code_point x ≡ true
@@ -78,22 +78,22 @@ unfolding ident_code_point
 start-code-point x e = or_left _ _ e
 
 -- an ident-start code point is above the digits
-start-above : (x : ℕ) → ident_start x ≡ true → digit_nine < x
+start-above : (x : ℕ) → ident_start x ≡ true → ascii "9" < x
 unfolding ident_start letter
 start-above x e =
-    either (digit_nine < x) _ _ e
-    (λ l. either (digit_nine < x) _ _ l (λ w. omega (arith, within-true x capital_a capital_z w)) (λ w. omega (arith, within-true x small_a small_z w)))
-    (λ w. omega (arith, is_true x low_line w))
+    either (ascii "9" < x) _ _ e
+    (λ l. either (ascii "9" < x) _ _ l (λ w. omega (arith, within-true x (ascii "A") (ascii "Z") w)) (λ w. omega (arith, within-true x (ascii "a") (ascii "z") w)))
+    (λ w. omega (arith, is_true x (ascii "_") w))
 
 -- no ident code point is white space or a solidus
-no-blank : (x : ℕ) → ident_code_point x ≡ true → (space < x) × ¬ (x ≡ solidus)
+no-blank : (x : ℕ) → ident_code_point x ≡ true → (ascii " " < x) × ¬ (x ≡ ascii "/")
 unfolding ident_code_point
 no-blank x e =
-    either ((space < x) × ¬ (x ≡ solidus)) _ _ e
+    either ((ascii " " < x) × ¬ (x ≡ ascii "/")) _ _ e
     (λ s. let l = start-above x s in (omega arith, λ q. omega arith))
-    (λ h. either ((space < x) × ¬ (x ≡ solidus)) _ _ h
-    (λ w. let l = (within-true x digit_zero digit_nine w).0 in (omega arith, λ q. omega arith))
-    (λ w. let l = is_true x hyphen_minus w in (omega arith, λ q. omega arith)))
+    (λ h. either ((ascii " " < x) × ¬ (x ≡ ascii "/")) _ _ h
+    (λ w. let l = (within-true x (ascii "0") (ascii "9") w).0 in (omega arith, λ q. omega arith))
+    (λ w. let l = is_true x (ascii "-") w in (omega arith, λ q. omega arith)))
 
 -- so no white space and no comment begins with one
 pub code-point-item : (x : ℕ) (l : List ℕ) → ident_code_point x ≡ true → whitespace_item (x ∷ l) ≡ 0
@@ -107,7 +107,7 @@ unskipped : (x : ℕ) (l : List ℕ) → ident_code_point x ≡ true → skip_wh
 unskipped x l e = skips-blank [] (x ∷ l) blanks.none (code-point-item x l e)
 
 -- where neither an ident code point nor a backslash follows
-module _ (t : List ℕ) (e : ident_code_point (get_or t 0 0) ≡ false) (d : ¬ (get_or t 0 0 ≡ reverse_solidus)) where
+module _ (t : List ℕ) (e : ident_code_point (get_or t 0 0) ≡ false) (d : ¬ (get_or t 0 0 ≡ ascii "\\")) where
   -- no character of a name is read
   unread : nmchar_of t ≡ None
   unfolding nmchar_of
@@ -141,7 +141,7 @@ module _ (t : List ℕ) (e : ident_code_point (get_or t 0 0) ≡ false) (d : ¬ 
       (chars-step _ 1 _ k ∙ omega (arith, g.0), chars-text-step _ 1 _ k ∙ ap (λ b. b ++ chars_text (r ++ t)) u ∙ ap (λ l. lower x ∷ l) g.1)
 
 -- a '-' is an ident code point
-pub hyphen-code-point : ident_code_point hyphen_minus ≡ true
+pub hyphen-code-point : ident_code_point (ascii "-") ≡ true
 unfolding ident_code_point ident_start letter or and within is
 hyphen-code-point = refl
 
@@ -153,7 +153,7 @@ all-code-points (dashed {x} e r) = more hyphen-code-point (more (start-code-poin
 -- and nothing is skipped before it
 pub sequence-unskipped : {name : List ℕ} → IdentSequence name → (t : List ℕ) → skip_whitespace (name ++ t) ≡ 0
 sequence-unskipped (started {x} {r} e _) t = unskipped x (r ++ t) (start-code-point x e)
-sequence-unskipped (dashed {x} {r} e _) t = unskipped hyphen_minus (x ∷ (r ++ t)) hyphen-code-point
+sequence-unskipped (dashed {x} {r} e _) t = unskipped (ascii "-") (x ∷ (r ++ t)) hyphen-code-point
 
 -- an ident-start code point starts a name
 start-read : (x : ℕ) (l : List ℕ) → ident_start x ≡ true → nmstart_of (x ∷ l) ≡ Some (record { taken = 1; value = lower x })
@@ -167,7 +167,7 @@ unfolding dash
 undashed x l e = let h = start-above x e in sym (pick-false _ _ _ _ (is-no _ _ (λ q. omega arith)) refl)
 
 -- a '-' is taken before it
-dash-read : (l : List ℕ) → dash (hyphen_minus ∷ l) ≡ 1
+dash-read : (l : List ℕ) → dash (ascii "-" ∷ l) ≡ 1
 unfolding dash is pick
 dash-read l = refl
 
@@ -176,7 +176,7 @@ sequence-named : {name : List ℕ} → IdentSequence name → (t : List ℕ) →
 sequence-named (started {x} {r} e _) t =
     name-some (x ∷ (r ++ t)) 1 (lower x) (rw (undashed x (r ++ t) e) (start-read x (r ++ t) e))
 sequence-named (dashed {x} {r} e _) t =
-    name-some (hyphen_minus ∷ x ∷ (r ++ t)) 1 (lower x) (rw (dash-read (x ∷ (r ++ t))) (start-read x (r ++ t) e))
+    name-some (ascii "-" ∷ x ∷ (r ++ t)) 1 (lower x) (rw (dash-read (x ∷ (r ++ t))) (start-read x (r ++ t) e))
 
 -- where nothing is skipped, the name is read from the start
 behind-none : (s : List ℕ) → skip_whitespace s ≡ 0 → (n : ℕ) (b : List ℕ) → name_of s ≡ ok n b → ident_of s ≡ ok n b
@@ -186,7 +186,7 @@ behind-none s z n b e = rw (z, e, zero-add)
 -- an ident sequence without escapes, where no ident code point and no backslash follows, is the name that is read; its letters are
 -- folded, since names are compared without regard to ASCII case. What follows may also be a non-ASCII code point or U+0000, which go
 -- on with the sequence in the document and end it here.
-pub ident-sequence : (name t : List ℕ) → IdentSequence name → ident_code_point (get_or t 0 0) ≡ false → ¬ (get_or t 0 0 ≡ reverse_solidus)
+pub ident-sequence : (name t : List ℕ) → IdentSequence name → ident_code_point (get_or t 0 0) ≡ false → ¬ (get_or t 0 0 ≡ ascii "\\")
     → ident_of (name ++ t) ≡ ok (length name) (map lower name)
 ident-sequence name t h e d =
     let c = characters t e d (all-code-points h) in
@@ -208,7 +208,7 @@ sequence-some (started e r) z = omega arith
 sequence-some (dashed e r) z = omega arith
 
 -- the same sequence is the name behind a number sign
-pub ident-string : (name t : List ℕ) → IdentSequence name → ident_code_point (get_or t 0 0) ≡ false → ¬ (get_or t 0 0 ≡ reverse_solidus)
+pub ident-string : (name t : List ℕ) → IdentSequence name → ident_code_point (get_or t 0 0) ≡ false → ¬ (get_or t 0 0 ≡ ascii "\\")
     → identstring_of (name ++ t) ≡ ok (length name) (map lower name)
 ident-string name t h e d =
     let c = characters t e d (all-code-points h) in

@@ -10,7 +10,7 @@ use native.Mathlib.Omega.{arith}
 use lib.ListN.{length}
 use borrow.Author.Tests.{not-true}
 use Rattle.combinators.specs.Choice.{pick, and, is}
-use Rattle.combinators.specs.Ascii.{line_feed, reverse_solidus}
+use Prim.Native.Char.{code as ascii}
 use Rattle.combinators.specs.Repeat.{many, texts, took}
 use Rattle.combinators.proofs.Rules.{pick-holds, pick_true, pick-false, and-true, is-yes, is-no}
 use Rattle.combinators.proofs.Repeats.{many-stop, texts-stop}
@@ -20,7 +20,7 @@ use Rattle.lexer.specs.Quoted.{one_byte, quoted_of, text_of, quoted_taken, quote
 
 -- x is not the quote q, a newline or a backslash
 unfoldable pub ordinary : ℕ → ℕ → Bool
-ordinary q x = and (not (is x q)) (and (not (is x line_feed)) (not (is x reverse_solidus)))
+ordinary q x = and (not (is x q)) (and (not (is x (ascii "\n"))) (not (is x (ascii "\\"))))
 
 -- nor is any byte of a text
 unfoldable pub plain : ℕ → List ℕ → Bool
@@ -32,7 +32,7 @@ itself : (q x : ℕ) (r : List ℕ) → ordinary q x ≡ true → Some (one_byte
 unfolding ordinary quoted_of
 itself q x r h =
     let p = and-true (not (is x q)) _ h in
-    let p' = and-true (not (is x line_feed)) _ p.1 in
+    let p' = and-true (not (is x (ascii "\n"))) _ p.1 in
     let filled : is (suc (length r)) 0 ≡ false = is-no _ _ (λ e. omega arith) in
     pick-false _ _ _ _ filled
     (pick-false _ _ _ _ (not-true _ p.0)
@@ -73,11 +73,11 @@ stop-quote q t =
     ap taken_of (sym (pick-false None _ _ _ (is-no (suc (length t)) 0 (λ e. omega arith)) (pick_true _ _ _ _ (is-yes q q refl) refl)))
 
 -- no character of a string begins with a newline
-stop-newline : (q : ℕ) (t : List ℕ) → quoted_taken q (line_feed ∷ t) ≡ 0
+stop-newline : (q : ℕ) (t : List ℕ) → quoted_taken q (ascii "\n" ∷ t) ≡ 0
 unfolding quoted_taken quoted_of taken_of is pick
 stop-newline q t =
     let P : Option (Taken (Option ℕ)) → Type 0 = λ c. taken_of c ≡ 0 in
-    pick-holds P (is (suc (length t)) 0) None _ (λ _. refl) (λ _. pick-holds P (is line_feed q) None None (λ _. refl) (λ _. refl))
+    pick-holds P (is (suc (length t)) 0) None _ (λ _. refl) (λ _. pick-holds P (is (ascii "\n") q) None None (λ _. refl) (λ _. refl))
 
 -- nor at the end of the text
 stop-empty : (q : ℕ) → quoted_taken q [] ≡ 0
@@ -90,8 +90,8 @@ module _ (q : ℕ) (body : List ℕ) (h : plain q body ≡ true) where
   string-quote t = reads-itself q body (q ∷ t) h (stop-quote q t)
 
   -- a newline, which is left to be read
-  pub string-newline : (t : List ℕ) → (string_end q (body ++ line_feed ∷ t) ≡ length body) × (string_text q (body ++ line_feed ∷ t) ≡ body)
-  string-newline t = reads-itself q body (line_feed ∷ t) h (stop-newline q t)
+  pub string-newline : (t : List ℕ) → (string_end q (body ++ ascii "\n" ∷ t) ≡ length body) × (string_text q (body ++ ascii "\n" ∷ t) ≡ body)
+  string-newline t = reads-itself q body (ascii "\n" ∷ t) h (stop-newline q t)
 
   -- the end of the text
   pub string-end-of-text : (string_end q body ≡ length body) × (string_text q body ≡ body)

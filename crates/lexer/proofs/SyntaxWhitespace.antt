@@ -9,7 +9,7 @@ use native.Mathlib.Omega.{arith}
 use lib.ListN.{length, get_or, length-append}
 use lib.Seq.{drop-append_seam}
 use Rattle.combinators.specs.Choice.{pick, or, and, is}
-use Rattle.combinators.specs.Ascii.{tabulation, line_feed, form_feed, carriage_return, space, asterisk, solidus}
+use Prim.Native.Char.{code as ascii}
 use Rattle.combinators.specs.Repeat.{many}
 use Rattle.combinators.proofs.Rules.{is_true, and-true}
 use Rattle.combinators.proofs.Repeats.{many-took, many-stop}
@@ -17,23 +17,23 @@ use Rattle.lexer.specs.Whitespace.{comment_end, comment_of, is_whitespace, white
 
 -- newline: preprocessing makes a line feed of a carriage return and of a form feed
 pub data Newline : ℕ → Type 0 where
-  line-feed : Newline line_feed
-  carriage-return : Newline carriage_return
-  form-feed : Newline form_feed
+  line-feed : Newline (ascii "\n")
+  carriage-return : Newline (ascii "\r")
+  form-feed : Newline (ascii "\u{c}")
 
 -- whitespace: a newline, a character tabulation or a space
 pub data White : ℕ → Type 0 where
   newline : {x : ℕ} → Newline x → White x
-  tab : White tabulation
-  blank-space : White space
+  tab : White (ascii "\t")
+  blank-space : White (ascii " ")
 
 -- no asterisk of the body is followed by a solidus in it; the body may end in an asterisk, as in "/***/"
 abbrev pub NoEnd : List ℕ → Type 0
-NoEnd body = (p q : List ℕ) → ¬ (body ≡ p ++ (asterisk ∷ solidus ∷ q))
+NoEnd body = (p q : List ℕ) → ¬ (body ≡ p ++ (ascii "*" ∷ ascii "/" ∷ q))
 
 -- "/*", and what follows up to and including the first "*/"
 pub data Comment : List ℕ → Type 0 where
-  closed : (body : List ℕ) → NoEnd body → Comment (solidus ∷ asterisk ∷ (body ++ (asterisk ∷ solidus ∷ [])))
+  closed : (body : List ℕ) → NoEnd body → Comment (ascii "/" ∷ ascii "*" ∷ (body ++ (ascii "*" ∷ ascii "/" ∷ [])))
 
 -- white space and comments, any number of them
 pub data Blank : List ℕ → Type 0 where
@@ -57,24 +57,24 @@ white-is tab = refl
 white-is blank-space = refl
 
 -- no end stands at the first byte of a body, whatever follows its closing asterisk
-no-end-here : (x : ℕ) (b r : List ℕ) → NoEnd (x ∷ b) → and (is x asterisk) (is (get_or (b ++ (asterisk ∷ r)) 0 0) solidus) ≡ false
-no-end-here x b r h = go b h (and (is x asterisk) (is (get_or (b ++ (asterisk ∷ r)) 0 0) solidus)) refl
+no-end-here : (x : ℕ) (b r : List ℕ) → NoEnd (x ∷ b) → and (is x (ascii "*")) (is (get_or (b ++ (ascii "*" ∷ r)) 0 0) (ascii "/")) ≡ false
+no-end-here x b r h = go b h (and (is x (ascii "*")) (is (get_or (b ++ (ascii "*" ∷ r)) 0 0) (ascii "/"))) refl
   where
-    go : (b : List ℕ) → NoEnd (x ∷ b) → (t : Bool) → and (is x asterisk) (is (get_or (b ++ (asterisk ∷ r)) 0 0) solidus) ≡ t → t ≡ false
+    go : (b : List ℕ) → NoEnd (x ∷ b) → (t : Bool) → and (is x (ascii "*")) (is (get_or (b ++ (ascii "*" ∷ r)) 0 0) (ascii "/")) ≡ t → t ≡ false
     go b h false e = refl
     go [] h true e = absurd (let p = is_true _ _ (and-true _ _ e).1 in omega arith)
     go (y ∷ b) h true e = absurd (h [] b (rw (is_true x _ (and-true _ _ e).0, is_true y _ (and-true _ _ e).1)))
 
 -- an end is found where it stands
-end-here : (i : ℕ) (r : List ℕ) → comment_end i (asterisk ∷ solidus ∷ r) ≡ i + 2
+end-here : (i : ℕ) (r : List ℕ) → comment_end i (ascii "*" ∷ ascii "/" ∷ r) ≡ i + 2
 unfolding comment_end pick and is
 end-here i r = refl
 
 -- the first end behind a body is the one that closes the comment
-end-found : (b r : List ℕ) (i : ℕ) → NoEnd b → comment_end i (b ++ (asterisk ∷ solidus ∷ r)) ≡ i + length b + 2
+end-found : (b r : List ℕ) (i : ℕ) → NoEnd b → comment_end i (b ++ (ascii "*" ∷ ascii "/" ∷ r)) ≡ i + length b + 2
 unfolding comment_end pick
 end-found [] r i h = end-here i r ∙ omega arith
-end-found (x ∷ b) r i h = rw (no-end-here x b (solidus ∷ r) h) (end-found b r (i + 1) (λ p q e. h (x ∷ p) q (ap (λ l. x ∷ l) e)) ∙ omega arith)
+end-found (x ∷ b) r i h = rw (no-end-here x b (ascii "/" ∷ r) h) (end-found b r (i + 1) (λ p q e. h (x ∷ p) q (ap (λ l. x ∷ l) e)) ∙ omega arith)
 
 -- a character of white space is taken
 white-taken : {x : ℕ} → White x → (l : List ℕ) → whitespace_item (x ∷ l) ≡ 1
@@ -82,15 +82,15 @@ unfolding whitespace_item pick
 white-taken w l = rw (white-is w)
 
 -- "/*" begins a comment
-opened : (l : List ℕ) → whitespace_item (solidus ∷ asterisk ∷ l) ≡ comment_end 2 l
+opened : (l : List ℕ) → whitespace_item (ascii "/" ∷ ascii "*" ∷ l) ≡ comment_end 2 l
 unfolding whitespace_item is_whitespace or comment_of pick is
 opened l = refl
 
 -- a comment is taken to its end
 comment-taken : {c : List ℕ} → Comment c → (l : List ℕ) → whitespace_item (c ++ l) ≡ length c
 comment-taken (closed b h) l =
-    ap whitespace_item (ap (λ t. solidus ∷ asterisk ∷ t) (append_assoc b (asterisk ∷ solidus ∷ []) l))
-    ∙ opened _ ∙ end-found b l 2 h ∙ omega (arith, length-append b (asterisk ∷ solidus ∷ []))
+    ap whitespace_item (ap (λ t. (ascii "/") ∷ ascii "*" ∷ t) (append_assoc b (ascii "*" ∷ ascii "/" ∷ []) l))
+    ∙ opened _ ∙ end-found b l 2 h ∙ omega (arith, length-append b (ascii "*" ∷ ascii "/" ∷ []))
 
 -- ---- what the reader takes whole is skipped
 -- one item that the reader takes to its end is skipped, and what follows is skipped as by itself
@@ -121,8 +121,8 @@ skips-blank b t h e = skips-from h t 0 e ∙ omega arith
 
 -- " /***/": the body is "*"
 test-blank : (t : List ℕ) → whitespace_item t ≡ 0
-    → skip_whitespace (space ∷ solidus ∷ asterisk ∷ asterisk ∷ asterisk ∷ solidus ∷ t) ≡ 6
-test-blank t = skips-blank _ t (white space _ blank-space (comment _ _ (closed (asterisk ∷ []) star) none))
+    → skip_whitespace (ascii " " ∷ ascii "/" ∷ ascii "*" ∷ ascii "*" ∷ ascii "*" ∷ ascii "/" ∷ t) ≡ 6
+test-blank t = skips-blank _ t (white (ascii " ") _ blank-space (comment _ _ (closed (ascii "*" ∷ []) star) none))
   where
-    star : NoEnd (asterisk ∷ [])
-    star p q e = let l = ap length e in omega (arith, length-append p (asterisk ∷ solidus ∷ q))
+    star : NoEnd (ascii "*" ∷ [])
+    star p q e = let l = ap length e in omega (arith, length-append p (ascii "*" ∷ ascii "/" ∷ q))

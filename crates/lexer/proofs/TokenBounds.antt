@@ -7,7 +7,7 @@ use Prim.Native.Nat.{ℕ, ◌+◌, ◌<◌, ◌≤◌}
 use native.Mathlib.Omega.{arith}
 use lib.ListN.{length, get_or, take, drop, length-drop, length-append}
 use lib.Seq.{length-take-le}
-use Rattle.combinators.specs.Ascii.{percent_sign, left_parenthesis}
+use Prim.Native.Char.{code as ascii}
 use Rattle.combinators.specs.Parsed.{Parsed, ok, err, on_parsed, or_else}
 use Rattle.combinators.proofs.Rules.{pick-holds, is_false}
 use Rattle.combinators.proofs.Lists.{byte-there}
@@ -75,7 +75,7 @@ unit-fits s n m u h f = fits_after s n m (take n s) u h (omega (arith, length-ta
 numeric-from : (n : ℕ) (s : List ℕ) → 1 ≤ n → n ≤ length s → Bounded s (numeric_from n s)
 unfolding numeric_from text_of
 numeric-from n s i h =
-    pick-holds (Bounded s) _ _ _ (λ e. one_more s n (take n s) (byte-there s n percent_sign (omega arith) e) (taken-fits s n i h))
+    pick-holds (Bounded s) _ _ _ (λ e. one_more s n (take n s) (byte-there s n (ascii "%") (omega arith) e) (taken-fits s n i h))
     (λ _. on-holds (Bounded s) (ident_of (drop n s)) _ _ (λ m u e. unit-fits s n m u h (ident-fits (drop n s) m u e)) (λ _. taken-fits s n i h))
 
 -- a number, a percentage or a dimension
@@ -92,7 +92,7 @@ unfolding ident_like_of text_of
 ident-like-bounded s =
     on-holds (Bounded s) (ident_of s) _ _
     (λ n b e. let f = ident-fits s n b e in
-    pick-holds (Bounded s) _ _ _ (λ h. one_more s n b (byte-there s n left_parenthesis (omega arith) h) f) (λ _. f))
+    pick-holds (Bounded s) _ _ _ (λ h. one_more s n b (byte-there s n (ascii "(") (omega arith) h) f) (λ _. f))
     (λ _. tt)
 
 -- ---- a string

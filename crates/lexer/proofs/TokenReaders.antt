@@ -10,7 +10,7 @@ use native.Mathlib.Omega.{arith}
 use lib.ListN.{length, get_or, take, drop}
 use lib.Seq.{sets, length-take-le}
 use Rattle.combinators.specs.Choice.{pick, or, is}
-use Rattle.combinators.specs.Ascii.{exclamation_mark, quotation_mark, percent_sign, apostrophe, left_parenthesis, hyphen_minus, less_than_sign, greater_than_sign}
+use Prim.Native.Char.{code as ascii}
 use Rattle.combinators.specs.Parsed.{ok, err, on_parsed, behind}
 use Rattle.combinators.specs.Word.{starts_with}
 use Rattle.combinators.specs.Store.{emits}
@@ -38,17 +38,17 @@ use Rattle.lexer.proofs.NameAnswers.{unnamed-from}
 -- ---- `parse_numeric_token`: a number of n bytes, and what stands behind it
 module _ (n : ℕ) (s : List ℕ) where
   -- with a percent sign behind it, the number is a percentage, which takes the sign too
-  from-percent : is (get_or s n 0) percent_sign ≡ true → numeric_from n s ≡ ok (n + 1) (percentage (take n s))
+  from-percent : is (get_or s n 0) (ascii "%") ≡ true → numeric_from n s ≡ ok (n + 1) (percentage (take n s))
   unfolding numeric_from
   from-percent h = sym (pick_true _ _ _ _ h refl)
 
   -- with a name behind it and no percent sign, the number is a dimension with that unit
-  from-unit : is (get_or s n 0) percent_sign ≡ false → (m : ℕ) (u : List ℕ) → ident_of (drop n s) ≡ ok m u → numeric_from n s ≡ ok (n + m) (dimension (take n s) u)
+  from-unit : is (get_or s n 0) (ascii "%") ≡ false → (m : ℕ) (u : List ℕ) → ident_of (drop n s) ≡ ok m u → numeric_from n s ≡ ok (n + m) (dimension (take n s) u)
   unfolding numeric_from on_parsed
   from-unit h m u e = sym (pick-false _ _ _ _ h (rw e))
 
   -- with neither a percent sign nor a name behind it, the number is a token by itself
-  from-bare : is (get_or s n 0) percent_sign ≡ false → ident_of (drop n s) ≡ err → numeric_from n s ≡ ok n (number (take n s))
+  from-bare : is (get_or s n 0) (ascii "%") ≡ false → ident_of (drop n s) ≡ err → numeric_from n s ≡ ok n (number (take n s))
   unfolding numeric_from on_parsed
   from-bare h e = sym (pick-false _ _ _ _ h (rw e))
 
@@ -80,7 +80,7 @@ module _ (s : List ℕ) (n : ℕ) (answered : Some n ≡ taken_answer (numbers.n
     stored : l ≡ sets st fill (take n s)
     stored = sets-emitted st l (take n s) fill f e
 
-    module _ (r : Bool) (er : r ≡ is (get_or s n 0) percent_sign) where
+    module _ (r : Bool) (er : r ≡ is (get_or s n 0) (ascii "%")) where
       -- a percent sign behind the number: a percentage, whose text is the number
       pub percent : r ≡ true → Lexes (numeric_of s) st fill (Some (record { taken = n + 1; value = code.Percentage n })) l
       unfolding coded text_of
@@ -110,7 +110,7 @@ module _ (s : List ℕ) (n : ℕ) (answered : Some n ≡ taken_answer (numbers.n
 -- ---- `parse_ident_like`
 -- by the byte behind the name
 like-ok : (s : List ℕ) (n : ℕ) (b : List ℕ) → ident_of s ≡ ok n b
-    → ident_like_of s ≡ pick (is (get_or s n 0) left_parenthesis) (ok (n + 1) (function b)) (ok n (ident b))
+    → ident_like_of s ≡ pick (is (get_or s n 0) (ascii "(")) (ok (n + 1) (function b)) (ok n (ident b))
 unfolding ident_like_of on_parsed
 like-ok s n b e = rw e
 
@@ -122,13 +122,13 @@ module _ (s st z : List ℕ) (fill : ℕ) (x : Option Written) (w : Named (ident
       let i = unnamed-from (ident_of s) (sym q ∙ w.0) in
       lexes-err _ (rw i) st z fill (w.1 ∙ ap (λ p. sets st fill (name_text p)) i)
 
-  module _ (n m : ℕ) (q : x ≡ Some (record { taken = n; length = m })) (r : Bool) (er : r ≡ is (get_or s n 0) left_parenthesis) where
+  module _ (n m : ℕ) (q : x ≡ Some (record { taken = n; length = m })) (r : Bool) (er : r ≡ is (get_or s n 0) (ascii "(")) where
     -- the name that was read
     read : (ident_of s ≡ ok n (name_text (ident_of s))) × (m ≡ length (name_text (ident_of s)))
     read = name-ok (ident_of s) n m (sym q ∙ w.0)
 
     -- the token that it makes
-    like : ident_like_of s ≡ pick (is (get_or s n 0) left_parenthesis) (ok (n + 1) (function (name_text (ident_of s)))) (ok n (ident (name_text (ident_of s))))
+    like : ident_like_of s ≡ pick (is (get_or s n 0) (ascii "(")) (ok (n + 1) (function (name_text (ident_of s)))) (ok n (ident (name_text (ident_of s))))
     like = like-ok s n _ read.0
 
     -- the return where '(' stands behind the name: a function
@@ -145,7 +145,7 @@ module _ (s st z : List ℕ) (fill : ℕ) (x : Option Written) (w : Named (ident
 -- a quote that a text begins with stands before its end
 pub quote-there : (t : List ℕ) → is_quote (get_or t 0 0) ≡ true → 1 ≤ length t
 unfolding is_quote
-quote-there t h = either (1 ≤ length t) _ _ h (λ e. byte-there t 0 quotation_mark (omega arith) e) (λ e. byte-there t 0 apostrophe (omega arith) e)
+quote-there t h = either (1 ≤ length t) _ _ h (λ e. byte-there t 0 (ascii "\"") (omega arith) e) (λ e. byte-there t 0 (ascii "'") (omega arith) e)
 
 string-of-none : string_of [] ≡ err
 unfolding string_of is_quote or is pick
@@ -247,12 +247,12 @@ module _ (c : ℕ) (t st z : List ℕ) (fill : ℕ) (x : Option (Taken declared.
 
 -- ---- the marks
 -- the bytes of `-->`
-pub cdc-bytes : text "-->" ≡ hyphen_minus ∷ hyphen_minus ∷ greater_than_sign ∷ []
+pub cdc-bytes : text "-->" ≡ ascii "-" ∷ ascii "-" ∷ ascii ">" ∷ []
 unfolding text utf8 pick
 cdc-bytes = refl
 
 -- the bytes of `<!--`
-pub cdo-bytes : text "<!--" ≡ less_than_sign ∷ exclamation_mark ∷ hyphen_minus ∷ hyphen_minus ∷ []
+pub cdo-bytes : text "<!--" ≡ ascii "<" ∷ ascii "!" ∷ ascii "-" ∷ ascii "-" ∷ []
 unfolding text utf8 pick
 cdo-bytes = refl
 
@@ -263,7 +263,7 @@ module _ (c : ℕ) (t st z : List ℕ) (fill : ℕ) (x : Option (Taken declared.
   unfolding minus_of
   minus_number m k q = lexes-first _ _ st z fill m k (rw q at w)
 
-  module _ (q : x ≡ None) (r : Bool) (er : r ≡ starts_with (hyphen_minus ∷ hyphen_minus ∷ greater_than_sign ∷ []) t) where
+  module _ (q : x ≡ None) (r : Bool) (er : r ≡ starts_with (ascii "-" ∷ ascii "-" ∷ ascii ">" ∷ []) t) where
     -- the code's test is the definition's
     cdc-test : r ≡ starts_with (text "-->") t
     cdc-test = er ∙ ap (λ (w : List ℕ). starts_with w t) (sym cdc-bytes)
@@ -284,7 +284,7 @@ module _ (c : ℕ) (t st z : List ℕ) (fill : ℕ) (x : Option (Taken declared.
         (lexes-as _ _ (sym (pick-false _ _ _ _ (told _ _ _ cdc-test h) refl)) _ _ _ _ (read-or-delim (ident_like_of t) c z v fill y a i e))
 
 -- ---- `less_token`: from '<' on
-module _ (c : ℕ) (t : List ℕ) (r : Bool) (er : r ≡ starts_with (less_than_sign ∷ exclamation_mark ∷ hyphen_minus ∷ hyphen_minus ∷ []) t) where
+module _ (c : ℕ) (t : List ℕ) (r : Bool) (er : r ≡ starts_with (ascii "<" ∷ ascii "!" ∷ ascii "-" ∷ ascii "-" ∷ []) t) where
   -- the code's test is the definition's
   cdo-test : r ≡ starts_with (text "<!--") t
   cdo-test = er ∙ ap (λ (w : List ℕ). starts_with w t) (sym cdo-bytes)

@@ -2,7 +2,7 @@
 -- src/css/parser.rs. A reader of one character answers the bytes that it takes and the scalar value that they stand for.
 use Rattle.std.specs.Prelude.{ℕ, zero, suc, ◌+◌, ◌-◌, ◌*◌, Bool, List, [], ◌++◌, ◌≡◌, refl, length, get_or, take, drop, Option, Some, None}
 use Rattle.std.specs.Option.{option_or}
-use Rattle.combinators.specs.Ascii.{hyphen_minus, digit_zero, digit_nine, capital_a, capital_f, capital_z, reverse_solidus, low_line, small_a, small_f, small_z}
+use Prim.Native.Char.{code as ascii}
 use Rattle.combinators.specs.Choice.{pick, or, and, is, within}
 use Rattle.combinators.specs.Parsed.{Parsed, ok, err, behind}
 use Rattle.combinators.specs.Repeat.{many, texts, took}
@@ -17,11 +17,11 @@ use Rattle.lexer.specs.declared.Written.{Written}
 
 -- '_', 'a'..='z', 'A'..='Z'
 unfoldable pub is_nmstart : ℕ → Bool
-is_nmstart x = or (is x low_line) (or (within x small_a small_z) (within x capital_a capital_z))
+is_nmstart x = or (is x (ascii "_")) (or (within x (ascii "a") (ascii "z")) (within x (ascii "A") (ascii "Z")))
 
 -- these, '0'..='9' and '-'
 unfoldable pub is_nmchar : ℕ → Bool
-is_nmchar x = or (is_nmstart x) (or (is_digit x) (is x hyphen_minus))
+is_nmchar x = or (is_nmstart x) (or (is_digit x) (is x (ascii "-")))
 
 -- from a capital letter to its small one
 abbrev pub case_distance : ℕ
@@ -29,21 +29,21 @@ case_distance = 32
 
 -- "Names fold A-Z to a-z unless escaped" (`to_ascii_lowercase`)
 unfoldable pub lower : ℕ → ℕ
-lower x = pick (within x capital_a capital_z) (x + case_distance) x
+lower x = pick (within x (ascii "A") (ascii "Z")) (x + case_distance) x
 
 -- `nmstart_char`, `nmchar_char`: a first character that p holds of, folded
 unfoldable pub folded_char : (ℕ → Bool) → List ℕ → Option (Taken ℕ)
 folded_char p s = pick (p (get_or s 0 0)) (Some (record { taken = 1; value = lower (get_or s 0 0) })) None
 
 unfoldable pub is_hex_digit : ℕ → Bool
-is_hex_digit x = or (within x digit_zero digit_nine) (or (within x small_a small_f) (within x capital_a capital_f))
+is_hex_digit x = or (within x (ascii "0") (ascii "9")) (or (within x (ascii "a") (ascii "f")) (within x (ascii "A") (ascii "F")))
 
 -- what a hex digit is worth; 0 for any other byte
 unfoldable pub hex_digit : ℕ → ℕ
 hex_digit x =
-    pick (within x digit_zero digit_nine) (x - digit_zero)
-    (pick (within x small_a small_f) (x - small_a + 10)
-    (pick (within x capital_a capital_f) (x - capital_a + 10) 0))
+    pick (within x (ascii "0") (ascii "9")) (x - ascii "0")
+    (pick (within x (ascii "a") (ascii "f")) (x - ascii "a" + 10)
+    (pick (within x (ascii "A") (ascii "F")) (x - ascii "A" + 10) 0))
 
 -- hex digits at the start of s, at most k, counted on from i
 unfoldable pub hex_run : ℕ → ℕ → List ℕ → ℕ
@@ -78,7 +78,7 @@ escaped_of t =
 
 -- `ident_escape`
 unfoldable pub ident_escape_of : List ℕ → Option (Taken ℕ)
-ident_escape_of s = pick (is (get_or s 0 0) reverse_solidus) (escaped_of (drop 1 s)) None
+ident_escape_of s = pick (is (get_or s 0 0) (ascii "\\")) (escaped_of (drop 1 s)) None
 
 -- the first that reads (`alt`)
 unfoldable pub nmstart_of : List ℕ → Option (Taken ℕ)
@@ -114,7 +114,7 @@ name_from b t None = err
 
 -- `opt(tag("-"))`
 unfoldable pub dash : List ℕ → ℕ
-dash t = pick (is (get_or t 0 0) hyphen_minus) 1 0
+dash t = pick (is (get_or t 0 0) (ascii "-")) 1 0
 
 -- a '-' or none, `nmstart`, and characters
 unfoldable pub name_of : List ℕ → Parsed (List ℕ)

@@ -2,14 +2,14 @@
 -- takes, 0 where it does not read.
 use Rattle.std.specs.Prelude.{ℕ, ◌+◌, Bool, List, ◌≡◌, refl, get_or, drop}
 use Rattle.combinators.specs.Choice.{pick, or, and, is, within}
-use Rattle.combinators.specs.Ascii.{plus_sign, hyphen_minus, full_stop, digit_zero, digit_nine}
+use Prim.Native.Char.{code as ascii}
 use Rattle.combinators.specs.Repeat.{many, took}
 use Rattle.characters.specs.Literal.{text}
 use Rattle.characters.specs.Utf8.{utf8, continuation}
 use Rattle.lexer.specs.Whitespace.{skip_whitespace, whitespace_item, is_whitespace, comment_of, comment_end}
 
 unfoldable pub is_digit : ℕ → Bool
-is_digit x = within x digit_zero digit_nine
+is_digit x = within x (ascii "0") (ascii "9")
 
 unfoldable pub one_digit : List ℕ → ℕ
 one_digit s = pick (is_digit (get_or s 0 0)) 1 0
@@ -23,7 +23,7 @@ unfoldable pub decimal : List ℕ → ℕ
 decimal s =
     let n = digits s in
     let m = digits (drop (n + 1) s) in
-    pick (is (get_or s n 0) full_stop) (pick (is m 0) 0 (n + 1 + m)) 0
+    pick (is (get_or s n 0) (ascii ".")) (pick (is m 0) 0 (n + 1 + m)) 0
 
 -- `alt((parse_integer, parse_decimal))`: "`1.5` is Number `1`, then Number `.5`"
 unfoldable pub unsigned : List ℕ → ℕ
@@ -31,7 +31,7 @@ unsigned s = pick (is (digits s) 0) (decimal s) (digits s)
 
 -- `opt(alt((tag("-"), tag("+"))))`
 unfoldable pub sign : List ℕ → ℕ
-sign s = pick (or (is (get_or s 0 0) hyphen_minus) (is (get_or s 0 0) plus_sign)) 1 0
+sign s = pick (or (is (get_or s 0 0) (ascii "-")) (is (get_or s 0 0) (ascii "+"))) 1 0
 
 -- a sign or none, and a number behind it
 unfoldable pub signed : List ℕ → ℕ

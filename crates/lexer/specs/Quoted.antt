@@ -1,7 +1,7 @@
 -- The characters of a quoted string: the loop of `parse_string_token` of src/css/parser.rs, behind the quote.
 use Rattle.std.specs.Prelude.{ℕ, List, [], ◌≡◌, refl, length, get_or, Option, Some, None, option_to_list}
 use Rattle.combinators.specs.Choice.{pick, is}
-use Rattle.combinators.specs.Ascii.{line_feed, quotation_mark, reverse_solidus}
+use Prim.Native.Char.{code as ascii}
 use Rattle.combinators.specs.Repeat.{many, texts, took}
 use Rattle.characters.specs.Literal.{text}
 use Rattle.characters.specs.Utf8.{utf8, continuation, taken_of}
@@ -19,7 +19,7 @@ no_byte n = record { taken = n; value = None }
 unfoldable pub escaped_byte : List ℕ → Taken (Option ℕ)
 escaped_byte s =
     pick (is (length s) 1) (no_byte 1)
-    (pick (is (get_or s 1 0) line_feed) (no_byte 2)
+    (pick (is (get_or s 1 0) (ascii "\n")) (no_byte 2)
     (one_byte 2 (get_or s 1 0)))
 
 -- one turn, where q is the quote: it stops at the end of the text, at the quote and at a line feed
@@ -27,8 +27,8 @@ unfoldable pub quoted_of : ℕ → List ℕ → Option (Taken (Option ℕ))
 quoted_of q s =
     pick (is (length s) 0) None
     (pick (is (get_or s 0 0) q) None
-    (pick (is (get_or s 0 0) line_feed) None
-    (pick (is (get_or s 0 0) reverse_solidus) (Some (escaped_byte s))
+    (pick (is (get_or s 0 0) (ascii "\n")) None
+    (pick (is (get_or s 0 0) (ascii "\\")) (Some (escaped_byte s))
     (Some (one_byte 1 (get_or s 0 0))))))
 
 -- the byte, or nothing, as a text
@@ -55,9 +55,9 @@ unfoldable pub string_text : ℕ → List ℕ → List ℕ
 string_text q s = texts (quoted_taken q) (quoted_text q) 0 s
 
 -- `a\` ending the text, `a\"b"`, `a\` and a line feed before `b"`, `é"`, and a line feed
-test-string : (string_end quotation_mark (text "a\\") ≡ 2) × (string_text quotation_mark (text "a\\") ≡ text "a")
-    × (string_end quotation_mark (text "a\\\"b\"") ≡ 4) × (string_text quotation_mark (text "a\\\"b\"") ≡ text "a\"b")
-    × (string_text quotation_mark (text "a\\\nb\"") ≡ text "ab") × (string_text quotation_mark (text "é\"") ≡ text "é")
-    × (string_end quotation_mark (text "a\nb\"") ≡ 1)
+test-string : (string_end (ascii "\"") (text "a\\") ≡ 2) × (string_text (ascii "\"") (text "a\\") ≡ text "a")
+    × (string_end (ascii "\"") (text "a\\\"b\"") ≡ 4) × (string_text (ascii "\"") (text "a\\\"b\"") ≡ text "a\"b")
+    × (string_text (ascii "\"") (text "a\\\nb\"") ≡ text "ab") × (string_text (ascii "\"") (text "é\"") ≡ text "é")
+    × (string_end (ascii "\"") (text "a\nb\"") ≡ 1)
 unfolding string_end string_text quoted_taken quoted_text taken_of text_of quoted_of escaped_byte many texts took pick is text utf8 continuation
 test-string = (refl, refl, refl, refl, refl, refl, refl)

@@ -1,7 +1,6 @@
 -- Tokens: `parse_numeric_token`, `parse_ident_like`, `parse_string_token` and `parse_token` of src/css/parser.rs.
 use Rattle.std.specs.Prelude.{ℕ, ◌+◌, Bool, List, [], ◌++◌, leb, length, get_or, take, drop, Option, Some, None}
-use Rattle.combinators.specs.Ascii.{quotation_mark, number_sign, percent_sign, apostrophe, left_parenthesis, right_parenthesis, plus_sign, hyphen_minus, full_stop, less_than_sign, left_square_bracket, reverse_solidus, right_square_bracket, left_curly_bracket, right_curly_bracket}
-use Rattle.combinators.specs.Ascii as ascii
+use Prim.Native.Char.{code as ascii}
 use Rattle.combinators.specs.Choice.{pick, or, is}
 use Rattle.combinators.specs.Parsed.{Parsed, ok, err, on_parsed, behind, or_else}
 use Rattle.combinators.specs.Word.{starts_with}
@@ -44,7 +43,7 @@ pub data Token : Type 0 where
 -- `parse_numeric_token`: a number; with '%' behind it a percentage, with a name behind it a dimension
 unfoldable pub numeric_from : ℕ → List ℕ → Parsed Token
 numeric_from n s =
-    pick (is (get_or s n 0) percent_sign) (ok (n + 1) (percentage (take n s)))
+    pick (is (get_or s n 0) (ascii "%")) (ok (n + 1) (percentage (take n s)))
     (on_parsed (ident_of (drop n s)) (λ m u. ok (n + m) (dimension (take n s) u)) (ok n (number (take n s))))
 
 unfoldable pub numeric_of : List ℕ → Parsed Token
@@ -54,7 +53,7 @@ numeric_of s = pick (is (numbers.number s) 0) err (numeric_from (numbers.number 
 unfoldable pub ident_like_of : List ℕ → Parsed Token
 ident_like_of s =
     on_parsed (ident_of s)
-    (λ n b. pick (is (get_or s n 0) left_parenthesis) (ok (n + 1) (function b)) (ok n (ident b)))
+    (λ n b. pick (is (get_or s n 0) (ascii "(")) (ok (n + 1) (function b)) (ok n (ident b)))
     err
 
 -- how a string ends whose n bytes behind the quote stand for b: at the end of the text, at the quote, or, bad, before a line feed
@@ -65,7 +64,7 @@ string_from q r n b =
     (ok (1 + n) (bad_string b)))
 
 unfoldable pub is_quote : ℕ → Bool
-is_quote c = or (is c quotation_mark) (is c apostrophe)
+is_quote c = or (is c (ascii "\"")) (is c (ascii "'"))
 
 -- `parse_string_token`
 unfoldable pub string_of : List ℕ → Parsed Token
@@ -89,15 +88,15 @@ is_ident_start c = or (is_nmstart c) (leb first_above_u0080 c)
 -- itself, which never reads.
 unfoldable pub mark_of : ℕ → Token
 mark_of c =
-    pick (is c ascii.semicolon) semicolon
-    (pick (is c left_parenthesis) open_round
-    (pick (is c right_parenthesis) close_round
-    (pick (is c ascii.comma) comma
-    (pick (is c ascii.colon) colon
-    (pick (is c left_square_bracket) open_square
-    (pick (is c right_square_bracket) close_square
-    (pick (is c left_curly_bracket) open_brace
-    (pick (is c right_curly_bracket) close_brace
+    pick (is c (ascii ";")) semicolon
+    (pick (is c (ascii "(")) open_round
+    (pick (is c (ascii ")")) close_round
+    (pick (is c (ascii ",")) comma
+    (pick (is c (ascii ":")) colon
+    (pick (is c (ascii "[")) open_square
+    (pick (is c (ascii "]")) close_square
+    (pick (is c (ascii "{")) open_brace
+    (pick (is c (ascii "}")) close_brace
     (delim c)))))))))
 
 -- ---- the readers that a character c selects
@@ -118,12 +117,12 @@ less_of c t = pick (starts_with (text "<!--") t) (ok 4 cdo) (ok 1 (delim c))
 unfoldable pub token_with : ℕ → ℕ → List ℕ → Parsed Token
 token_with n c t =
     pick (is_quote c) (string_of t)
-    (pick (is c number_sign) (hash_of c t)
-    (pick (is c plus_sign) (plus_of c t)
-    (pick (is c hyphen_minus) (minus_of c t)
-    (pick (is c full_stop) (or_else (numeric_of t) (ok 1 (delim c)))
-    (pick (is c less_than_sign) (less_of c t)
-    (pick (is c reverse_solidus) (or_else (ident_like_of t) (ok 1 (delim c)))
+    (pick (is c (ascii "#")) (hash_of c t)
+    (pick (is c (ascii "+")) (plus_of c t)
+    (pick (is c (ascii "-")) (minus_of c t)
+    (pick (is c (ascii ".")) (or_else (numeric_of t) (ok 1 (delim c)))
+    (pick (is c (ascii "<")) (less_of c t)
+    (pick (is c (ascii "\\")) (or_else (ident_like_of t) (ok 1 (delim c)))
     (pick (is_ident_start c) (ident_like_of t)
     (pick (numbers.is_digit c) (numeric_of t)
     (ok n (mark_of c))))))))))

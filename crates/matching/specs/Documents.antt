@@ -3,7 +3,7 @@
 -- in UTF-8. The document's text is not at hand: the numbers of its sections and its list of white space are from memory, and nothing is quoted.
 use Rattle.std.specs.Prelude.{ℕ, Bool, true, false, List, [], ◌∷◌, ◌++◌, ◌⊎◌, ◌≡◌, refl}
 use Rattle.combinators.specs.All.{All, member}
-use Rattle.combinators.specs.Ascii.{tabulation, line_feed, form_feed, carriage_return, space, small_a, small_f, small_n}
+use Prim.Native.Char.{code as ascii}
 use Rattle.combinators.specs.Choice.{pick, or, and, is}
 use Rattle.combinators.specs.Word.{same_text}
 use Rattle.characters.specs.Literal.{text}
@@ -22,7 +22,7 @@ Some P (a ∷ l) = P a ⊎ Some P l
 
 -- by section 4, from memory: space, tab, line feed, carriage return and form feed
 unfoldable pub is_selectors_white_space : ℕ → Bool
-is_selectors_white_space v = member v (tabulation ∷ line_feed ∷ form_feed ∷ carriage_return ∷ space ∷ [])
+is_selectors_white_space v = member v (ascii "\t" ∷ ascii "\n" ∷ ascii "\u{c}" ∷ ascii "\r" ∷ ascii " " ∷ [])
 
 -- a character in front of the first of some pieces
 unfoldable pub longer : ℕ → List (List ℕ) → List (List ℕ)
@@ -45,7 +45,7 @@ unfoldable pub words : (ℕ → Bool) → List ℕ → List (List ℕ)
 words white t = without_empty (pieces white t)
 
 -- two words between white space of all five kinds
-test_words : words is_selectors_white_space (space ∷ small_a ∷ small_f ∷ tabulation ∷ line_feed ∷ small_n ∷ form_feed ∷ carriage_return ∷ []) ≡ text "af" ∷ text "n" ∷ []
+test_words : words is_selectors_white_space (ascii " " ∷ ascii "a" ∷ ascii "f" ∷ ascii "\t" ∷ ascii "\n" ∷ ascii "n" ∷ ascii "\u{c}" ∷ ascii "\r" ∷ []) ≡ text "af" ∷ text "n" ∷ []
 unfolding words without_empty pieces longer is_selectors_white_space member text utf8 pick or is
 test_words = refl
 
@@ -56,7 +56,7 @@ next_line = 0x85
 abbrev no_break_space : ℕ
 no_break_space = 0xa0
 
-test-other-words : (words is_white_space (small_a ∷ next_line ∷ small_n ∷ []) ≡ (small_a ∷ []) ∷ (small_n ∷ []) ∷ []) × (words is_selectors_white_space (small_a ∷ next_line ∷ small_n ∷ []) ≡ (small_a ∷ next_line ∷ small_n ∷ []) ∷ [])
+test-other-words : (words is_white_space (ascii "a" ∷ next_line ∷ ascii "n" ∷ []) ≡ (ascii "a" ∷ []) ∷ (ascii "n" ∷ []) ∷ []) × (words is_selectors_white_space (ascii "a" ∷ next_line ∷ ascii "n" ∷ []) ≡ (ascii "a" ∷ next_line ∷ ascii "n" ∷ []) ∷ [])
     × (words is_white_space (no_break_space ∷ []) ≡ []) × (words is_selectors_white_space (no_break_space ∷ []) ≡ (no_break_space ∷ []) ∷ [])
 unfolding words without_empty pieces longer is_selectors_white_space is_white_space member pick or is
 test-other-words = (refl, refl, refl, refl)

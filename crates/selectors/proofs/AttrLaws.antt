@@ -10,7 +10,7 @@ use denote.Enum.Declared.{tag_of}
 use lib.ListN.{length, get_or, take, drop, length-drop}
 use lib.Seq.{sets, get_or-drop, length-sets}
 use Rattle.std.specs.Prelude.{Some, None, Ok, Option}
-use Rattle.combinators.specs.Ascii as ascii
+use Prim.Native.Char.{code as ascii}
 use Rattle.combinators.specs.Choice.{pick, is}
 use Rattle.combinators.specs.Parsed as parsing
 use Rattle.combinators.specs.Parsed.{Parsed, ok, err, on_parsed}
@@ -47,7 +47,7 @@ use Rattle.combinators.proofs.ZeroLaws.{zeros-back, zeros-after}
 use Rattle.selectors.proofs.ComponentLaws.{read_as, Left, left-none, or-fails, or-reads}
 
 -- ---- the returns of `closed`
-module _ (s st : List ℕ) (n m fill : ℕ) (t : Bool) (et : t ≡ is (get_or s n 0) ascii.right_square_bracket) where
+module _ (s st : List ℕ) (n m fill : ℕ) (t : Bool) (et : t ≡ is (get_or s n 0) (ascii "]")) where
   -- the return where the bracket closes the value: it is taken, and the store stays
   pub bracket-closes : t ≡ true → (Some (record { taken = (n + 1); length = m }) ≡ closed_answer s n m) × (st ≡ closed_store s n m fill st)
   unfolding closed_answer closed_store
@@ -192,12 +192,12 @@ module _ (s : List ℕ) (p : Parsed (List ℕ)) where
 
   module _ (n : ℕ) (b : List ℕ) (e : p ≡ ok n b) where
     -- a text with the closing bracket behind it is a value
-    closed-yes : is (get_or s n 0) ascii.right_square_bracket ≡ true → closed_by s p ≡ ok (n + 1) b
+    closed-yes : is (get_or s n 0) (ascii "]") ≡ true → closed_by s p ≡ ok (n + 1) b
     unfolding closed_by on_parsed pick
     closed-yes t = rw (e, t)
 
     -- a text without the closing bracket behind it is no value
-    closed-no : is (get_or s n 0) ascii.right_square_bracket ≡ false → closed_by s p ≡ err
+    closed-no : is (get_or s n 0) (ascii "]") ≡ false → closed_by s p ≡ err
     unfolding closed_by on_parsed pick
     closed-no t = rw (e, t)
 
@@ -224,7 +224,7 @@ module _ (s st z : List ℕ) (fill : ℕ) (c : Zeros st fill) (p : Parsed (List 
 
   module _ (n m : ℕ) (h : x ≡ Some (record { taken = n; length = m })) (r : Option Written) (y : List ℕ) (v : (r ≡ closed_answer s n m) × (y ≡ closed_store s n m fill z)) where
     -- a text, by the byte behind it
-    value-by : (b : List ℕ) → p ≡ ok n b → m ≡ length b → z ≡ sets st fill b → (t : Bool) → is (get_or s n 0) ascii.right_square_bracket ≡ t → idents.Named (closed_by s p) st fill r y
+    value-by : (b : List ℕ) → p ≡ ok n b → m ≡ length b → z ≡ sets st fill b → (t : Bool) → is (get_or s n 0) (ascii "]") ≡ t → idents.Named (closed_by s p) st fill r y
     unfolding closed_answer closed_store
     value-by b e l ez true et =
         let er : r ≡ Some (record { taken = (n + 1); length = m }) = v.0 ∙ sym (pick_true _ _ _ _ et refl) in
@@ -280,7 +280,7 @@ closed-keeps : (s : List ℕ) (p : Parsed (List ℕ)) → NameKeeps s p → Name
 unfolding closed_by on_parsed
 closed-keeps s (ok n b) f =
     pick-holds (NameKeeps s) _ _ _
-    (λ e. let l = byte-there s n ascii.right_square_bracket (omega arith) e in
+    (λ e. let l = byte-there s n (ascii "]") (omega arith) e in
     record { some = omega (arith, f.some); within_text = omega arith; bound = short (omega (arith, bound-short f.bound l)) })
     (λ _. tt)
 closed-keeps s err f = tt
@@ -348,7 +348,7 @@ module _ (t : List ℕ) (j : ℕ) (name : List ℕ) where
   -- one alternative of a value, with its closing bracket
   one_value : (p : Parsed (List ℕ)) → on_parsed p (λ n v. closed t (j + n) (attribute_equal name v)) fails ≡ valued j (closed_by (drop j t) p) name
   unfolding on_parsed closed closed_by parsed
-  one_value (ok n v) = rw (get_or-drop j t n 0) (by-bracket n v (is (get_or t (j + n) 0) ascii.right_square_bracket))
+  one_value (ok n v) = rw (get_or-drop j t n 0) (by-bracket n v (is (get_or t (j + n) 0) (ascii "]")))
   one_value err = refl
 
   -- two alternatives of a value are one choice of texts
@@ -364,8 +364,8 @@ module _ (t : List ℕ) (j : ℕ) (name : List ℕ) where
 
 -- ---- the returns of `parse_attr`
 -- the opening bracket is there
-pub attr-there : (s : List ℕ) (t : Bool) → t ≡ is (get_or s 0 0) ascii.left_square_bracket → t ≡ true → 1 ≤ length s
-attr-there s t et e = let l = byte-there s 0 ascii.left_square_bracket (omega arith) (told _ _ _ et e) in omega arith
+pub attr-there : (s : List ℕ) (t : Bool) → t ≡ is (get_or s 0 0) (ascii "[") → t ≡ true → 1 ≤ length s
+attr-there s t et e = let l = byte-there s 0 (ascii "[") (omega arith) (told _ _ _ et e) in omega arith
 
 -- an attribute without a value
 attribute-left : (o : Outcome syntax.Component) (n : ℕ) (b : List ℕ) → reads n (attribute b) ≡ o → (m : ℕ) → m ≡ length b → (st z : List ℕ) (fill : ℕ) → z ≡ sets st fill b
@@ -380,7 +380,7 @@ unfolding component_answer component_coded written on_outcome on_parsed parsed c
 equal-left (ok n v) at b m em st z fill c ez r y w = (rw w.0 (rw em), w.1 ∙ rw (em, ez) (sym (sets-append st fill b v)))
 equal-left err at b m em st z fill c ez r y w = (ap Ok w.0, w.1 ∙ rw ez (zeros-back st fill c b m (omega arith)))
 
-module _ (s st : List ℕ) (fill : ℕ) (t : Bool) (et : t ≡ is (get_or s 0 0) ascii.left_square_bracket) where
+module _ (s st : List ℕ) (fill : ℕ) (t : Bool) (et : t ≡ is (get_or s 0 0) (ascii "[")) where
   -- without an opening bracket there is no attribute
   pub attr-missing : t ≡ false → Left (attr_of s) st fill (Ok None) st
   unfolding attr_of
@@ -423,11 +423,11 @@ module _ (s st : List ℕ) (fill : ℕ) (t : Bool) (et : t ≡ is (get_or s 0 0)
       attr-name-le l = omega (arith, fits.within_text, length-drop 1 s)
 
       -- by the two bytes that may follow
-      attr-by : or_else (closed s (1 + n) (attribute name.name)) (pick (is (get_or s (1 + n) 0) ascii.equals_sign) (value_of s (1 + n + 1) name.name) fails) ≡ attr_of s
+      attr-by : or_else (closed s (1 + n) (attribute name.name)) (pick (is (get_or s (1 + n) 0) (ascii "=")) (value_of s (1 + n + 1) name.name) fails) ≡ attr_of s
       unfolding attr_of on_parsed pick
       attr-by = let q : 1 + n + 1 ≡ 2 + n = omega arith in rw (told _ _ _ et e, name.reads, q)
 
-      module _ (u : Bool) (eu : u ≡ is (get_or s (1 + n) 0) ascii.right_square_bracket) where
+      module _ (u : Bool) (eu : u ≡ is (get_or s (1 + n) 0) (ascii "]")) where
         -- behind the name a closing bracket ends the attribute
         closed-there : u ≡ true → reads (1 + n + 1) (attribute name.name) ≡ closed s (1 + n) (attribute name.name)
         unfolding closed
@@ -435,14 +435,14 @@ module _ (s st : List ℕ) (fill : ℕ) (t : Bool) (et : t ≡ is (get_or s 0 0)
 
         -- it lies within the text
         pub attr-closed-le : u ≡ true → 1 + n + 1 ≤ length s
-        attr-closed-le f = let l = byte-there s (1 + n) ascii.right_square_bracket (omega arith) (told _ _ _ eu f) in omega arith
+        attr-closed-le f = let l = byte-there s (1 + n) (ascii "]") (omega arith) (told _ _ _ eu f) in omega arith
 
         -- the return where it ends there
         pub attr-closed : u ≡ true → Left (attr_of s) st fill (Ok (Some (read_as (1 + n + 1) (variant.Attribute m)))) z
         attr-closed f =
             attribute-left _ (1 + n + 1) name.name (sym (or-reads _ _ _ _ (sym (closed-there f))) ∙ attr-by) m name.long st z fill stored-name
 
-        module _ (f : u ≡ false) (v : Bool) (ev : v ≡ is (get_or s (1 + n) 0) ascii.equals_sign) where
+        module _ (f : u ≡ false) (v : Bool) (ev : v ≡ is (get_or s (1 + n) 0) (ascii "=")) where
           -- without the closing bracket there is no attribute without a value
           closed-fails : closed s (1 + n) (attribute name.name) ≡ fails
           unfolding closed
@@ -458,7 +458,7 @@ module _ (s st : List ℕ) (fill : ℕ) (t : Bool) (et : t ≡ is (get_or s 0 0)
           module _ (g : v ≡ true) where
             -- it lies within the text
             pub equal-before : 1 + n < length s
-            equal-before = byte-there s (1 + n) ascii.equals_sign (omega arith) (told _ _ _ ev g)
+            equal-before = byte-there s (1 + n) (ascii "=") (omega arith) (told _ _ _ ev g)
 
             -- behind the name the store is clean
             pub equal-clean : Clean (length s) fill st → Clean (length s - (1 + n + 1)) (fill + m) z

@@ -7,7 +7,7 @@ use Prim.Native.Nat.{ℕ, ◌+◌, ◌^◌, ◌≤◌, ◌<◌}
 use native.Mathlib.Omega.{arith}
 use borrow.Author.Tests.{leb-true}
 use lib.ListN.{length, get_or, drop, length-append, length-drop}
-use Rattle.combinators.specs.Ascii as ascii
+use Prim.Native.Char.{code as ascii}
 use Rattle.combinators.specs.Choice.{pick, is}
 use Rattle.combinators.specs.Parsed.{Parsed, ok, err, on_parsed}
 use Rattle.combinators.proofs.Lists.{byte-there}
@@ -88,14 +88,14 @@ class-keeps : (s : List ℕ) → ComponentKeeps s (class_of s)
 unfolding class_of
 class-keeps s =
     pick-holds (ComponentKeeps s) _ _ _
-    (λ t. let l = byte-there s 0 ascii.full_stop (omega arith) t in parsed-keeps s 1 _ class texts.0 (λ b. tt) (omega arith) (ident-keeps (drop 1 s))) (λ _. tt)
+    (λ t. let l = byte-there s 0 (ascii ".") (omega arith) t in parsed-keeps s 1 _ class texts.0 (λ b. tt) (omega arith) (ident-keeps (drop 1 s))) (λ _. tt)
 
 -- a hash keeps to the bounds
 hash-keeps : (s : List ℕ) → ComponentKeeps s (hash_of s)
 unfolding hash_of
 hash-keeps s =
     pick-holds (ComponentKeeps s) _ _ _
-    (λ t. let l = byte-there s 0 ascii.number_sign (omega arith) t in parsed-keeps s 1 _ hash texts.1 (λ b. tt) (omega arith) (identstring-keeps (drop 1 s))) (λ _. tt)
+    (λ t. let l = byte-there s 0 (ascii "#") (omega arith) t in parsed-keeps s 1 _ hash texts.1 (λ b. tt) (omega arith) (identstring-keeps (drop 1 s))) (λ _. tt)
 
 -- an element keeps to the bounds
 element-keeps : (s : List ℕ) → ComponentKeeps s (parsed 0 (ident_of s) element)
@@ -108,7 +108,7 @@ unfolding closed component_text
 one-value-keeps s j name h l n v f =
     let d = length-drop j s in
     pick-holds (ComponentKeeps s) _ _ _
-    (λ t. let k = byte-there s (j + n) ascii.right_square_bracket (omega arith) t in
+    (λ t. let k = byte-there s (j + n) (ascii "]") (omega arith) t in
     let m = bound-short f.bound (omega arith) in
     (short-fits s (j + n + 1) (name ++ v) (omega arith) (omega arith) (omega (arith, length-append name v)), tt))
     (λ _. tt)
@@ -128,17 +128,17 @@ value_keeps s j name h l =
 
 -- what follows a name of n bytes
 named-keeps : (s : List ℕ) (n : ℕ) (name : List ℕ) → Fits (drop 1 s) n name
-    → ComponentKeeps s (or_else (closed s (1 + n) (attribute name)) (pick (is (get_or s (1 + n) 0) ascii.equals_sign) (value_of s (2 + n) name) fails))
+    → ComponentKeeps s (or_else (closed s (1 + n) (attribute name)) (pick (is (get_or s (1 + n) 0) (ascii "=")) (value_of s (2 + n) name) fails))
 unfolding closed component_text
 named-keeps s n name f =
     let d = length-drop 1 s in
     or-keeps s _ _
     (pick-holds (ComponentKeeps s) _ _ _
-    (λ t. let k = byte-there s (1 + n) ascii.right_square_bracket (omega arith) t in
+    (λ t. let k = byte-there s (1 + n) (ascii "]") (omega arith) t in
     let m = bound-short f.bound (omega arith) in
     (short-fits s (1 + n + 1) name (omega arith) (omega arith) (omega arith), tt)) (λ _. tt))
     (pick-holds (ComponentKeeps s) _ _ _
-    (λ t. let k = byte-there s (1 + n) ascii.equals_sign (omega arith) t in
+    (λ t. let k = byte-there s (1 + n) (ascii "=") (omega arith) t in
     let m = bound-short f.bound (omega arith) in
     value_keeps s (2 + n) name (omega arith) (omega arith)) (λ _. tt))
 
@@ -165,7 +165,7 @@ pseudo-keeps : (s : List ℕ) → ComponentKeeps s (pseudo_class_of s)
 unfolding pseudo_class_of
 pseudo-keeps s =
     pick-holds (ComponentKeeps s) _ _ _
-    (λ t. let l = byte-there s 0 ascii.colon (omega arith) t in
+    (λ t. let l = byte-there s 0 (ascii ":") (omega arith) t in
     on-holds (ComponentKeeps s) (ident_of (drop 1 s)) _ _
     (λ n b e. let f = ident-fits (drop 1 s) n b e in
     pick-holds (ComponentKeeps s) _ _ _

@@ -14,7 +14,7 @@ use Rattle.std.specs.Prelude.{Option, Some, None, is_some, IfSome, MatchOption, 
 use Rattle.std.specs.Borrow.{Bor}
 use Rattle.std.specs.Bool.{then_some}
 use Rattle.std.proofs.lemmas.Bool.{ltb-true, ltb-false}
-use Rattle.combinators.specs.Ascii as ascii
+use Prim.Native.Char.{code as ascii}
 use Rattle.combinators.specs.Choice.{pick, is}
 use Rattle.combinators.specs.declared.taken.Taken.{Taken}
 use Rattle.combinators.specs.Parsed.{Parsed, ok, err}
@@ -156,26 +156,26 @@ module _ (s : List ℕ) (mark : ℕ) (c : syntax.Component) (o : Option ℕ) (er
   marked-none h = (marked_by _ refl).1 h
 
 -- ---- the returns of `parse_mark`
-module _ (s : List ℕ) (x : Option ℕ) (ei : x ≡ mark_taken s ascii.greater_than_sign) where
+module _ (s : List ℕ) (x : Option ℕ) (ei : x ≡ mark_taken s (ascii ">")) where
   -- where `>` takes bytes it is the component
   pub mark-child : (i : ℕ) → x ≡ Some i → Ok (Some (read_as i code.Child)) ≡ component_answer (mark_of s)
   unfolding mark_of
-  mark-child i h = answer-bare _ i child code.Child bare.0 (sym (or-reads _ _ i child (sym (marked-some s ascii.greater_than_sign child x ei i h))))
+  mark-child i h = answer-bare _ i child code.Child bare.0 (sym (or-reads _ _ i child (sym (marked-some s (ascii ">") child x ei i h))))
 
-  module _ (h : x ≡ None) (y : Option ℕ) (ej : y ≡ mark_taken s ascii.asterisk) where
+  module _ (h : x ≡ None) (y : Option ℕ) (ej : y ≡ mark_taken s (ascii "*")) where
     -- where `>` takes no bytes, `*` or white space decides
-    no-child : (o : Outcome syntax.Component) → o ≡ or_else (marked s ascii.asterisk star) (blank_of s) → o ≡ mark_of s
+    no-child : (o : Outcome syntax.Component) → o ≡ or_else (marked s (ascii "*") star) (blank_of s) → o ≡ mark_of s
     unfolding mark_of
-    no-child o e = e ∙ sym (or-fails _ _ (sym (marked-none s ascii.greater_than_sign child x ei h)))
+    no-child o e = e ∙ sym (or-fails _ _ (sym (marked-none s (ascii ">") child x ei h)))
 
     -- else, where `*` takes bytes it is
     pub mark-star : (j : ℕ) → y ≡ Some j → Ok (Some (read_as j code.Star)) ≡ component_answer (mark_of s)
-    mark-star j l = answer-bare _ j star code.Star bare.1 (no-child _ (sym (or-reads _ _ j star (sym (marked-some s ascii.asterisk star y ej j l)))))
+    mark-star j l = answer-bare _ j star code.Star bare.1 (no-child _ (sym (or-reads _ _ j star (sym (marked-some s (ascii "*") star y ej j l)))))
 
     module _ (l : y ≡ None) (k : ℕ) (ek : k ≡ skip_whitespace s) where
       -- where `*` takes none either, white space decides
       no-star : (o : Outcome syntax.Component) → o ≡ blank_of s → o ≡ mark_of s
-      no-star o e = no-child o (e ∙ sym (or-fails _ _ (sym (marked-none s ascii.asterisk star y ej l))))
+      no-star o e = no-child o (e ∙ sym (or-fails _ _ (sym (marked-none s (ascii "*") star y ej l))))
 
       -- by whether white space takes bytes: it is the component, or there is none
       pub mark-blank : Ok (then_some (ltb 0 k) (read_as k code.Descendant)) ≡ component_answer (mark_of s)
@@ -233,12 +233,12 @@ pub record BehindMark (mark : ℕ) (f : List ℕ → Parsed (List ℕ)) (con : L
   pub definition : (s : List ℕ) → pick (is (get_or s 0 0) mark) (parsed 1 (f (drop 1 s)) con) fails ≡ o s
 
 -- a class is a name behind a full stop
-pub class-behind : BehindMark ascii.full_stop ident_of class code.Class class_of
+pub class-behind : BehindMark (ascii ".") ident_of class code.Class class_of
 unfolding class_of
 class-behind = record { texted = class-texted; mark-some = omega arith; definition = λ s. refl }
 
 -- a hash is a name behind a number sign
-pub hash-behind : BehindMark ascii.number_sign identstring_of hash code.Hash hash_of
+pub hash-behind : BehindMark (ascii "#") identstring_of hash code.Hash hash_of
 unfolding hash_of
 hash-behind = record { texted = hash-texted; mark-some = omega arith; definition = λ s. refl }
 

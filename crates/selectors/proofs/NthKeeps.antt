@@ -7,7 +7,7 @@ use native.Mathlib.Omega.{arith}
 use borrow.Author.Tests.{leb-true}
 use lib.IntN.{ℤ, pos}
 use lib.ListN.{length, drop, length-drop}
-use Rattle.combinators.specs.Ascii as ascii
+use Prim.Native.Char.{code as ascii}
 use Rattle.combinators.proofs.Lists.{byte-there}
 use Rattle.combinators.proofs.Rules.{pick-holds, and-true}
 use Rattle.combinators.proofs.Words.{starts-le}
@@ -89,7 +89,7 @@ a-keeps : (s : List ℕ) → NthKeeps s (just_a s)
 unfolding just_a
 a-keeps s =
     pick-holds (NthKeeps s) _ _ _
-    (λ e. let l = byte-there s (sign s + digits (drop (sign s) s)) ascii.small_n (omega arith) e in
+    (λ e. let l = byte-there s (sign s + digits (drop (sign s) s)) (ascii "n") (omega arith) e in
     converted-keeps s s (sign s) _ _ _ (λ a la. (omega arith, numbered a (pos 0) la zero-fits)) (sign_le s))
     (λ _. tt)
 
@@ -130,10 +130,10 @@ args-keeps s =
     let w = 1 + skip_whitespace (drop 1 s) in
     let d = length-drop w s in
     pick-holds (NthKeeps s) _ _ _
-    (λ e. let h : w ≤ length s = let l = byte-there s 0 ascii.left_parenthesis (omega arith) e in omega (arith, skip-le (drop 1 s), length-drop 1 s) in
+    (λ e. let h : w ≤ length s = let l = byte-there s 0 (ascii "(") (omega arith) e in omega (arith, skip-le (drop 1 s), length-drop 1 s) in
     on-outcome (NthKeeps s) (nth_of (drop w s)) _ _ _
     (λ n x eo. let k = nth-from s w h (reads n x) eo in
     pick-holds (NthKeeps s) _ _ _
-    (λ f. let l = byte-there s (w + n + skip_whitespace (drop (w + n) s)) ascii.right_parenthesis (omega arith) f in (omega arith, k.1)) (λ _. tt))
+    (λ f. let l = byte-there s (w + n + skip_whitespace (drop (w + n) s)) (ascii ")") (omega arith) f in (omega arith, k.1)) (λ _. tt))
     tt (λ p eo. let k = nth-from s w h (panics p) eo in omega arith))
     (λ _. tt)

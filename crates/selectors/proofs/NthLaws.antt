@@ -10,7 +10,7 @@ use lib.Dec.{leb}
 use lib.IntN.{ℤ, pos}
 use lib.ListN.{length, get_or, take, drop, length-drop}
 use lib.Seq.{drop-drop}
-use Rattle.combinators.specs.Ascii as ascii
+use Prim.Native.Char.{code as ascii}
 use Rattle.combinators.specs.Choice.{pick, and, is}
 use Rattle.combinators.specs.Word.{starts_with}
 use Rattle.combinators.specs.declared.taken.Taken.{Taken}
@@ -96,14 +96,14 @@ module _ (s : List ℕ) (x : SignedInteger) (ex : x ≡ integer_of s) where
   value-is = ap (λ (r : SignedInteger). r.value) ex
 
   -- by the byte behind both
-  module _ (t : Bool) (et : t ≡ is (get_or s x.taken 0) ascii.small_n) where
+  module _ (t : Bool) (et : t ≡ is (get_or s x.taken 0) (ascii "n")) where
     -- the test, of the place that the definition has
-    letter : (v : Bool) → t ≡ v → is (get_or s (i + n) 0) ascii.small_n ≡ v
-    letter v e = ap (λ (k : ℕ). is (get_or s k 0) ascii.small_n) (sym taken_is) ∙ told _ _ _ et e
+    letter : (v : Bool) → t ≡ v → is (get_or s (i + n) 0) (ascii "n") ≡ v
+    letter v e = ap (λ (k : ℕ). is (get_or s k 0) (ascii "n")) (sym taken_is) ∙ told _ _ _ et e
 
     -- a letter `n` that is found stands before the end of the text
     pub letter-there : t ≡ true → x.taken + 1 ≤ length s
-    letter-there e = let h = byte-there s x.taken ascii.small_n (omega arith) (told _ _ _ et e) in omega arith
+    letter-there e = let h = byte-there s x.taken (ascii "n") (omega arith) (told _ _ _ et e) in omega arith
 
     -- without the letter `n` there is no an
     pub a-none : t ≡ false → Ok None ≡ component_answer (just_a s)
@@ -232,7 +232,7 @@ module _ (s : List ℕ) (p : ℕ) (x : SignedInteger) (ex : x ≡ integer_of (ta
 -- the definition, where e is behind the first number and p at the sign of the second
 abbrev both_at : List ℕ → ℕ → ℕ → Outcome Component
 both_at s e p =
-    pick (and (is (get_or s e 0) ascii.small_n) (and (is_sign s p) (leb 1 (digits (drop (p + 1) s)))))
+    pick (and (is (get_or s e 0) (ascii "n")) (and (is_sign s p) (leb 1 (digits (drop (p + 1) s)))))
     (converted s (i-of s) (n-of s) (is_minus s 0)
     (λ a. converted s (p + 1) (digits (drop (p + 1) s)) (is_minus s p) (λ b. reads (p + 1 + digits (drop (p + 1) s)) (nth a b))))
     fails
@@ -242,7 +242,7 @@ both_is : (s : List ℕ) (e : ℕ) → e ≡ i-of s + n-of s → (p : ℕ) → p
 unfolding both_of
 both_is s e h p q = rw (q, h)
 
-module _ (s : List ℕ) (x : SignedInteger) (ex : x ≡ integer_of s) (t : Bool) (et : t ≡ is (get_or s x.taken 0) ascii.small_n) where
+module _ (s : List ℕ) (x : SignedInteger) (ex : x ≡ integer_of s) (t : Bool) (et : t ≡ is (get_or s x.taken 0) (ascii "n")) where
   -- the return where no `n` follows the first number
   pub both-none : t ≡ false → Ok None ≡ component_answer (both_of s)
   both-none e =
@@ -271,7 +271,7 @@ module _ (s : List ℕ) (x : SignedInteger) (ex : x ≡ integer_of s) (t : Bool)
 
       module _ (f : ¬ (y.taken ≡ y.sign)) where
         -- the `n`, the sign and a digit behind it are all there
-        all : and (is (get_or s x.taken 0) ascii.small_n) (and (is_sign s p) (leb 1 (digits (drop (p + 1) s)))) ≡ true
+        all : and (is (get_or s x.taken 0) (ascii "n")) (and (is_sign s p) (leb 1 (digits (drop (p + 1) s)))) ≡ true
         all = and_both _ _ (told _ _ _ et e) (and_both _ _ q.0 (le-leb _ _ (rest-digits s p y ey q.1 f)))
 
         -- the first number is too great
@@ -396,7 +396,7 @@ module _ (s : List ℕ) (t : Bool) (et : t ≡ starts_with (0x65 ∷ 0x76 ∷ 0x
         nth-b h x ex = no_both x (or-second _ _ (sym h ∙ er') x ex)
 
 -- ---- the returns of `parse_nth_child_args`
-module _ (s : List ℕ) (t : Bool) (et : t ≡ is (get_or s 0 0) ascii.left_parenthesis) where
+module _ (s : List ℕ) (t : Bool) (et : t ≡ is (get_or s 0 0) (ascii "(")) where
   -- without an opening bracket there are no arguments
   pub args_none : t ≡ false → Ok None ≡ component_answer (nth_args_of s)
   unfolding nth_args_of
@@ -404,7 +404,7 @@ module _ (s : List ℕ) (t : Bool) (et : t ≡ is (get_or s 0 0) ascii.left_pare
 
   -- an opening bracket that is found stands before the end of the text
   pub bracket-there : t ≡ true → 1 ≤ length s
-  bracket-there e = let h = byte-there s 0 ascii.left_parenthesis (omega arith) (told _ _ _ et e) in omega arith
+  bracket-there e = let h = byte-there s 0 (ascii "(") (omega arith) (told _ _ _ et e) in omega arith
 
   -- then white space up to w, and the reading from there on
   module _ (e : t ≡ true) (w : ℕ) (ew : w ≡ 1 + skip_whitespace (drop 1 s)) (lw : w ≤ length s) (r : ComponentAnswer)
@@ -425,7 +425,7 @@ module _ (s : List ℕ) (t : Bool) (et : t ≡ is (get_or s 0 0) ascii.left_pare
 
     -- where there is a reading, by the byte behind white space
     args_by : (n : ℕ) (x : Component) → nth_of (drop w s) ≡ reads n x → (end : ℕ) → end ≡ w + n + skip_whitespace (drop (w + n) s)
-        → pick (is (get_or s end 0) ascii.right_parenthesis) (reads (end + 1) x) fails ≡ nth_args_of s
+        → pick (is (get_or s end 0) (ascii ")")) (reads (end + 1) x) fails ≡ nth_args_of s
     unfolding nth_args_of on_outcome pick
     args_by n x h end q = rw (told _ _ _ et e, ← ew, h, q)
 
@@ -452,7 +452,7 @@ module _ (s : List ℕ) (t : Bool) (et : t ≡ is (get_or s 0 0) ascii.left_pare
       args-le = omega (arith, (where-read (length (drop w s)) _ _ n got.component got.reads-it (nth-keeps (drop w s))).0, length-drop w s)
 
       -- then white space up to the end, and a test for the closing bracket
-      module _ (end : ℕ) (ee : end ≡ w + n + skip_whitespace (drop (w + n) s)) (u : Bool) (eu : u ≡ is (get_or s end 0) ascii.right_parenthesis) where
+      module _ (end : ℕ) (ee : end ≡ w + n + skip_whitespace (drop (w + n) s)) (u : Bool) (eu : u ≡ is (get_or s end 0) (ascii ")")) where
         -- without a closing bracket there are none
         pub args-open : u ≡ false → Ok None ≡ component_answer (nth_args_of s)
         args-open f = answer-none _ (pick-false _ _ _ _ (told _ _ _ eu f) refl ∙ args_by n _ got.reads-it end ee)

@@ -8,7 +8,7 @@ use lib.Dec.{leb}
 use lib.IntN.{ℤ}
 use lib.ListN.{length, get_or, take, drop, length-drop}
 use lib.Seq.{take-nil, length-take-le}
-use Rattle.combinators.specs.Ascii as ascii
+use Prim.Native.Char.{code as ascii}
 use Rattle.combinators.specs.Choice.{pick, is}
 use Rattle.combinators.specs.Repeat.{many, took}
 use Rattle.combinators.proofs.Lists.{rest}
@@ -173,7 +173,7 @@ module _ (s : List ℕ) (sign : ℕ) (es : sign ≡ number.sign s) (n : ℕ) (en
   pub taken-le : sign + n ≤ length s
   taken-le = omega (arith, count, digits_le (drop sign s), length-drop sign s, sign_le s)
 
-  module _ (minus : Bool) (em : minus ≡ is (get_or s 0 0) ascii.hyphen_minus) (x : Option ℕ) (ex : x ≡ converted_answer (take (sign + n - sign) (drop sign s)) minus) where
+  module _ (minus : Bool) (em : minus ≡ is (get_or s 0 0) (ascii "-")) (x : Option ℕ) (ex : x ≡ converted_answer (take (sign + n - sign) (drop sign s)) minus) where
     -- the number is that of the definition
     value : x ≡ integer_by s sign n (is_minus s 0)
     unfolding is_minus

@@ -8,7 +8,7 @@ use lib.ListN.{length, get_or, take, drop, length-drop}
 use lib.Seq.{sets}
 use Rattle.std.specs.Prelude.{Option, Some, None, Ok, Err}
 use Rattle.std.specs.Bool.{then_some}
-use Rattle.combinators.specs.Ascii as ascii
+use Prim.Native.Char.{code as ascii}
 use Rattle.combinators.specs.Choice.{pick, is}
 use Rattle.combinators.specs.Parsed.{Parsed, ok, err, on_parsed}
 use Rattle.combinators.specs.Store.{wiped}
@@ -128,8 +128,8 @@ module _ (s st z : List ℕ) (fill : ℕ) (x : Option Written) (w : idents.Named
 
 -- ---- the returns of `parse_pseudo_class`
 -- where the first byte is ':', the text has a byte
-pub colon-there : (s : List ℕ) (t : Bool) → t ≡ is (get_or s 0 0) ascii.colon → t ≡ true → 1 ≤ length s
-colon-there s t et e = let l = byte-there s 0 ascii.colon (omega arith) (told _ _ _ et e) in omega arith
+pub colon-there : (s : List ℕ) (t : Bool) → t ≡ is (get_or s 0 0) (ascii ":") → t ≡ true → 1 ≤ length s
+colon-there s t et e = let l = byte-there s 0 (ascii ":") (omega arith) (told _ _ _ et e) in omega arith
 
 -- a name that is `nth-child`
 record Known (s : List ℕ) (k : ℕ) : Type 0 where
@@ -189,7 +189,7 @@ module _ (u : List ℕ) (k : ℕ) where
   unfolding behind on_outcome
   args-panic p e = rw e
 
-module _ (s st : List ℕ) (t : Bool) (et : t ≡ is (get_or s 0 0) ascii.colon) where
+module _ (s st : List ℕ) (t : Bool) (et : t ≡ is (get_or s 0 0) (ascii ":")) where
   -- without a colon there is no pseudo-class
   pub pseudo-missing : t ≡ false → (Ok None ≡ component_answer (pseudo_class_of s)) × (st ≡ st)
   unfolding pseudo_class_of

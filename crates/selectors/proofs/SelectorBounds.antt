@@ -6,7 +6,7 @@ use mathlib.Core.Logic.{⊎_elim}
 use Prim.Native.Nat.{ℕ, zero, suc, ◌+◌, ◌*◌, ◌≤◌, ◌<◌}
 use native.Mathlib.Omega.{arith}
 use lib.ListN.{length, get_or, drop, length-append, length-drop, length-reverse}
-use Rattle.combinators.specs.Ascii as ascii
+use Prim.Native.Char.{code as ascii}
 use Rattle.combinators.specs.Choice.{is}
 use Rattle.combinators.specs.Word.{starts_with}
 use Rattle.combinators.specs.All.{All}
@@ -264,8 +264,8 @@ unfolding more_selectors
 more-keep zero s = no-selectors 0 s
 more-keep (suc l) s =
     let w = 1 + skip_whitespace (drop 1 s) in
-    pick-holds (Where (length s) (SelectorsKeep 0 s)) (is (get_or s 0 0) ascii.comma) _ _
-    (λ e. let h : w ≤ length s = omega (arith, byte-there s 0 ascii.comma (omega arith) e, skip-le (drop 1 s), length-drop 1 s) in
+    pick-holds (Where (length s) (SelectorsKeep 0 s)) (is (get_or s 0 0) (ascii ",")) _ _
+    (λ e. let h : w ≤ length s = omega (arith, byte-there s 0 (ascii ",") (omega arith) e, skip-le (drop 1 s), length-drop 1 s) in
     where-then (length (drop w s)) (length s) (SelectorKeeps (drop w s)) (SelectorsKeep 0 s) (selector_of (drop w s)) _ (reads 0 []) _
     (λ n x f. where-behind (length (drop (w + n) s)) (length s) (SelectorsKeep 0 (drop (w + n) s)) (SelectorsKeep 0 s) (w + n) (more_selectors l (drop (w + n) s)) _
     (λ m xs k. next-selector 0 s w n m x xs h (omega arith) f k) (omega (arith, h, f.within, length-drop w s, length-drop (w + n) s)) (more-keep l (drop (w + n) s)))

@@ -8,7 +8,7 @@ use native.Mathlib.Omega.{arith}
 use lib.ListN.{length, drop, get_or, length-drop}
 use lib.Seq.{drop-drop}
 use Rattle.std.specs.Prelude.{Some, None, Ok, Err}
-use Rattle.combinators.specs.Ascii as ascii
+use Prim.Native.Char.{code as ascii}
 use Rattle.combinators.specs.Choice.{pick, is}
 use Rattle.combinators.specs.Store.{wiped}
 use Rattle.combinators.proofs.Lists.{lent_from, rest, first, byte-there, length-rest}
@@ -48,7 +48,7 @@ unfolding selectors_of more_from next_of
 first-is s = first_by (selector_of s) (λ n. more_selectors (length (drop n s)) (drop n s))
 
 -- whether a ',' stands behind so many bytes, and what follows it
-module _ (s : List ℕ) (taken : ℕ) {b : Bool} (eb : b ≡ is (get_or s taken 0) ascii.comma) where
+module _ (s : List ℕ) (taken : ℕ) {b : Bool} (eb : b ≡ is (get_or s taken 0) (ascii ",")) where
   -- without a ',' no more selectors are read, however many turns there are
   none-follows : b ≡ false → (t : ℕ) → more_selectors t (drop taken s) ≡ reads 0 []
   unfolding more_selectors pick
@@ -57,7 +57,7 @@ module _ (s : List ℕ) (taken : ℕ) {b : Bool} (eb : b ≡ is (get_or s taken 
 
   -- a ',' that is found stands before the end of the text
   comma-there : b ≡ true → taken < length s
-  comma-there f = byte-there s taken ascii.comma (omega arith) (sym eb ∙ f)
+  comma-there f = byte-there s taken (ascii ",") (omega arith) (sym eb ∙ f)
 
   module _ (f : b ≡ true) {next : ℕ} (en : next ≡ taken + 1 + skip_whitespace (drop (taken + 1) s)) where
     -- the bytes of the ',' and of the white space behind it
@@ -212,7 +212,7 @@ module _ {s rules₀ : List ℕ} {place : ℕ} {store₀ : List ℕ} {fill : ℕ
           gathered-as (gathered_next i.gathered (i.gap + n) one.value _ y z (rw (← rest s next, one.reads-it)) one.rules-are one.store_is)
           (omega (arith, i.next-is)) refl (omega (arith, one.rows)) (omega (arith, one.texts))
 
-      module _ {b : Bool} (eb : b ≡ is (get_or s (next + n) 0) ascii.comma) where
+      module _ {b : Bool} (eb : b ≡ is (get_or s (next + n) 0) (ascii ",")) where
         -- where no ',' follows a selector, it is the last of the list
         pub no-comma : b ≡ false → Ends s rules₀ place store₀ fill (Ok (sized (next + n) (count + 1) (numbers + row) (text + more))) y z
         unfolding selector_rows selector_texts
@@ -249,7 +249,7 @@ more-never : (l : ℕ) (t : List ℕ) → more_selectors l t ≡ fails → ⊥
 unfolding more_selectors
 more-never zero t e = reads-no e
 more-never (suc l) t e =
-    pick-holds (λ (o : Outcome (List Selector)). o ≡ fails → ⊥) (is (get_or t 0 0) ascii.comma) _ _
+    pick-holds (λ (o : Outcome (List Selector)). o ≡ fails → ⊥) (is (get_or t 0 0) (ascii ",")) _ _
     (λ _. then_never (selector_of (drop (1 + skip_whitespace (drop 1 t)) t)) _ (reads 0 []) _ (λ n x. behind-never _ _ _ (more-never l _)) reads-no) (λ _. reads-no) e
 
 -- a list of selectors always reads or panics

@@ -1,7 +1,7 @@
 -- Components of selectors as the code answers them, with the lengths of their texts, which lie in the store; and the columns of their rows.
 use Rattle.std.specs.Prelude.{ℕ, ◌+◌, Option, Some, None, Result, Ok, Err, List, [], ◌∷◌, ◌≡◌, refl, pos, negsuc, length, get_or, drop}
 use Rattle.std.proofs.lemmas.List.Edits.{sets}
-use Rattle.combinators.specs.Ascii as ascii
+use Prim.Native.Char.{code as ascii}
 use Rattle.combinators.specs.Choice.{pick, is}
 use Rattle.combinators.specs.declared.columns.Columns.{Columns}
 use Rattle.combinators.specs.declared.taken.Taken.{Taken}
@@ -75,7 +75,7 @@ case-nth = (refl, refl)
 
 -- those without a text
 unfoldable pub mark_of : List ℕ → Outcome syntax.Component
-mark_of t = or_else (marked t ascii.greater_than_sign child) (or_else (marked t ascii.asterisk star) (blank_of t))
+mark_of t = or_else (marked t (ascii ">") child) (or_else (marked t (ascii "*") star) (blank_of t))
 
 -- those with one
 unfoldable pub named_of : List ℕ → Outcome syntax.Component
@@ -95,7 +95,7 @@ nth_child_name t = on_parsed (ident_of t) (λ n name. pick (same_text name (text
 
 -- what p reads, with `]` behind it
 unfoldable pub closed_by : List ℕ → Parsed (List ℕ) → Parsed (List ℕ)
-closed_by t p = on_parsed p (λ n v. pick (is (get_or t n 0) ascii.right_square_bracket) (ok (n + 1) v) err) err
+closed_by t p = on_parsed p (λ n v. pick (is (get_or t n 0) (ascii "]")) (ok (n + 1) v) err) err
 
 case-closed : (closed_by (text "b]") (ok 1 (text "b")) ≡ ok 2 (text "b")) × (closed_by (text "b ]") (ok 1 (text "b")) ≡ err)
 unfolding closed_by on_parsed pick is text utf8
@@ -103,10 +103,10 @@ case-closed = (refl, refl)
 
 -- as the code answers, where n bytes stand for a text of so many bytes, which lies in the store; it is wiped where there is no `]`
 unfoldable pub closed_answer : List ℕ → ℕ → ℕ → Option Written
-closed_answer t n size = pick (is (get_or t n 0) ascii.right_square_bracket) (Some (record { taken = (n + 1); length = size })) None
+closed_answer t n size = pick (is (get_or t n 0) (ascii "]")) (Some (record { taken = (n + 1); length = size })) None
 
 unfoldable pub closed_store : List ℕ → ℕ → ℕ → ℕ → List ℕ → List ℕ
-closed_store t n size fill store = pick (is (get_or t n 0) ascii.right_square_bracket) store (wiped fill size store)
+closed_store t n size fill store = pick (is (get_or t n 0) (ascii "]")) store (wiped fill size store)
 
 -- a value up to its `]`: a quoted string, or else a name
 unfoldable pub attr_value_of : List ℕ → Parsed (List ℕ)

@@ -1,6 +1,6 @@
 -- Selectors: `parse_class` to `parse_selector` of src/css/parser.rs, in the crate's order.
 use Rattle.std.specs.Prelude.{ℕ, zero, suc, ◌+◌, Bool, List, [], ◌∷◌, reverse, leb, ℤ, pos, negsuc, length, get_or, take, drop}
-use Rattle.combinators.specs.Ascii as ascii
+use Prim.Native.Char.{code as ascii}
 use Rattle.combinators.specs.Choice.{pick, or, and, is}
 use Rattle.combinators.specs.Parsed.{Parsed, ok, err, on_parsed}
 use Rattle.combinators.specs.Word.{starts_with, same_text}
@@ -17,15 +17,15 @@ use Rattle.selectors.specs.Outcome.{Outcome, reads, fails, panics, on_outcome, b
 
 -- `parse_class`, `parse_hash`
 unfoldable pub class_of : List ℕ → Outcome Component
-class_of t = pick (is (get_or t 0 0) ascii.full_stop) (parsed 1 (ident_of (drop 1 t)) class) fails
+class_of t = pick (is (get_or t 0 0) (ascii ".")) (parsed 1 (ident_of (drop 1 t)) class) fails
 
 unfoldable pub hash_of : List ℕ → Outcome Component
-hash_of t = pick (is (get_or t 0 0) ascii.number_sign) (parsed 1 (identstring_of (drop 1 t)) hash) fails
+hash_of t = pick (is (get_or t 0 0) (ascii "#")) (parsed 1 (identstring_of (drop 1 t)) hash) fails
 
 -- `parse_attr`. Behind `=`, at j: a quoted string and `]`, or else a name and `]`. "`[name=` at the end of the text now reads .. as any unreadable
 -- attribute selector does" (S-6), where the crate's reader of strings panics.
 unfoldable pub closed : List ℕ → ℕ → Component → Outcome Component
-closed t j c = pick (is (get_or t j 0) ascii.right_square_bracket) (reads (j + 1) c) fails
+closed t j c = pick (is (get_or t j 0) (ascii "]")) (reads (j + 1) c) fails
 
 -- `parse_quoted_string`: a string that is not a bad one
 unfoldable pub quoted_from : ℕ → Token → Parsed (List ℕ)
@@ -42,17 +42,17 @@ value_of t j name =
 
 unfoldable pub attr_of : List ℕ → Outcome Component
 attr_of t =
-    pick (is (get_or t 0 0) ascii.left_square_bracket)
+    pick (is (get_or t 0 0) (ascii "["))
     (on_parsed (ident_of (drop 1 t))
-    (λ n name. or_else (closed t (1 + n) (attribute name)) (pick (is (get_or t (1 + n) 0) ascii.equals_sign) (value_of t (2 + n) name) fails)) fails)
+    (λ n name. or_else (closed t (1 + n) (attribute name)) (pick (is (get_or t (1 + n) 0) (ascii "=")) (value_of t (2 + n) name) fails)) fails)
     fails
 
 -- ---- `parse_nth_child_args`
 unfoldable pub is_minus : List ℕ → ℕ → Bool
-is_minus t i = is (get_or t i 0) ascii.hyphen_minus
+is_minus t i = is (get_or t i 0) (ascii "-")
 
 unfoldable pub is_sign : List ℕ → ℕ → Bool
-is_sign t i = or (is_minus t i) (is (get_or t i 0) ascii.plus_sign)
+is_sign t i = or (is_minus t i) (is (get_or t i 0) (ascii "+"))
 
 -- a number with its sign
 unfoldable pub signed : Bool → ℕ → ℤ
@@ -78,7 +78,7 @@ both_of t =
     let j = i + n + 1 in
     let p = j + skip_whitespace (drop j t) in
     let m = digits (drop (p + 1) t) in
-    pick (and (is (get_or t (i + n) 0) ascii.small_n) (and (is_sign t p) (leb 1 m)))
+    pick (and (is (get_or t (i + n) 0) (ascii "n")) (and (is_sign t p) (leb 1 m)))
     (converted t i n (is_minus t 0) (λ a. converted t (p + 1) m (is_minus t p) (λ b. reads (p + 1 + m) (nth a b))))
     fails
 
@@ -87,7 +87,7 @@ unfoldable pub just_a : List ℕ → Outcome Component
 just_a t =
     let i = sign t in
     let n = digits (drop i t) in
-    pick (is (get_or t (i + n) 0) ascii.small_n) (converted t i n (is_minus t 0) (λ a. reads (i + n + 1) (nth a (pos 0)))) fails
+    pick (is (get_or t (i + n) 0) (ascii "n")) (converted t i n (is_minus t 0) (λ a. reads (i + n + 1) (nth a (pos 0)))) fails
 
 -- a sign or none, digits
 unfoldable pub just_b : List ℕ → Outcome Component
@@ -107,16 +107,16 @@ nth_of t = or_else (worded t (text "even") (pos 2) (pos 0)) (or_else (worded t (
 unfoldable pub nth_args_of : List ℕ → Outcome Component
 nth_args_of t =
     let w = 1 + skip_whitespace (drop 1 t) in
-    pick (is (get_or t 0 0) ascii.left_parenthesis)
+    pick (is (get_or t 0 0) (ascii "("))
     (on_outcome (nth_of (drop w t))
     (λ n x. let e = w + n + skip_whitespace (drop (w + n) t) in
-    pick (is (get_or t e 0) ascii.right_parenthesis) (reads (e + 1) x) fails) fails (λ p. panics (w + p)))
+    pick (is (get_or t e 0) (ascii ")")) (reads (e + 1) x) fails) fails (λ p. panics (w + p)))
     fails
 
 -- `parse_pseudo_class`: `nth-child` alone
 unfoldable pub pseudo_class_of : List ℕ → Outcome Component
 pseudo_class_of t =
-    pick (is (get_or t 0 0) ascii.colon)
+    pick (is (get_or t 0 0) (ascii ":"))
     (on_parsed (ident_of (drop 1 t)) (λ n name. pick (same_text name (text "nth-child")) (behind (1 + n) (nth_args_of (drop (1 + n) t)) (λ c. c)) fails) fails)
     fails
 
@@ -133,8 +133,8 @@ blank_of t = pick (leb 1 (skip_whitespace t)) (reads (skip_whitespace t) descend
 -- `parse_simple_selector_component`
 unfoldable pub component_of : List ℕ → Outcome Component
 component_of t =
-    or_else (marked t ascii.greater_than_sign child)
-    (or_else (marked t ascii.asterisk star)
+    or_else (marked t (ascii ">") child)
+    (or_else (marked t (ascii "*") star)
     (or_else (blank_of t)
     (or_else (class_of t)
     (or_else (attr_of t)

@@ -1,6 +1,6 @@
 -- Lists of selectors, parted by ',' and white space or none, as `parse_ruleset` of src/css/parser.rs reads them.
 use Rattle.std.specs.Prelude.{ℕ, zero, suc, ◌+◌, List, [], ◌∷◌, length, get_or, drop}
-use Rattle.combinators.specs.Ascii as ascii
+use Prim.Native.Char.{code as ascii}
 use Rattle.combinators.specs.Choice.{pick, is}
 use Rattle.lexer.specs.Whitespace.{skip_whitespace}
 use Rattle.syntax.specs.Selector.{Selector}
@@ -12,7 +12,7 @@ unfoldable pub more_selectors : ℕ → List ℕ → Outcome (List Selector)
 more_selectors zero t = reads 0 []
 more_selectors (suc l) t =
     let w = 1 + skip_whitespace (drop 1 t) in
-    pick (is (get_or t 0 0) ascii.comma)
+    pick (is (get_or t 0 0) (ascii ","))
     (on_outcome (selector_of (drop w t)) (λ n s. behind (w + n) (more_selectors l (drop (w + n) t)) (λ ss. s ∷ ss)) (reads 0 []) (λ p. panics (w + p)))
     (reads 0 [])
 

@@ -9,7 +9,7 @@ use lib.Seq.{sets}
 use Rattle.selectors.proofs.ReadingLaws as readings
 use Rattle.selectors.specs.declared.readings.Read.{Read}
 use Rattle.std.specs.Prelude.{Some, None, Ok, Option, Result, Err}
-use Rattle.combinators.specs.Ascii as ascii
+use Prim.Native.Char.{code as ascii}
 use Rattle.combinators.specs.Choice.{pick, is}
 use Rattle.combinators.specs.Parsed.{on_parsed}
 use Rattle.combinators.specs.Store.{wiped}
@@ -170,7 +170,7 @@ module _ (s tokens brackets store : List ℕ) (fill : ℕ) (o : WorkRoom s token
   abbrev Told-end : ℕ → List ℕ → Option Read → List ℕ → List ℕ → List ℕ → Type 0
   Told-end n z' r x b z = (Ok r ≡ reading length (rule_rows fill) rule_texts (statement_end s n)) × ((x ≡ tokens) × ((b ≡ brackets) × (z ≡ z')))
 
-  module _ {a : ℕ} (ea : a ≡ skip_whitespace s) {t : Bool} (et : t ≡ is (get_or s a 0) ascii.commercial_at) where
+  module _ {a : ℕ} (ea : a ≡ skip_whitespace s) {t : Bool} (et : t ≡ is (get_or s a 0) (ascii "@")) where
     -- without `@` nothing is read
     pub at-missing : t ≡ false → Told None tokens brackets store
     unfolding at_rule_of reading on_outcome pick
@@ -179,7 +179,7 @@ module _ (s tokens brackets store : List ℕ) (fill : ℕ) (o : WorkRoom s token
     module _ (f : t ≡ true) where
       -- '@' is within the text
       pub at_there : a < length s
-      at_there = byte-there s a ascii.commercial_at (omega arith) (sym et ∙ f)
+      at_there = byte-there s a (ascii "@") (omega arith) (sym et ∙ f)
 
       -- a name from i on
       module _ {i : ℕ} (ei : i ≡ a + 1 + skip_whitespace (drop (a + 1) s)) (hi : i ≤ length s) where

@@ -10,7 +10,7 @@ use borrow.Author.Tests.{leb-true}
 use lib.Dec.{leb}
 use lib.ListN.{length, get_or, drop, length-drop, drop_of_length-le}
 use lib.Seq.{get_or-drop, drop-drop}
-use Rattle.combinators.specs.Ascii as ascii
+use Prim.Native.Char.{code as ascii}
 use Rattle.combinators.specs.Choice.{pick, or, and, is, within}
 use Rattle.combinators.specs.Parsed as parser
 use Rattle.combinators.specs.Parsed.{Parsed, ok, err, on_parsed}
@@ -43,16 +43,16 @@ value_before t j name = pick (leb (length t) j) (panics (j - 1)) (value_of t j n
 -- an attribute in brackets, by `parse_attr` as it was
 unfoldable pub attr_before : List ℕ → Outcome Component
 attr_before t =
-    pick (is (get_or t 0 0) ascii.left_square_bracket)
+    pick (is (get_or t 0 0) (ascii "["))
     (on_parsed (ident_of (drop 1 t))
-    (λ n name. or_else (closed t (1 + n) (attribute name)) (pick (is (get_or t (1 + n) 0) ascii.equals_sign) (value_before t (2 + n) name) fails)) fails)
+    (λ n name. or_else (closed t (1 + n) (attribute name)) (pick (is (get_or t (1 + n) 0) (ascii "=")) (value_before t (2 + n) name) fails)) fails)
     fails
 
 -- a component, where its alternative of an attribute comes to a
 unfoldable pub component_with : Outcome Component → List ℕ → Outcome Component
 component_with a t =
-    or_else (marked t ascii.greater_than_sign child)
-    (or_else (marked t ascii.asterisk star)
+    or_else (marked t (ascii ">") child)
+    (or_else (marked t (ascii "*") star)
     (or_else (blank_of t) (or_else (class_of t) (or_else a (or_else (hash_of t) (or_else (parsed 0 (ident_of t) element) (pseudo_class_of t)))))))
 
 -- a component, by `parse_simple_selector_component` as it was
@@ -83,7 +83,7 @@ unfoldable pub more_before : ℕ → List ℕ → Outcome (List Selector)
 more_before zero t = reads 0 []
 more_before (suc l) t =
     let w = 1 + skip_whitespace (drop 1 t) in
-    pick (is (get_or t 0 0) ascii.comma)
+    pick (is (get_or t 0 0) (ascii ","))
     (on_outcome (selector_before (drop w t)) (λ n s. behind (w + n) (more_before l (drop (w + n) t)) (λ ss. s ∷ ss)) (reads 0 []) (λ p. panics (w + p)))
     (reads 0 [])
 
@@ -125,7 +125,7 @@ test-before = refl
 -- it panicked at p, the last byte of the text, which is `=`; of what it comes to now holds S
 pub record Cut {A : Type 0} (S : Outcome A → Type 0) (t : List ℕ) (p : ℕ) (now : Outcome A) : Type 0 where
   pub last : p + 1 ≡ length t
-  pub equals : get_or t p 0 ≡ ascii.equals_sign
+  pub equals : get_or t p 0 ≡ ascii "="
   pub goes_on : S now
 
 -- the same; where it panicked, at a digit, or it was cut
@@ -192,7 +192,7 @@ on-compared S t err f f' h = refl
 
 -- ---- attributes and components: where one was cut, none is read now, and the text begins with `[`
 abbrev NoneRead : {A : Type 0} → List ℕ → Outcome A → Type 0
-NoneRead t o = (o ≡ fails) × (get_or t 0 0 ≡ ascii.left_square_bracket)
+NoneRead t o = (o ≡ fails) × (get_or t 0 0 ≡ ascii "[")
 
 -- at the end of the text there is no value
 no_value : (t : List ℕ) (j : ℕ) (name : List ℕ) → drop j t ≡ [] → value_of t j name ≡ fails
@@ -200,7 +200,7 @@ unfolding value_of quoted_of string_of is_quote ident_of name_of name_from dash 
 no_value t j name e = rw e
 
 -- a value: where the text ends behind its `=`, it was cut
-value-compared : (t : List ℕ) (j : ℕ) (name : List ℕ) → get_or t 0 0 ≡ ascii.left_square_bracket → get_or t (1 + j) 0 ≡ ascii.equals_sign → 1 + j < length t
+value-compared : (t : List ℕ) (j : ℕ) (name : List ℕ) → get_or t 0 0 ≡ ascii "[" → get_or t (1 + j) 0 ≡ ascii "=" → 1 + j < length t
     → Compared (NoneRead t) t (value_before t (2 + j) name) (value_of t (2 + j) name)
 unfolding value_before
 value-compared t j name b e l =
@@ -217,23 +217,23 @@ attr-compared t =
     (λ b. on-compared (NoneRead t) t (ident_of (drop 1 t)) _ _
     (λ n name. else-compared (λ _. ⊥) (NoneRead t) t _ _ _ _ (λ _ h. absurd h) (same (λ _. ⊥) t (closed t (1 + n) (attribute name)) (digit-closed t (1 + n) (attribute name)))
     (pick-compared (NoneRead t) t _ _ _ _ _
-    (λ e. value-compared t n name (is_true _ _ b) (is_true _ _ e) (byte-there t (1 + n) ascii.equals_sign (omega arith) e)) (λ _. refl))))
+    (λ e. value-compared t n name (is_true _ _ b) (is_true _ _ e) (byte-there t (1 + n) (ascii "=") (omega arith) e)) (λ _. refl))))
     (λ _. refl)
 
 -- `[` begins no component but an attribute
-bracket-alone : (l : List ℕ) (a : Outcome Component) → component_with a (ascii.left_square_bracket ∷ l) ≡ a
+bracket-alone : (l : List ℕ) (a : Outcome Component) → component_with a (ascii "[" ∷ l) ≡ a
 unfolding component_with marked blank_of class_of hash_of pseudo_class_of or_else parsed on_parsed ident_of name_of name_from dash nmstart_of folded_char ident_escape_of is_nmstart parser.behind skip_whitespace many took whitespace_item is_whitespace comment_of pick or and within is
 bracket-alone l (reads n c) = refl
 bracket-alone l fails = refl
 bracket-alone l (panics p) = refl
 
 -- so where a text begins with `[`
-bracket-first : (t : List ℕ) (a : Outcome Component) → is (get_or t 0 0) ascii.left_square_bracket ≡ true → component_with a t ≡ a
-bracket-first [] a e = let z : 0 ≡ ascii.left_square_bracket = is_true 0 _ e in absurd (omega arith)
-bracket-first (x ∷ l) a e = let q : x ≡ ascii.left_square_bracket = is_true x _ e in rw q (bracket-alone l a)
+bracket-first : (t : List ℕ) (a : Outcome Component) → is (get_or t 0 0) (ascii "[") ≡ true → component_with a t ≡ a
+bracket-first [] a e = let z : 0 ≡ ascii "[" = is_true 0 _ e in absurd (omega arith)
+bracket-first (x ∷ l) a e = let q : x ≡ ascii "[" = is_true x _ e in rw q (bracket-alone l a)
 
 -- elsewhere there is no attribute
-no-bracket : (t : List ℕ) → is (get_or t 0 0) ascii.left_square_bracket ≡ false → attr_before t ≡ attr_of t
+no-bracket : (t : List ℕ) → is (get_or t 0 0) (ascii "[") ≡ false → attr_before t ≡ attr_of t
 unfolding attr_before attr_of pick
 no-bracket t e = rw e
 
@@ -245,9 +245,9 @@ component-with t = refl
 -- a component reads as before; where it was cut, none is read now
 component-compared : (t : List ℕ) → Compared (NoneRead t) t (component_before t) (component_of t)
 unfolding component_before
-component-compared t = go (is (get_or t 0 0) ascii.left_square_bracket) refl
+component-compared t = go (is (get_or t 0 0) (ascii "[")) refl
   where
-    go : (b : Bool) → is (get_or t 0 0) ascii.left_square_bracket ≡ b → Compared (NoneRead t) t (component_with (attr_before t) t) (component_of t)
+    go : (b : Bool) → is (get_or t 0 0) (ascii "[") ≡ b → Compared (NoneRead t) t (component_with (attr_before t) t) (component_of t)
     go true e = rw (← component-with t, bracket-first t (attr_before t) e, bracket-first t (attr_of t) e) (attr-compared t)
     go false e = rw (no-bracket t e, component-with t) (same (NoneRead t) t (component_of t) (digit-component t))
 
@@ -255,7 +255,7 @@ component-compared t = go (is (get_or t 0 0) ascii.left_square_bracket) refl
 
 -- the byte before which it ends
 abbrev Opening : ℕ → Type 0
-Opening x = x ≡ ascii.left_square_bracket
+Opening x = x ≡ ascii "["
 
 -- it reads up to a byte that Q holds of
 abbrev ReadsTo : {A : Type 0} → (ℕ → Type 0) → List ℕ → Outcome A → Type 0
@@ -344,7 +344,7 @@ body-compared t =
 no-pseudo : (u : List ℕ) → Opening (get_or u 0 0) → pseudo_taken (pseudo_of u) ≡ 0
 unfolding pseudo_of pseudo_taken starts_with text utf8 pick and is
 no-pseudo [] e = refl
-no-pseudo (x ∷ u) e = let q : x ≡ ascii.left_square_bracket = e in rw q
+no-pseudo (x ∷ u) e = let q : x ≡ ascii "[" = e in rw q
 
 -- a selector of components that end at n
 abbrev selector_end : List ℕ → ℕ → List Component → Outcome Selector
@@ -367,7 +367,7 @@ selector-compared t =
 
 -- ---- lists of selectors: it ends before a `[`, or before the ',' that no selector follows
 abbrev Barring : ℕ → Type 0
-Barring x = (x ≡ ascii.left_square_bracket) ⊎ (x ≡ ascii.comma)
+Barring x = (x ≡ ascii "[") ⊎ (x ≡ ascii ",")
 
 -- what reads up to a `[` or a ',' behind k bytes does so in the whole text
 bar-behind : {A B : Type 0} (t : List ℕ) (k : ℕ) (f : A → B) (o : Outcome A) → ReadsTo Barring (drop k t) o → ReadsTo Barring t (behind k o f)
@@ -388,7 +388,7 @@ unfolding behind on_outcome
 last-reads l t k x b = rw (more-none l (drop k t) (first t k ∙ b)) (let e : k + 0 ≡ k = omega arith in subst (λ (i : ℕ). Barring (get_or t i 0)) (sym e) (inl b))
 
 -- what follows a ',' ends before a `[`, or before that ','
-more-reads : (l : ℕ) (t : List ℕ) (w : ℕ) → get_or t 0 0 ≡ ascii.comma → (o : Outcome Selector) → StopsAt Opening (drop w t) o
+more-reads : (l : ℕ) (t : List ℕ) (w : ℕ) → get_or t 0 0 ≡ ascii "," → (o : Outcome Selector) → StopsAt Opening (drop w t) o
     → ReadsTo Barring t (on_outcome o (λ n s. behind (w + n) (more_selectors l (drop (w + n) t)) (λ ss. s ∷ ss)) (reads 0 []) (λ p. panics (w + p)))
 unfolding on_outcome
 more-reads l t w e (reads n x) h = last-reads l t (w + n) x (sym (get_or-drop w t n 0) ∙ h)
@@ -431,11 +431,11 @@ Failing o = o ≡ fails
 no-white : (u : List ℕ) → Barring (get_or u 0 0) → skip_whitespace u ≡ 0
 unfolding skip_whitespace many took whitespace_item is_whitespace comment_of pick or and within is
 no-white [] h = refl
-no-white (x ∷ u) (inl e) = let q : x ≡ ascii.left_square_bracket = e in rw q
-no-white (x ∷ u) (inr e) = let q : x ≡ ascii.comma = e in rw q
+no-white (x ∷ u) (inl e) = let q : x ≡ ascii "[" = e in rw q
+no-white (x ∷ u) (inr e) = let q : x ≡ ascii "," = e in rw q
 
 -- and is no '{'
-no-brace : (x : ℕ) → Barring x → is x ascii.left_curly_bracket ≡ false
+no-brace : (x : ℕ) → Barring x → is x (ascii "{") ≡ false
 unfolding is
 no-brace x (inl e) = rw e
 no-brace x (inr e) = rw e
@@ -448,7 +448,7 @@ no-space t n h = omega (arith, no-white (drop n t) (subst Barring (sym (first t 
 -- and there is no block
 no_block : (t : List ℕ) (n : ℕ) → Barring (get_or t n 0) → block_of t n ≡ fails
 unfolding block_of
-no_block t n h = sym (pick-false _ _ _ _ (ap (λ (k : ℕ). is (get_or t k 0) ascii.left_curly_bracket) (no-space t n h) ∙ no-brace _ h) refl)
+no_block t n h = sym (pick-false _ _ _ _ (ap (λ (k : ℕ). is (get_or t k 0) (ascii "{")) (no-space t n h) ∙ no-brace _ h) refl)
 
 -- a block never panics
 digit-block : {B : Type 0} (t : List ℕ) (n : ℕ) (f : List Declaration → B) → AtDigit t (behind 0 (block_of t n) f)
@@ -479,14 +479,14 @@ rule-compared S S' t h c =
     then-compared S S' t w f f fails (λ p. w + p) (λ p. refl) (λ n ss. same S' t (f n ss) (digit-block t (w + n) (rule_at w ss))) refl h _ _ c
 
 -- '@' begins no selector
-at_first : (l : List ℕ) → (selectors_before (ascii.commercial_at ∷ l) ≡ reads 0 []) × (selectors_of (ascii.commercial_at ∷ l) ≡ reads 0 [])
+at_first : (l : List ℕ) → (selectors_before (ascii "@" ∷ l) ≡ reads 0 []) × (selectors_of (ascii "@" ∷ l) ≡ reads 0 [])
 unfolding selectors_before selector_before body_before components_before component_before component_with attr_before selectors_of selector_of body_of with_element_of without_element_of some_of components_from components_of component_of marked blank_of class_of attr_of hash_of pseudo_class_of on_outcome or_else parsed on_parsed ident_of name_of name_from dash nmstart_of folded_char ident_escape_of is_nmstart parser.behind skip_whitespace many took whitespace_item is_whitespace comment_of pick or and within is
 at_first l = (refl, refl)
 
 -- so where a text begins with it
-at_none : (u : List ℕ) → is (get_or u 0 0) ascii.commercial_at ≡ true → (selectors_before u ≡ reads 0 []) × (selectors_of u ≡ reads 0 [])
-at_none [] e = let z : 0 ≡ ascii.commercial_at = is_true 0 _ e in absurd (omega arith)
-at_none (x ∷ l) e = let q : x ≡ ascii.commercial_at = is_true x _ e in rw q (at_first l)
+at_none : (u : List ℕ) → is (get_or u 0 0) (ascii "@") ≡ true → (selectors_before u ≡ reads 0 []) × (selectors_of u ≡ reads 0 [])
+at_none [] e = let z : 0 ≡ ascii "@" = is_true 0 _ e in absurd (omega arith)
+at_none (x ∷ l) e = let q : x ≡ ascii "@" = is_true x _ e in rw q (at_first l)
 
 -- an at-rule never panics
 digit-at-rule : (t : List ℕ) → AtDigit t (at_rule_of t)
@@ -495,7 +495,7 @@ digit-at-rule t =
     pick-holds (AtDigit t) _ _ _ (λ _. on-holds (AtDigit t) _ _ _ (λ n name _. pick-holds (AtDigit t) _ _ _ (λ _. tt) (λ _. tt)) (λ _. tt)) (λ _. tt)
 
 -- without '@' there is none
-no-at-rule : (t : List ℕ) → is (get_or t (skip_whitespace t) 0) ascii.commercial_at ≡ false → at_rule_of t ≡ fails
+no-at-rule : (t : List ℕ) → is (get_or t (skip_whitespace t) 0) (ascii "@") ≡ false → at_rule_of t ≡ fails
 unfolding at_rule_of
 no-at-rule t e = sym (pick-false _ _ _ _ e refl)
 
@@ -512,12 +512,12 @@ failing-behind f o h = rw h
 -- a statement reads as before; where it was cut, none is read now
 statements-compared : (t : List ℕ) → Compared Failing t (statements_before t) (statements_of t)
 unfolding statements_before statements_of
-statements-compared t = go (is (get_or t (skip_whitespace t) 0) ascii.commercial_at) refl
+statements-compared t = go (is (get_or t (skip_whitespace t) 0) (ascii "@")) refl
   where
-    go : (b : Bool) → is (get_or t (skip_whitespace t) 0) ascii.commercial_at ≡ b
+    go : (b : Bool) → is (get_or t (skip_whitespace t) 0) (ascii "@") ≡ b
         → Compared Failing t (or_else (behind 0 (ruleset_before t) (λ r. r ∷ [])) (at_rule_of t)) (or_else (behind 0 (ruleset_of t) (λ r. r ∷ [])) (at_rule_of t))
     go true e =
-        let a = at_none (drop (skip_whitespace t) t) (ap (λ (x : ℕ). is x ascii.commercial_at) (first t (skip_whitespace t)) ∙ e) in
+        let a = at_none (drop (skip_whitespace t) t) (ap (λ (x : ℕ). is x (ascii "@")) (first t (skip_whitespace t)) ∙ e) in
         else-compared (λ _. ⊥) Failing t _ _ _ _ (λ _ h. absurd h)
         (behind-compared (λ _. ⊥) (λ _. ⊥) t 0 _ (λ _ h. h) _ _ (rule-compared (λ _. ⊥) (λ _. ⊥) t (λ _ h. h) (rw (a.0, a.1) refl)))
         (same Failing t (at_rule_of t) (digit-at-rule t))
@@ -566,7 +566,7 @@ pub same-rules : (s : List ℕ) (n : ℕ) (rs : List RuleSet) → sheet_before s
 same-rules s n rs e = subst (λ (o : Outcome (List RuleSet)). Compared Calm s o (sheet_of s)) e (sheet-compared s)
 
 -- `=` is no digit
-no_digit : (x : ℕ) → x ≡ ascii.equals_sign → is_digit x ≡ false
+no_digit : (x : ℕ) → x ≡ ascii "=" → is_digit x ≡ false
 unfolding is_digit within and
 no_digit x e = rw e
 
@@ -576,7 +576,7 @@ module _ (s : List ℕ) (p : ℕ) (e : sheet_before s ≡ panics p) where
   was = subst (λ (o : Outcome (List RuleSet)). Compared Calm s o (sheet_of s)) e (sheet-compared s)
 
   -- it panicked at a digit or at `=`
-  pub panicked-there : (is_digit (get_or s p 0) ≡ true) ⊎ (get_or s p 0 ≡ ascii.equals_sign)
+  pub panicked-there : (is_digit (get_or s p 0) ≡ true) ⊎ (get_or s p 0 ≡ ascii "=")
   panicked-there = ⊎_elim (λ h. inl h.1) (λ c. inr c.equals) was
 
   -- where it panicked at a digit, it panics at the same byte
@@ -584,7 +584,7 @@ module _ (s : List ℕ) (p : ℕ) (e : sheet_before s ≡ panics p) where
   same-refusal d = ⊎_elim (λ h. h.0) (λ c. never (sym (no_digit _ c.equals) ∙ d)) was
 
   -- where it panicked at `=`, that is the last byte, and it does not panic
-  pub now-calm : get_or s p 0 ≡ ascii.equals_sign → (p + 1 ≡ length s) × Calm (sheet_of s)
+  pub now-calm : get_or s p 0 ≡ ascii "=" → (p + 1 ≡ length s) × Calm (sheet_of s)
   now-calm q = ⊎_elim (λ h. never (sym (no_digit _ q) ∙ h.1)) (λ c. (c.last, c.goes_on)) was
 
 -- "Refusal 4 remains for nth-child digits alone": where reading panics there is a digit

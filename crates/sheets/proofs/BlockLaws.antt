@@ -7,7 +7,7 @@ use native.Mathlib.Omega.{arith}
 use lib.ListN.{length, get_or, drop, length-drop, length-map}
 use lib.Seq.{sets}
 use Rattle.std.specs.Prelude.{Option, Some, None, Ok}
-use Rattle.combinators.specs.Ascii as ascii
+use Prim.Native.Char.{code as ascii}
 use Rattle.combinators.specs.Choice.{pick, is}
 use Rattle.combinators.specs.Store.{wiped}
 use Rattle.combinators.proofs.Lists.{lent_from, rest, byte-there}
@@ -22,7 +22,7 @@ use Rattle.declarations.specs.declared.rules.RulesRead.{RulesRead}
 use Rattle.declarations.proofs.StyleAttribute.{bounded}
 use Rattle.declarations.proofs.LeastLengths.{semicolon-there}
 use Rattle.selectors.specs.Outcome.{reads, fails, on_outcome, behind}
-use Rattle.sheets.specs.Sheet.{spaced, before_end, block_of}
+use Rattle.sheets.specs.Sheet.{spaced, past_semicolon, before_end, block_of}
 use Rattle.selectors.specs.declared.readings.Read.{Read}
 use Rattle.sheets.specs.Rules.{block_at, BlockRoom}
 use Rattle.selectors.specs.Reading.{reading, written}
@@ -30,15 +30,15 @@ use Rattle.combinators.proofs.ZeroLaws.{zeros-back}
 use Rattle.selectors.proofs.ReadingLaws.{sized}
 
 -- ---- `parse_block`: the place behind a ';', if there is one, and behind white space
-module _ (s : List ℕ) (e : ℕ) (h : e ≤ length s) {t : Bool} (et : t ≡ is (get_or s e 0) ascii.semicolon) where
+module _ (s : List ℕ) (e : ℕ) (h : e ≤ length s) {t : Bool} (et : t ≡ is (get_or s e 0) (ascii ";")) where
   -- a ';' is passed, and the place behind it lies within the text
-  pub semicolon-past : t ≡ true → (e + 1 ≡ pick (is (get_or s e 0) ascii.semicolon) (e + 1) e) × (e + 1 ≤ length s)
-  unfolding pick
+  pub semicolon-past : t ≡ true → (e + 1 ≡ past_semicolon s e) × (e + 1 ≤ length s)
+  unfolding past_semicolon pick
   semicolon-past f = (rw (← et, f), omega (arith, semicolon-there s e et f))
 
   -- none, so the same place
-  pub semicolon-none : t ≡ false → (e ≡ pick (is (get_or s e 0) ascii.semicolon) (e + 1) e) × (e ≤ length s)
-  unfolding pick
+  pub semicolon-none : t ≡ false → (e ≡ past_semicolon s e) × (e ≤ length s)
+  unfolding past_semicolon pick
   semicolon-none f = (rw (← et, f), h)
 
 -- what a choice between a place and the next says
@@ -47,7 +47,7 @@ unfolding pick
 next-or-same true e = omega arith
 next-or-same false e = omega arith
 
-module _ (s : List ℕ) (n : ℕ) {e p f : ℕ} (ee : e ≡ n + skip_whitespace (drop n s)) (ep : p ≡ pick (is (get_or s e 0) ascii.semicolon) (e + 1) e)
+module _ (s : List ℕ) (n : ℕ) {e p f : ℕ} (ee : e ≡ n + skip_whitespace (drop n s)) (ep : p ≡ past_semicolon s e)
     (ef : f ≡ p + skip_whitespace (drop p s)) where
   -- the three steps are the definition
   pub end_is : f ≡ before_end s n
@@ -56,7 +56,8 @@ module _ (s : List ℕ) (n : ℕ) {e p f : ℕ} (ee : e ≡ n + skip_whitespace 
 
   -- white space and a semicolon lead forward
   pub end-behind : n ≤ f
-  end-behind = omega (arith, ee, ef, ep, next-or-same (is (get_or s e 0) ascii.semicolon) e)
+  unfolding past_semicolon
+  end-behind = omega (arith, ee, ef, ep, next-or-same (is (get_or s e 0) (ascii ";")) e)
 
 -- ---- declarations that start elsewhere
 -- a name is kept where names are
@@ -96,7 +97,7 @@ module _ (s : List ℕ) (n at : ℕ) (rules : List ℕ) (place : ℕ) (tokens br
   unfolding block_at behind reading written on_outcome
   failed e ey ex eb ez = (rw e, (ey ∙ rw e, (ex, (eb, ez ∙ rw e))))
 
-  module _ {w : ℕ} (ew : w ≡ n + skip_whitespace (drop n s)) {t : Bool} (et : t ≡ is (get_or s w 0) ascii.left_curly_bracket) where
+  module _ {w : ℕ} (ew : w ≡ n + skip_whitespace (drop n s)) {t : Bool} (et : t ≡ is (get_or s w 0) (ascii "{")) where
     -- without an opening brace there is no block
     pub brace-missing : t ≡ false → Blocked None rules tokens brackets store
     unfolding block_of spaced pick
@@ -105,7 +106,7 @@ module _ (s : List ℕ) (n at : ℕ) (rules : List ℕ) (place : ℕ) (tokens br
     module _ (f : t ≡ true) where
       -- it is within the text
       pub brace-there : w < length s
-      brace-there = byte-there s w ascii.left_curly_bracket (omega arith) (sym et ∙ f)
+      brace-there = byte-there s w (ascii "{") (omega arith) (sym et ∙ f)
 
       -- declarations from d on
       module _ {d : ℕ} (ed : d ≡ w + 1 + skip_whitespace (drop (w + 1) s)) (hd : d ≤ length s) where
@@ -179,7 +180,7 @@ module _ (s : List ℕ) (n at : ℕ) (rules : List ℕ) (place : ℕ) (tokens br
           numbers_fit = omega (arith, count-le, taken-within, o.start-bits)
 
           -- behind them, at g, '}' or not
-          module _ {g : ℕ} (eg : g ≡ before_end s (d + r.taken)) {u : Bool} (eu : u ≡ is (get_or s g 0) ascii.right_curly_bracket) where
+          module _ {g : ℕ} (eg : g ≡ before_end s (d + r.taken)) {u : Bool} (eu : u ≡ is (get_or s g 0) (ascii "}")) where
             -- the place where '}' should stand
             end-at : g ≡ before_end s (d + found.taken)
             end-at = eg ∙ ap (λ k. before_end s (d + k)) taken_is
@@ -197,7 +198,7 @@ module _ (s : List ℕ) (n at : ℕ) (rules : List ℕ) (place : ℕ) (tokens br
             module _ (v : u ≡ true) where
               -- it is within the text
               pub end-there : g < length s
-              end-there = byte-there s g ascii.right_curly_bracket (omega arith) (sym eu ∙ v)
+              end-there = byte-there s g (ascii "}") (omega arith) (sym eu ∙ v)
 
               module _ {i : ℕ} (ei : i ≡ g + 1 + skip_whitespace (drop (g + 1) s)) where
                 -- with both braces the block reads as its declarations

@@ -7,7 +7,7 @@ use Prim.Native.Nat.{ℕ, zero, suc, ◌+◌, ◌*◌, ◌≤◌, ◌<◌}
 use native.Mathlib.Nat.{zero-add}
 use native.Mathlib.Omega.{arith}
 use lib.ListN.{length, get_or, drop, length-append, length-drop, length-map}
-use Rattle.combinators.specs.Ascii as ascii
+use Prim.Native.Char.{code as ascii}
 use Rattle.combinators.specs.Choice.{is}
 use Rattle.combinators.specs.All.{All}
 use Rattle.combinators.proofs.Lists.{byte-there}
@@ -35,7 +35,7 @@ use Rattle.declarations.proofs.StyleAttribute.{bounded}
 use Rattle.selectors.specs.Outcome.{reads, fails}
 use Rattle.sheets.specs.Rules.{block_at, rule_width}
 use Rattle.selectors.specs.SelectorList.{selectors_of}
-use Rattle.sheets.specs.Sheet.{spaced, before_end, block_of, ruleset_of, statement_end, at_rule_of, statements_of, moved_by, moved_to, sheet_from, sheet_of}
+use Rattle.sheets.specs.Sheet.{spaced, past_semicolon, before_end, block_of, ruleset_of, statement_end, at_rule_of, statements_of, moved_by, moved_to, sheet_from, sheet_of}
 use Rattle.selectors.proofs.AllLaws.{sizes-append, sizes-map, texts-map, Where, where-read, where-behind, where-then, where-else}
 use Rattle.sheets.proofs.BlockLaws.{named-same, end-behind}
 use Rattle.selectors.proofs.ComponentKeeps.{Small}
@@ -95,7 +95,7 @@ module _ (s : List ℕ) (n : ℕ) where
 
   -- it stands behind the declarations
   closes-behind : begins + found.taken ≤ closes
-  unfolding spaced before_end
+  unfolding spaced before_end past_semicolon
   closes-behind = end-behind s (begins + found.taken) refl refl refl
 
   -- where both braces are there
@@ -118,9 +118,9 @@ module _ (s : List ℕ) (n : ℕ) where
   pub block-keeps : Where (length s) (BlockKeeps s n) (block_of s n)
   unfolding block_of
   block-keeps =
-      pick-holds (Where (length s) (BlockKeeps s n)) (is (get_or s opens 0) ascii.left_curly_bracket) _ _
-      (λ e. pick-holds (Where (length s) (BlockKeeps s n)) (is (get_or s closes 0) ascii.right_curly_bracket) _ _
-      (λ g. braced (byte-there s opens ascii.left_curly_bracket (omega arith) e) (byte-there s closes ascii.right_curly_bracket (omega arith) g)) (λ _. tt))
+      pick-holds (Where (length s) (BlockKeeps s n)) (is (get_or s opens 0) (ascii "{")) _ _
+      (λ e. pick-holds (Where (length s) (BlockKeeps s n)) (is (get_or s closes 0) (ascii "}")) _ _
+      (λ g. braced (byte-there s opens (ascii "{") (omega arith) e) (byte-there s closes (ascii "}") (omega arith) g)) (λ _. tt))
       (λ _. tt)
 
 -- by where it starts in the whole text
@@ -206,7 +206,7 @@ at-rule-keeps s =
     let a = skip_whitespace s in
     let i = a + 1 + skip_whitespace (drop (a + 1) s) in
     pick-holds (Where (length s) (RulesKeep s)) _ _ _
-    (λ e. let h : i ≤ length s = skip-from-le s (a + 1) (omega (arith, byte-there s a ascii.commercial_at (omega arith) e)) in
+    (λ e. let h : i ≤ length s = skip-from-le s (a + 1) (omega (arith, byte-there s a (ascii "@") (omega arith) e)) in
     on-holds (Where (length s) (RulesKeep s)) (ident_of (drop i s)) _ _
     (λ n name g. let f = ident-fits (drop i s) n name g in end-keeps s (i + n) (omega arith) (omega (arith, f.within_text, length-drop i s))) (λ _. tt))
     (λ _. tt)

@@ -5,7 +5,7 @@ use mathlib.Core.List.{List, [], map}
 use Prim.Native.Nat.{ℕ, zero, suc, ◌+◌, ◌≤◌}
 use native.Mathlib.Omega.{arith}
 use lib.ListN.{length, get_or, drop, length-drop}
-use Rattle.combinators.specs.Ascii as ascii
+use Prim.Native.Char.{code as ascii}
 use Rattle.combinators.specs.Choice.{is}
 use Rattle.combinators.specs.All.{All}
 use Rattle.combinators.specs.Parsed.{Parsed, ok, err}
@@ -60,8 +60,8 @@ unfolding more_rules starts_at
 more-start zero s at = tt
 more-start (suc l) s at =
     let w = 1 + skip_whitespace (drop 1 s) in
-    pick-holds P (is (get_or s 0 0) ascii.semicolon) _ _
-    (λ t. let h : w ≤ length s = omega (arith, byte-there s 0 ascii.semicolon (omega arith) t, skip-le (drop 1 s), length-drop 1 s) in
+    pick-holds P (is (get_or s 0 0) (ascii ";")) _ _
+    (λ t. let h : w ≤ length s = omega (arith, byte-there s 0 (ascii ";") (omega arith) t, skip-le (drop 1 s), length-drop 1 s) in
     on-holds P (declaration_of (drop w s)) _ _
     (λ n d e. let k = length-drop w s in
     let b = (takes false (drop w s) n d e).within in
@@ -101,8 +101,8 @@ unfolding block_of spaced
 block-starts s n =
     let o = spaced s n in
     let b = spaced s (o + 1) in
-    pick-holds (Where (length s) (λ (_ : ℕ) ds. StartWithin (length s) ds)) (is (get_or s o 0) ascii.left_curly_bracket) _ _
-    (λ e. let h : b ≤ length s = skip-from-le s (o + 1) (omega (arith, byte-there s o ascii.left_curly_bracket (omega arith) e)) in
+    pick-holds (Where (length s) (λ (_ : ℕ) ds. StartWithin (length s) ds)) (is (get_or s o 0) (ascii "{")) _ _
+    (λ e. let h : b ≤ length s = skip-from-le s (o + 1) (omega (arith, byte-there s o (ascii "{") (omega arith) e)) in
     pick-holds (Where (length s) (λ (_ : ℕ) ds. StartWithin (length s) ds)) _ _ _
     (λ _. moved-start b (length (drop b s)) (length s) (omega (arith, length-drop b s)) (declarations_of (drop b s)).declarations (declarations-start (drop b s)))
     (λ _. tt))

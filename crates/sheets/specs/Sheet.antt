@@ -1,6 +1,6 @@
 -- Sheets: `parse_ruleset`, `parse_at_rule`, `parse_statement` and `parse_stylesheet` of src/css/parser.rs.
 use Rattle.std.specs.Prelude.{ℕ, zero, suc, ◌+◌, true, List, [], ◌∷◌, ◌++◌, map, length, get_or, drop}
-use Rattle.combinators.specs.Ascii as ascii
+use Prim.Native.Char.{code as ascii}
 use Rattle.combinators.specs.Choice.{pick, is}
 use Rattle.combinators.specs.Parsed.{on_parsed}
 use Rattle.lexer.specs.Name.{ident_of}
@@ -18,11 +18,13 @@ spaced t i = i + skip_whitespace (drop i t)
 
 -- ---- `parse_ruleset`. Behind n bytes: '{', declarations, ';' or none, '}', with white space or none between them and behind
 
+-- the place behind a ';' at e, or e where there is none
+unfoldable pub past_semicolon : List ℕ → ℕ → ℕ
+past_semicolon t e = pick (is (get_or t e 0) (ascii ";")) (e + 1) e
+
 -- where '}' should stand behind declarations that end at n
 unfoldable pub before_end : List ℕ → ℕ → ℕ
-before_end t n =
-    let e = spaced t n in
-    spaced t (pick (is (get_or t e 0) ascii.semicolon) (e + 1) e)
+before_end t n = spaced t (past_semicolon t (spaced t n))
 
 unfoldable pub block_of : List ℕ → ℕ → Outcome (List Declaration)
 block_of t n =
@@ -30,8 +32,8 @@ block_of t n =
     let d = spaced t (o + 1) in
     let r = declarations_of (drop d t) in
     let f = before_end t (d + r.taken) in
-    pick (is (get_or t o 0) ascii.left_curly_bracket)
-    (pick (is (get_or t f 0) ascii.right_curly_bracket) (reads (spaced t (f + 1)) (map (starts_at d) r.declarations)) fails)
+    pick (is (get_or t o 0) (ascii "{"))
+    (pick (is (get_or t f 0) (ascii "}")) (reads (spaced t (f + 1)) (map (starts_at d) r.declarations)) fails)
     fails
 
 unfoldable pub ruleset_of : List ℕ → Outcome RuleSet
@@ -50,7 +52,7 @@ unfoldable pub at_rule_of : List ℕ → Outcome (List RuleSet)
 at_rule_of t =
     let a = skip_whitespace t in
     let i = spaced t (a + 1) in
-    pick (is (get_or t a 0) ascii.commercial_at) (on_parsed (ident_of (drop i t)) (λ n name. statement_end t (i + n)) fails) fails
+    pick (is (get_or t a 0) (ascii "@")) (on_parsed (ident_of (drop i t)) (λ n name. statement_end t (i + n)) fails) fails
 
 -- `parse_statement`: a rule, or an at-rule, which says nothing
 unfoldable pub statements_of : List ℕ → Outcome (List RuleSet)

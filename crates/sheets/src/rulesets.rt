@@ -1,15 +1,13 @@
 // Rules: `parse_ruleset`. The row of a rule goes to the stores' rules from `place` on, its texts to their texts from `fill` on. All stores are zero where
 // something may be written, and stay so where nothing is read. `at`, `place` and `fill` stand beside the text and the stores: they go on from one part of a rule
 // to the next.
-ghost use Rattle.std.specs.Prelude.{◌≡◌, ◌+◌, ◌≤◌, Ok, length, get_or};
+ghost use Rattle.std.specs.Prelude.{◌≡◌, ◌+◌, ◌≤◌, Ok, length};
 ghost use Rattle.std.proofs.lemmas.List.Edits.{sets};
-ghost use Rattle.combinators.specs.Ascii.{semicolon};
-ghost use Rattle.combinators.specs.Choice.{pick, is};
 ghost use Rattle.combinators.specs.Lent.{SameStores, SameWork, OfStores};
 ghost use Rattle.syntax.specs.Layout.{declaration_rows, declaration_texts};
 ghost use Rattle.syntax.specs.RuleLayout.{rule_row, rule_text};
 ghost use Rattle.selectors.specs.Outcome.{behind};
-ghost use Rattle.sheets.specs.Sheet.{before_end, ruleset_of, moved_by};
+ghost use Rattle.sheets.specs.Sheet.{past_semicolon, before_end, ruleset_of, moved_by};
 ghost use Rattle.sheets.specs.Rules.{block_at, BlockRoom, RuleRoom};
 ghost use Rattle.selectors.specs.Reading.{reading, written};
 
@@ -25,7 +23,7 @@ use syntax::writers::put_rule_head;
 // The place behind a ';' at `e`, or `e` where there is none.
 fn past_semicolon(s: &[u8], e: usize) -> usize
     requires { e ≤ length s.now }
-    ensures value { result ≡ pick (is (get_or s.now e 0) semicolon) (e + 1) e }
+    ensures value { result ≡ past_semicolon s.now e }
     ensures upper_bound { result ≤ length s.now }
 {
     if byte_is(s, e, b';') { e + 1 } else { e }

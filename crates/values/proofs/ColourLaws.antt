@@ -10,7 +10,7 @@ use borrow.Author.Tests.{le-leb, lt-leb, lt-ltb, leb-true, ltb-true}
 use lib.Dec.{leb, ltb}
 use lib.ListN.{length, get_or, take, drop, drop_of_length-le}
 use lib.Seq.{drop-cons}
-use Rattle.combinators.specs.Ascii.{plus_sign, digit_zero, digit_nine}
+use Prim.Native.Char.{code as ascii}
 use Rattle.combinators.specs.Choice.{or, and, is}
 use Rattle.combinators.proofs.Rules.{never, pick_true, pick-false, pick-holds, is-yes, is-no, and-gives, and-gives-false, and_left, and_both, and-true, or_left, same_test, within-true, told}
 use Rattle.lexer.specs.Name.{is_hex_digit, hex_digit}
@@ -105,7 +105,7 @@ letter-worth x e h =
 -- a decimal digit is worth 9 at most
 digit-worth : (x : ℕ) → is_digit x ≡ true → hex_digit x < 10
 unfolding is_digit hex_digit
-digit-worth x e = pick-holds (λ (y : ℕ). y < 10) _ _ _ (λ t. omega (arith, within-true x digit_zero digit_nine t)) (λ f. never (sym f ∙ e))
+digit-worth x e = pick-holds (λ (y : ℕ). y < 10) _ _ _ (λ t. omega (arith, within-true x (ascii "0") (ascii "9") t)) (λ f. never (sym f ∙ e))
 
 -- a decimal digit is a hex digit
 digit-hex : (x : ℕ) → is_digit x ≡ true → is_hex_digit x ≡ true
@@ -242,17 +242,17 @@ module _ (v base : ℕ) (h : v ≤ 0xffffffff) (l : base ≤ 0xffffffff) where
   product-fits = let m : v * base ≤ v * 0xffffffff = mul-le-mul_left v l in omega arith
 
 -- ---- a '+' or none
-module _ (s : List ℕ) (r : Bool) (er : r ≡ is (get_or s 0 0) plus_sign) where
+module _ (s : List ℕ) (r : Bool) (er : r ≡ is (get_or s 0 0) (ascii "+")) where
   -- a text without one is whole
   pub no_plus : r ≡ false → s ≡ without_plus s
   unfolding without_plus
   no_plus e = ap (λ n. drop n s) (pick-false 0 _ _ _ (told _ _ _ er e) refl)
 
 -- the code's test of the first byte
-plus-told : (s : List ℕ) → pointwise eqb (take 1 s) (plus_sign ∷ []) ≡ is (get_or s 0 0) plus_sign
+plus-told : (s : List ℕ) → pointwise eqb (take 1 s) (ascii "+" ∷ []) ≡ is (get_or s 0 0) (ascii "+")
 unfolding is
 plus-told [] = refl
-plus-told (x ∷ s) = go (eqb x plus_sign)
+plus-told (x ∷ s) = go (eqb x (ascii "+"))
   where
     go : (b : Bool) → (b && true) ≡ b
     go true = refl
@@ -260,8 +260,8 @@ plus-told (x ∷ s) = go (eqb x plus_sign)
 
 -- what is left where a '+' is stripped, or the whole
 pub plus-stripped : (s : Bor (List ℕ)) (o : Option (Bor (List ℕ)))
-    → MatchOption o (pointwise eqb (take 1 s.now) (plus_sign ∷ []) ≡ false)
-    (λ x. (pointwise eqb (take 1 s.now) (plus_sign ∷ []) ≡ true) × (x.now ≡ drop 1 s.now) × (length x.now + 1 ≡ length s.now))
+    → MatchOption o (pointwise eqb (take 1 s.now) (ascii "+" ∷ []) ≡ false)
+    (λ x. (pointwise eqb (take 1 s.now) (ascii "+" ∷ []) ≡ true) × (x.now ≡ drop 1 s.now) × (length x.now + 1 ≡ length s.now))
     → (unwrap_or o s).now ≡ without_plus s.now
 unfolding without_plus
 plus-stripped s None h = no_plus s.now _ refl (sym (plus-told s.now) ∙ h)

@@ -5,7 +5,7 @@ use mathlib.Core.List.{List, [], ◌∷◌}
 use Prim.Native.Nat.{ℕ, ◌+◌, ◌*◌, ◌/◌, ◌%◌, ◌≤◌, ◌<◌}
 use native.Mathlib.Omega.{arith}
 use lib.ListN.{length}
-use Rattle.combinators.specs.Ascii.{plus_sign}
+use Prim.Native.Char.{code as ascii}
 use Rattle.combinators.specs.Choice as choice
 use Rattle.combinators.specs.Choice.{pick, is}
 use Rattle.combinators.specs.Word.{same_text}
@@ -23,12 +23,12 @@ use Rattle.values.proofs.ColourLaws.{number_read}
 
 -- ---- the hexadecimal notation
 -- a hex digit is no '+'
-hex-no-plus : (x : ℕ) → is_hex_digit x ≡ true → is x plus_sign ≡ false
-hex-no-plus x h = is-no x plus_sign (λ e. let p : is_hex_digit plus_sign ≡ false = unfold is_hex_digit choice.or choice.and choice.within in refl in never (sym p ∙ ap is_hex_digit (sym e) ∙ h))
+hex-no-plus : (x : ℕ) → is_hex_digit x ≡ true → is x (ascii "+") ≡ false
+hex-no-plus x h = is-no x (ascii "+") (λ e. let p : is_hex_digit (ascii "+") ≡ false = unfold is_hex_digit choice.or choice.and choice.within in refl in never (sym p ∙ ap is_hex_digit (sym e) ∙ h))
 
 -- nor is a decimal digit
-digit-no-plus : (x : ℕ) → is_digit x ≡ true → is x plus_sign ≡ false
-digit-no-plus x h = is-no x plus_sign (λ e. let p : is_digit plus_sign ≡ false = unfold is_digit choice.and choice.within in refl in never (sym p ∙ ap is_digit (sym e) ∙ h))
+digit-no-plus : (x : ℕ) → is_digit x ≡ true → is x (ascii "+") ≡ false
+digit-no-plus x h = is-no x (ascii "+") (λ e. let p : is_digit (ascii "+") ≡ false = unfold is_digit choice.and choice.within in refl in never (sym p ∙ ap is_digit (sym e) ∙ h))
 
 -- so digits are read as they are
 module _ (x : ℕ) (t : List ℕ) (h : is_hex_digit x ≡ true) where

@@ -5,7 +5,7 @@ use mathlib.Core.List.{List, [], ◌∷◌}
 use Prim.Native.Nat.{ℕ, zero, suc, ◌+◌, ◌-◌, ◌*◌, ◌≤◌, ◌<◌}
 use native.Mathlib.Omega.{arith}
 use lib.ListN.{drop}
-use Rattle.combinators.specs.Ascii.{exclamation_mark}
+use Prim.Native.Char.{code as ascii}
 use Rattle.combinators.specs.Choice.{pick}
 use Rattle.combinators.proofs.Rules.{and-gives, and-gives-false, told}
 use Rattle.characters.specs.Literal.{text}
@@ -61,7 +61,7 @@ module _ (rows store : List ℕ) where
         ap (λ k. (marked (tokens_at rows store k)).important) e ∙ last-two (n - 2) 0 ∙ rw z
 
     -- two tests as the code makes them, d of the last but one and r of the last
-    module _ (d : Bool) (ed : d ≡ is_delim exclamation_mark (token_here rows store m)) where
+    module _ (d : Bool) (ed : d ≡ is_delim (ascii "!") (token_here rows store m)) where
       -- where the last but one is no '!', there is no mark
       pub mark-no-sign : d ≡ false → d ≡ (marked (tokens_at rows store n)).important
       unfolding is_mark

@@ -8,7 +8,7 @@ use native.Mathlib.Omega.{arith}
 use lib.ListN.{length, get_or, set, take}
 use lib.Seq.{get_or-set_same, get_or-set_other, length-take-le}
 use Rattle.std.proofs.lemmas.List.{get_or-take}
-use Rattle.combinators.specs.Ascii.{right_parenthesis, greater_than_sign, right_square_bracket, right_curly_bracket}
+use Prim.Native.Char.{code as ascii}
 use Rattle.combinators.specs.Choice.{pick}
 use Rattle.combinators.proofs.Rules.{pick_true, pick-false, is-yes, is-no}
 use Rattle.lexer.specs.Token.{Token, ident, function, hash, string, bad_string, delim, number, dimension, percentage, cdo, cdc, colon, semicolon, comma, open_square, close_square, open_round, close_round, open_brace, close_brace, coded, text_of}
@@ -25,16 +25,16 @@ use Rattle.values.specs.declared.statements.Step.TheVariants.{Next, Before, Behi
 
 -- what a token as the code has it does to the brackets
 unfoldable pub bracket_by : lexer.Token → Bracket
-bracket_by (code.Function n) = opens right_parenthesis
-bracket_by code.CDO = opens greater_than_sign
-bracket_by code.CDC = closes greater_than_sign
+bracket_by (code.Function n) = opens (ascii ")")
+bracket_by code.CDO = opens (ascii ">")
+bracket_by code.CDC = closes (ascii ">")
 bracket_by code.Semicolon = ends
-bracket_by code.OpenSquare = opens right_square_bracket
-bracket_by code.CloseSquare = closes right_square_bracket
-bracket_by code.OpenRound = opens right_parenthesis
-bracket_by code.CloseRound = closes right_parenthesis
-bracket_by code.OpenBrace = opens right_curly_bracket
-bracket_by code.CloseBrace = closes right_curly_bracket
+bracket_by code.OpenSquare = opens (ascii "]")
+bracket_by code.CloseSquare = closes (ascii "]")
+bracket_by code.OpenRound = opens (ascii ")")
+bracket_by code.CloseRound = closes (ascii ")")
+bracket_by code.OpenBrace = opens (ascii "}")
+bracket_by code.CloseBrace = closes (ascii "}")
 bracket_by _ = none
 
 -- it does what the token does
@@ -113,13 +113,13 @@ Closed c b d r = (step_to r b ≡ closing c (awaited b d)) × (deep r (d - 1) �
 
 module _ (c : ℕ) (b : List ℕ) where
   -- where none is awaited, a '}' ends the statement before itself
-  pub closed-before : (d : ℕ) → d ≡ 0 → c ≡ right_curly_bracket → Closed c b d Before
+  pub closed-before : (d : ℕ) → d ≡ 0 → c ≡ ascii "}" → Closed c b d Before
   unfolding closing awaited step_to deep
   closed-before zero z e = (pick_true _ _ _ _ (is-yes _ _ e) refl, refl)
   closed-before (suc d) z e = absurd (omega arith)
 
   -- where none is awaited, any bracket but '}' is wrong
-  pub closed_none : (d : ℕ) → d ≡ 0 → ¬ (c ≡ right_curly_bracket) → Closed c b d Wrong
+  pub closed_none : (d : ℕ) → d ≡ 0 → ¬ (c ≡ ascii "}") → Closed c b d Wrong
   unfolding closing awaited step_to deep
   closed_none zero z e = (pick-false _ _ _ _ (is-no _ _ e) refl, refl)
   closed_none (suc d) z e = absurd (omega arith)
@@ -134,14 +134,14 @@ module _ (c : ℕ) (b : List ℕ) where
       (pick-false _ _ _ _ (is-no _ _ (λ h. e (rw p (sym h)))) refl, refl)
 
   -- where it is awaited: last of all, or inside another
-  pub closed-behind : (d : ℕ) → ¬ (d ≡ 0) → get_or b (d - 1) 0 ≡ c → d - 1 ≡ 0 → c ≡ right_curly_bracket → Closed c b d Behind
+  pub closed-behind : (d : ℕ) → ¬ (d ≡ 0) → get_or b (d - 1) 0 ≡ c → d - 1 ≡ 0 → c ≡ ascii "}" → Closed c b d Behind
   unfolding closing awaited step_to deep
   closed-behind zero z e o h = absurd (z refl)
   closed-behind (suc zero) z e o h = (pick_true _ _ _ _ (is-yes _ _ (sym e)) (pick_true _ _ _ _ (is-yes _ _ h) refl), refl)
   closed-behind (suc (suc d)) z e o h = absurd (omega arith)
 
   -- unless it is a '}' and the last one, the statement goes on with one fewer awaited
-  pub closed-next : (d : ℕ) → ¬ (d ≡ 0) → get_or b (d - 1) 0 ≡ c → (d ≡ 1 → ¬ (c ≡ right_curly_bracket)) → Closed c b d (Next (d - 1))
+  pub closed-next : (d : ℕ) → ¬ (d ≡ 0) → get_or b (d - 1) 0 ≡ c → (d ≡ 1 → ¬ (c ≡ ascii "}")) → Closed c b d (Next (d - 1))
   unfolding closing awaited step_to deep
   closed-next zero z e o = absurd (z refl)
   closed-next (suc zero) z e o = (pick_true _ _ _ _ (is-yes _ _ (sym e)) (pick-false _ _ _ _ (is-no _ _ (o refl)) refl), refl)

@@ -9,7 +9,7 @@ use lib.ListN.{length, get_or, drop, length-drop, length-append}
 use lib.Seq.{sets, drop-drop, get_or-drop}
 use Rattle.combinators.specs.Lent.{SameStores}
 use Rattle.combinators.specs.declared.lent.Stores.{Stores}
-use Rattle.combinators.specs.Ascii.{reverse_solidus}
+use Prim.Native.Char.{code as ascii}
 use Rattle.combinators.specs.Choice.{pick}
 use Rattle.combinators.specs.Parsed.{Parsed, ok, err, on_parsed}
 use Rattle.combinators.specs.Store.{Store, emits}
@@ -112,7 +112,7 @@ module _ (include : Bool) (s : List ℕ) (at : ℕ) (cs : List ℕ) where
 
 -- ---- how much longer texts can be
 -- two bytes where a backslash ends the text
-pub slack-here : (s : List ℕ) (n : ℕ) → n ≡ length s → get_or s (n - 1) 0 ≡ reverse_solidus → slack s n ≡ 2
+pub slack-here : (s : List ℕ) (n : ℕ) → n ≡ length s → get_or s (n - 1) 0 ≡ ascii "\\" → slack s n ≡ 2
 unfolding slack
 slack-here s n e h = sym (pick_true _ _ _ _ (and_both _ _ (is-yes _ _ e) (is-yes _ _ h)) refl)
 

@@ -1,6 +1,6 @@
 -- Colours: `parse_color`, `parse_background_color` and the numbers that they read, of src/css/parser.rs.
 use Rattle.std.specs.Prelude.{ℕ, ◌+◌, ◌*◌, ◌/◌, ◌%◌, Bool, true, List, [], ◌∷◌, leb, length, get_or, drop}
-use Rattle.combinators.specs.Ascii.{plus_sign}
+use Prim.Native.Char.{code as ascii}
 use Rattle.combinators.specs.Choice.{pick, and, is}
 use Rattle.combinators.specs.Word.{same_text}
 use Rattle.characters.specs.Literal.{text}
@@ -48,7 +48,7 @@ numeral base d a [] = a
 numeral base d a (x ∷ r) = numeral base d (a * base + d x) r
 
 unfoldable pub without_plus : List ℕ → List ℕ
-without_plus s = drop (pick (is (get_or s 0 0) plus_sign) 1 0) s
+without_plus s = drop (pick (is (get_or s 0 0) (ascii "+")) 1 0) s
 
 unfoldable pub digits_in : (ℕ → Bool) → ℕ → (ℕ → ℕ) → ℕ → List ℕ → Found ℕ
 digits_in p base d most t =

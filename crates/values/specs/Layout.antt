@@ -1,7 +1,7 @@
 -- How a statement lies in lent stores: its tokens in rows, their texts one behind the other, and the brackets awaited.
 use Rattle.std.specs.Prelude.{ℕ, zero, suc, ◌+◌, ◌-◌, ◌*◌, ◌^◌, ◌≤◌, ◌<◌, Bool, true, Result, Ok, Err, List, [], ◌∷◌, ◌≡◌, refl, length, get_or, set}
 use Rattle.std.proofs.lemmas.List.Edits.{sets}
-use Rattle.combinators.specs.Ascii.{right_parenthesis, reverse_solidus}
+use Prim.Native.Char.{code as ascii}
 use Rattle.combinators.specs.Choice.{pick, and, is}
 use Rattle.combinators.specs.declared.lent.Stores.{Stores}
 use Rattle.lexer.specs.Token.{function, number, close_round, coded, text_of}
@@ -152,7 +152,7 @@ case : left
     ≡ record {
       answer = Ok (record { taken = 5; count = 3; text = 2 });
       rows = function_kind ∷ 0 ∷ 1 ∷ 1 ∷ 0 ∷ number_kind ∷ 3 ∷ 2 ∷ 1 ∷ 0 ∷ close_round_kind ∷ 4 ∷ 3 ∷ 0 ∷ 0 ∷ 1 ∷ [];
-      brackets = right_parenthesis ∷ 1 ∷ [];
+      brackets = ascii ")" ∷ 1 ∷ [];
       store = 9 ∷ 0x66 ∷ 0x37 ∷ 9 ∷ [];
     }
 unfolding left statement_answer rows_many texts_many brackets_after pushed depth bracket_of token_row row_of columns_of coded word text_of pick
@@ -183,7 +183,7 @@ text_by (Err r) = r.0.text
 
 -- how many bytes longer the texts of n bytes can be: two where they end the text with a backslash
 unfoldable pub slack : List ℕ → ℕ → ℕ
-slack s n = pick (and (is n (length s)) (is (get_or s (n - 1) 0) reverse_solidus)) 2 0
+slack s n = pick (and (is n (length s)) (is (get_or s (n - 1) 0) (ascii "\\"))) 2 0
 
 pub record Bounds (s : List ℕ) (r : Result declared-statement.Statement Unbalanced) : Type 0 where
   pub taken : taken_by r ≤ length s

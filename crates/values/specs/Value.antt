@@ -1,6 +1,6 @@
 -- Values: `parse_to_end_of_statement` and `parse_value` of src/css/parser.rs.
 use Rattle.std.specs.Prelude.{ℕ, zero, suc, ◌+◌, Bool, true, false, List, [], ◌∷◌, length, drop}
-use Rattle.combinators.specs.Ascii.{exclamation_mark, right_parenthesis, greater_than_sign, right_square_bracket, right_curly_bracket}
+use Prim.Native.Char.{code as ascii}
 use Rattle.combinators.specs.Choice.{pick, and, is}
 use Rattle.combinators.specs.Parsed.{Parsed, ok, err, on_parsed}
 use Rattle.characters.specs.Literal.{text}
@@ -23,16 +23,16 @@ pub data Bracket : Type 0 where
 
 -- what a token does to the brackets
 unfoldable pub bracket_of : Token → Bracket
-bracket_of (function b) = opens right_parenthesis
-bracket_of cdo = opens greater_than_sign
-bracket_of cdc = closes greater_than_sign
+bracket_of (function b) = opens (ascii ")")
+bracket_of cdo = opens (ascii ">")
+bracket_of cdc = closes (ascii ">")
 bracket_of semicolon = ends
-bracket_of open_square = opens right_square_bracket
-bracket_of close_square = closes right_square_bracket
-bracket_of open_round = opens right_parenthesis
-bracket_of close_round = closes right_parenthesis
-bracket_of open_brace = opens right_curly_bracket
-bracket_of close_brace = closes right_curly_bracket
+bracket_of open_square = opens (ascii "]")
+bracket_of close_square = closes (ascii "]")
+bracket_of open_round = opens (ascii ")")
+bracket_of close_round = closes (ascii ")")
+bracket_of open_brace = opens (ascii "}")
+bracket_of close_brace = closes (ascii "}")
 bracket_of _ = none
 
 -- how a statement goes on at a token: with these brackets awaited, innermost first; it ends before the token, or behind it; or the
@@ -46,8 +46,8 @@ pub data Step : Type 0 where
 -- a closing bracket: where none is awaited, '}' ends the statement before it, and any other is wrong; where another is awaited, it is wrong; a brace block that closes
 -- outermost ends the statement behind it
 unfoldable pub closing : ℕ → List ℕ → Step
-closing c [] = pick (is c right_curly_bracket) before wrong
-closing c (x ∷ []) = pick (is c x) (pick (is c right_curly_bracket) behind (next [])) wrong
+closing c [] = pick (is c (ascii "}")) before wrong
+closing c (x ∷ []) = pick (is c x) (pick (is c (ascii "}")) behind (next [])) wrong
 closing c (x ∷ y ∷ cs) = pick (is c x) (next (y ∷ cs)) wrong
 
 -- a semicolon ends the statement outside all brackets, and belongs to it if asked
@@ -100,7 +100,7 @@ tokens_of [] = []
 tokens_of (t ∷ ts) = t.token ∷ tokens_of ts
 
 unfoldable pub is_mark : Token → Token → Bool
-is_mark a b = and (is_delim exclamation_mark a) (is_word (text "important") b)
+is_mark a b = and (is_delim (ascii "!") a) (is_word (text "important") b)
 
 pub record Value : Type 0 where
   pub tokens : List Token
