@@ -62,11 +62,14 @@ pub fn number_in<const WIDTH: usize>(rows: &[u32], row: usize, column: usize) ->
 }
 
 // The number in a column of a node's row. This and the next are `number_in` for either width, with the bound of what 32 bits hold, so that no reader of a
-// column names a width.
+// column names a width. Of a row that is there whole one test serves all columns, which `number_in` would make for each.
 fn node_number(nodes: &[u32], row: usize, column: usize) -> usize
     ensures value { result ≡ node_number nodes.now row column }
     ensures upper_bound { result < number_bound }
 {
+    if row < nodes.len() / NODE_WIDTH && column < NODE_WIDTH {
+        return nodes[row * NODE_WIDTH + column] as usize;
+    }
     number_in::<NODE_WIDTH>(nodes, row, column) as usize
 }
 
@@ -75,6 +78,9 @@ fn attribute_number(attributes: &[u32], row: usize, column: usize) -> usize
     ensures value { result ≡ attribute_number attributes.now row column }
     ensures upper_bound { result < number_bound }
 {
+    if row < attributes.len() / ATTRIBUTE_WIDTH && column < ATTRIBUTE_WIDTH {
+        return attributes[row * ATTRIBUTE_WIDTH + column] as usize;
+    }
     number_in::<ATTRIBUTE_WIDTH>(attributes, row, column) as usize
 }
 
