@@ -5,11 +5,10 @@ use mathlib.Core.List.{List}
 use Prim.Native.Nat.{ℕ, ◌+◌, ◌-◌, ◌<◌, ◌≤◌}
 use native.Mathlib.Omega.{arith}
 use lib.ListN.{length, get_or, take, drop, length-drop}
-use lib.Dec.{eqb}
-use Rattle.combinators.specs.Choice.{is}
-use Rattle.combinators.proofs.Rules.{pick-false, is-no, at_most, above}
+use mathlib.Core.Bool.{true, false}
+use Rattle.combinators.proofs.Rules.{pick-false, is-yes, is-no, at_most, above}
 use Rattle.combinators.proofs.Lists.{rest}
-use Rattle.combinators.proofs.Repeating.{Repeating, repeat-more, repeat-stop}
+use Rattle.combinators.proofs.Repeating.{Repeating, repeat-more, repeat-stop, repeat-end}
 use Rattle.characters.specs.Utf8.{lead_of, scalar_by, scalar_of, taken_of, scalar_taken, valid}
 use Rattle.combinators.specs.declared.taken.Taken.{Taken}
 use Rattle.characters.specs.declared.utf8.Lead.{Lead}
@@ -58,7 +57,12 @@ module _ (s : List ℕ) (i : ℕ) (c : Repeating scalar_taken s i) where
     unfolding scalar_taken taken_of
     none h = rw (here, h)
 
-    -- where no well-formed sequence stands, the text is well formed if it ends there
-    pub checking-stop : r ≡ None → eqb i (length s) ≡ valid s
-    unfolding valid is
-    checking-stop h = ap (λ n. eqb n (length s)) (repeat-stop scalar_taken s i c (none h))
+    -- no well-formed sequence stands before the end
+    pub checking-stop : i < length s → r ≡ None → false ≡ valid s
+    unfolding valid
+    checking-stop l h = sym (is-no _ _ (λ z. let q = repeat-stop scalar_taken s i c (none h) in omega (arith, q, z)))
+
+  -- where the end is reached without a fault, the text is well formed
+  pub checking-done : length s ≤ i → true ≡ valid s
+  unfolding valid
+  checking-done h = sym (is-yes _ _ (sym (repeat-end scalar_taken s i c h) ∙ omega (arith, c.within_text)))

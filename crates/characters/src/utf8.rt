@@ -156,15 +156,18 @@ pub fn scalar_at(s: &[u8]) -> Option<Taken<char>>
 }
 
 // Whether `s` is well formed, by the table above and not by `from_utf8`, which promises the library's own definition. A step is what a character takes, so
-// this is no range.
+// this is no range; behind the last character none is asked for, since most texts are short.
 pub fn is_valid(s: &[u8]) -> bool
     ensures { result ≡ valid s.now }
 {
     let mut i = 0;
-    while let Some(c) = scalar_at(&s[i..]) {
+    while i < s.len() {
+        let Some(c) = scalar_at(&s[i..]) else {
+            return false;
+        };
         i += c.taken;
     }
-    i == s.len()
+    true
 }
 
 // The character `v`, or U+FFFD where `v` is no scalar value.

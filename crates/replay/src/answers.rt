@@ -34,8 +34,8 @@ const OUT: usize = 128 * STYLE_ROW_WIDTH;
 // What vectors lend beyond the least where they lend plenty.
 const MORE: usize = 100;
 
-// For a run, the style rows of one node more than a page may have, or the state of the longest compiled sheet, and some beyond. With the rows all texts of a
-// vector have less together, and with the state few: so all lies within a stack of 8 MB.
+// For a run, the style rows of one node more than a page may have, or the state of the longest compiled sheet, and some beyond. With either all texts of a
+// vector have less together: so all lies within a stack of 8 MB.
 const MANY_ROWS: usize = (NODE_LIMIT + 1) * STYLE_ROW_WIDTH + MORE;
 
 const LONG_STATE: usize = (DEPTH_LIMIT + 1) * (COMPILED_LIMIT + 1) + MORE;
@@ -46,16 +46,10 @@ const SHORTER_NUMBERS: usize = NUMBER_WIDTH * SHORTER + NUMBER_MORE;
 
 const SHORTER_TEXTS: usize = TEXT_WIDTH * SHORTER + TEXT_MORE;
 
-const SHORTEST: usize = 2048;
-
-const SHORTEST_NUMBERS: usize = NUMBER_WIDTH * SHORTEST + NUMBER_MORE;
-
-const SHORTEST_TEXTS: usize = TEXT_WIDTH * SHORTEST + TEXT_MORE;
-
 /// Asks a question with buffers that have room for what the vector lends; whether all comes that is expected next.
 pub fn answers_as_expected(stream: &mut Stream<'_>, question: &Question<'_>) -> bool {
     if question.length(BYTES_LENT) > COMPILED {
-        answers_with_buffers::<SHORTEST_NUMBERS, SHORTEST, SHORTEST_TEXTS, LONG_STATE, OUT>(
+        answers_with_buffers::<SHORTER_NUMBERS, SHORTER, SHORTER_TEXTS, LONG_STATE, OUT>(
             stream, question,
         )
     } else if question.length(OUT_LENT) > OUT {

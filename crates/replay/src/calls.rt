@@ -64,8 +64,7 @@ impl fmt::Display for Call {
             Call::Matches => "selector",
             Call::Rows => "selector on all rows",
             Call::Selector => "selector of a sheet",
-            Call::HeightLength => "height",
-            Call::Unknown => "no known call",
+            Call::HeightLength | Call::Unknown => "no known call",
         })
     }
 }

@@ -12,6 +12,9 @@ pub trait Element: Copy + PartialEq + Drop {
 
     /// The next element of a pattern.
     fn read(stream: &mut Stream<'_>) -> Self;
+
+    /// Reads over a pattern of so many elements; how many of them there are, for bytes end with the stream.
+    fn skip(stream: &mut Stream<'_>, count: usize) -> usize;
 }
 
 impl Element for u8 {
@@ -21,6 +24,10 @@ impl Element for u8 {
 
     fn read(stream: &mut Stream<'_>) -> Self {
         stream.byte()
+    }
+
+    fn skip(stream: &mut Stream<'_>, count: usize) -> usize {
+        stream.bytes(count).len()
     }
 }
 
@@ -32,11 +39,20 @@ impl Element for u32 {
     fn read(stream: &mut Stream<'_>) -> Self {
         stream.number()
     }
+
+    // What is past the end reads as 0.
+    fn skip(stream: &mut Stream<'_>, count: usize) -> usize {
+        for _ in 0..count {
+            stream.number();
+        }
+        count
+    }
 }
 
 /// Writes the content that comes next into a buffer, as far as the buffer goes.
 pub fn lend<E: Element>(stream: &mut Stream<'_>, buffer: &mut [E]) {
-    for_each(stream, |i: usize, element: E| {
+    let room = buffer.len();
+    for_each(stream, room, |i: usize, element: E| {
         if let Some(slot) = buffer.get_mut(i) {
             *slot = element;
         }
@@ -46,7 +62,7 @@ pub fn lend<E: Element>(stream: &mut Stream<'_>, buffer: &mut [E]) {
 /// Whether a buffer has the content that comes next, and beyond it what then comes: anything, or one value throughout.
 pub fn is_expected<E: Element>(stream: &mut Stream<'_>, buffer: &[E]) -> bool {
     let mut same = true;
-    let taken = for_each(stream, |i: usize, element: E| {
+    let taken = for_each(stream, buffer.len(), |i: usize, element: E| {
         same = same && buffer.get(i) == Some(&element);
     });
     let Some(number) = stream.expected() else {
@@ -57,20 +73,26 @@ pub fn is_expected<E: Element>(stream: &mut Stream<'_>, buffer: &[E]) -> bool {
     same && beyond.iter().all(|element| *element == value)
 }
 
-// Calls `f` with each element of the content that comes next, and where in the buffer it stands; how much of the buffer the content takes.
-fn for_each<E: Element, F: FnMut(usize, E) + Drop>(stream: &mut Stream<'_>, mut f: F) -> usize
+// Calls `f` with each element of the content that comes next, and where in the buffer it stands, up to one behind the `room` that the buffer has; how much of the
+// buffer the content takes.
+fn for_each<E: Element, F: FnMut(usize, E) + Drop>(
+    stream: &mut Stream<'_>,
+    room: usize,
+    mut f: F,
+) -> usize
     requires { (state : F) (i : _) (element : _) → F.pre state i element }
 {
     let mut fill: usize = 0;
     for _ in 0..stream.number() {
         let total = stream.number() as usize;
-        for_each_of_part(stream, fill, total, &mut f);
+        let left = room.saturating_sub(fill).saturating_add(1);
+        for_each_of_part(stream, fill, total.min(left), &mut f);
         fill = fill.saturating_add(total);
     }
     fill
 }
 
-// The same for the `total` elements of a part, the first of which stands at `start`.
+// The same for `total` elements of a part, the first of which stands at `start`.
 fn for_each_of_part<E: Element, F: FnMut(usize, E) + Drop>(
     stream: &mut Stream<'_>,
     start: usize,
@@ -79,9 +101,9 @@ fn for_each_of_part<E: Element, F: FnMut(usize, E) + Drop>(
 )
     requires { (state : F) (i : _) (element : _) → F.pre state i element }
 {
-    let count = stream.number() as usize;
+    let size = stream.number() as usize;
     let pattern = *stream;
-    skip::<E>(stream, count);
+    let count = E::skip(stream, size);
     if count == 0 {
         return;
     }
@@ -91,12 +113,5 @@ fn for_each_of_part<E: Element, F: FnMut(usize, E) + Drop>(
             turn = pattern;
         }
         f(start.saturating_add(i), E::read(&mut turn));
-    }
-}
-
-// Reads over the elements of a pattern.
-fn skip<E: Element>(stream: &mut Stream<'_>, count: usize) {
-    for _ in 0..count {
-        E::read(stream);
     }
 }

@@ -1,12 +1,12 @@
 // Calls with a page or with compiled bytes. Each answers the numbers of its result, in the order of its struct.
 use crate::buffers::Buffers;
-use crate::calls::{COMPONENTS, COUNT, ROW, Results};
+use crate::calls::{COMPONENTS, COUNT, FIRST, ROW, Results};
 use crate::question::Question;
 use comparison::bytes::comparison_check_bytes;
 use comparison::matches::{MatchResult, comparison_matches};
 use engine::pages::hicsolmab_check_page;
 use engine::sheet::hicsolmab_read_sheet;
-use page::rows::node_count;
+use page::rows::NODE_WIDTH;
 
 pub fn ask_bytes(question: &Question<'_>) -> Results {
     let came = comparison_check_bytes(question.text());
@@ -68,7 +68,7 @@ fn put_row(came: MatchResult, slots: &mut [u32]) {
 pub fn ask_rows(question: &Question<'_>, rules: &mut [u32]) -> Results {
     let components = question.components();
     let names = question.names();
-    let rows = node_count(question.nodes());
+    let rows = question.length(FIRST) / NODE_WIDTH;
     for (row, slots) in rules.chunks_mut(ROW_NUMBERS).take(rows).enumerate() {
         let came = match_row(question, components, names, row);
         put_row(came, slots);

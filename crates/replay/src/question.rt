@@ -20,13 +20,15 @@ impl<'a> Question<'a> {
         input: &'a [u8],
         numbers: &'a [u32],
     ) -> Question<'a> {
+        let count = stream.number();
+        // where a vector gives fewer, those that are missing are the numbers behind the list
+        let mut given = *stream;
         let mut arguments = [0; ARGUMENTS];
-        // one behind those that are kept is read all the same
-        for i in 0..stream.number() as usize {
-            let argument = stream.number();
-            if let Some(slot) = arguments.get_mut(i) {
-                *slot = argument;
-            }
+        for slot in &mut arguments {
+            *slot = given.number();
+        }
+        for _ in 0..count {
+            stream.number();
         }
         Question {
             call,
@@ -36,7 +38,7 @@ impl<'a> Question<'a> {
         }
     }
 
-    /// The argument that has `k` before it, or 0 where there are fewer, as what is past the end reads as nothing.
+    /// The argument that has `k` before it.
     pub fn number(&self, k: usize) -> u32 {
         self.arguments.get(k).copied().unwrap_or(0)
     }

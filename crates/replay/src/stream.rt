@@ -54,11 +54,16 @@ impl<'a> Stream<'a> {
         *byte
     }
 
-    /// A text, which is empty if it is not UTF-8.
-    pub fn words(&mut self) -> &'a str {
-        let size = self.number() as usize;
-        let (text, rest) = self.rest.split_at(size.min(self.rest.len()));
+    /// So many bytes, or as many as there are.
+    pub fn bytes(&mut self, size: usize) -> &'a [u8] {
+        let (bytes, rest) = self.rest.split_at(size.min(self.rest.len()));
         self.rest = rest;
-        str::from_utf8(text).unwrap_or_default()
+        bytes
+    }
+
+    /// A text, of any bytes.
+    pub fn words(&mut self) -> &'a [u8] {
+        let size = self.number() as usize;
+        self.bytes(size)
     }
 }

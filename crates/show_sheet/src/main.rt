@@ -17,7 +17,6 @@ use place::{Marked, Place};
 use refusal::Refusal;
 use rule::{Source, print_rules};
 use sheets::sheet::{SHEET_LIMIT, read_sheet};
-use std::io;
 use streams::read_full;
 
 // One byte more than a sheet may have is read, to see whether the input goes on.
@@ -31,15 +30,14 @@ const BRACKETS: usize = SHEET_LIMIT;
 const NUMBERS: usize = NUMBER_WIDTH * SHEET_LIMIT + NUMBER_MORE;
 
 // How many bytes were read of the sheet, and where reading stopped before its end.
-fn print_read(out: &impl Print, sheet: &[u8], stop: usize) -> io::Result<()> {
-    println!(out; "read {stop} of {} bytes", sheet.len())?;
+fn print_read(out: &impl Print, sheet: &[u8], stop: usize) {
+    let _ = println!(out; "read {stop} of {} bytes", sheet.len());
     if stop < sheet.len() {
-        print!(out; "stopped at {}", Marked(Place { sheet, byte: stop }))?;
+        let _ = print!(out; "stopped at {}", Marked(Place { sheet, byte: stop }));
     }
-    Ok(())
 }
 
-fn print_sheet(out: &impl Print, sheet: &[u8]) -> io::Result<()> {
+fn print_sheet(out: &impl Print, sheet: &[u8]) {
     let mut rules = [0u32; NUMBERS];
     let mut tokens = [0u32; NUMBERS];
     let mut brackets = [0u8; BRACKETS];
@@ -53,16 +51,18 @@ fn print_sheet(out: &impl Print, sheet: &[u8]) -> io::Result<()> {
     match read_sheet(sheet, &mut stores) {
         Ok(read) => {
             let texts = &texts;
-            print_read(out, sheet, read.taken)?;
-            print_rules(out, Source { sheet, texts }, &rules, read.count)
+            print_read(out, sheet, read.taken);
+            print_rules(out, Source { sheet, texts }, &rules, read.count);
         }
-        Err(error) => print!(out; "{}", Refusal { sheet, error }),
+        Err(error) => {
+            let _ = print!(out; "{}", Refusal { sheet, error });
+        }
     }
 }
 
-// Whoever stops reading the output ends it; that is no error. (Each program has a `main` of its own, over its own buffer.)
+// A write that fails is passed over wherever one is made; it is no error. (Each program has a `main` of its own, over its own buffer.)
 fn main(rt: HostRuntime) {
     let mut input = [0u8; INPUT];
     let n = read_full(&mut rt.stdin(), &mut input);
-    let _ = print_sheet(&rt, &input[..n]);
+    print_sheet(&rt, &input[..n]);
 }

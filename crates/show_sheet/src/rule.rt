@@ -4,7 +4,6 @@ use crate::place::Place;
 use crate::rows::cut;
 use crate::selector::Selector;
 use combinators::stores::number_at;
-use std::io;
 use syntax::rows::{DECLARATION_WIDTH, RULE_DECLARATIONS, RULE_HEAD, RULE_SELECTORS};
 
 /// A sheet that was read, and the store with the texts of its rows.
@@ -15,49 +14,40 @@ pub struct Source<'a> {
 }
 
 /// Prints the first `count` rules of the rows. Rules are not of one width, so that the count is no length of the rows.
-pub fn print_rules(
-    out: &impl Print,
-    source: Source<'_>,
-    rows: &[u32],
-    count: usize,
-) -> io::Result<()> {
+pub fn print_rules(out: &impl Print, source: Source<'_>, rows: &[u32], count: usize) {
     let mut rest = rows;
     for _ in 0..count {
-        rest = print_rule(out, source, rest)?;
+        rest = print_rule(out, source, rest);
     }
-    Ok(())
 }
 
 // Prints the first rule of the rows; the rows behind it.
-fn print_rule<'a>(out: &impl Print, source: Source<'a>, rows: &'a [u32]) -> io::Result<&'a [u32]> {
+fn print_rule<'a>(out: &impl Print, source: Source<'a>, rows: &'a [u32]) -> &'a [u32] {
     let selectors = number_at(rows, 0, RULE_SELECTORS);
     let declarations = number_at(rows, 0, RULE_DECLARATIONS) as usize;
     let (_, behind_head) = cut(rows, RULE_HEAD);
     let mut rest = behind_head;
     if selectors == 0 {
-        print!(out; "(no selector)")?;
+        let _ = print!(out; "(no selector)");
     }
     for i in 0..selectors {
         let (selector, behind) = Selector::cut(rest, source.texts);
         let comma = if i > 0 { ", " } else { "" };
-        print!(out; "{comma}{selector}")?;
+        let _ = print!(out; "{comma}{selector}");
         rest = behind;
     }
     let (rows, behind) = cut(rest, declarations * DECLARATION_WIDTH);
-    print_block(out, source, rows.as_chunks::<DECLARATION_WIDTH>().0)?;
-    Ok(behind)
+    print_block(out, source, rows.as_chunks::<DECLARATION_WIDTH>().0);
+    behind
 }
 
 // Prints the declarations in braces, each behind its line and column.
-fn print_block(
-    out: &impl Print,
-    source: Source<'_>,
-    rows: &[[u32; DECLARATION_WIDTH]],
-) -> io::Result<()> {
+fn print_block(out: &impl Print, source: Source<'_>, rows: &[[u32; DECLARATION_WIDTH]]) {
     if rows.is_empty() {
-        return println!(out; " {{ }}");
+        let _ = println!(out; " {{ }}");
+        return;
     }
-    println!(out; " {{")?;
+    let _ = println!(out; " {{");
     for row in rows {
         let declaration = Declaration {
             row: *row,
@@ -67,7 +57,7 @@ fn print_block(
             sheet: source.sheet,
             byte: declaration.start(),
         };
-        println!(out; "  {place} {declaration};")?;
+        let _ = println!(out; "  {place} {declaration};");
     }
-    println!(out; "}}")
+    let _ = println!(out; "}}");
 }

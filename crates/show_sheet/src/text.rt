@@ -1,4 +1,7 @@
 // Names, lines and colours of a sheet as text. A character that would not stand for itself is escaped.
+ghost use Rattle.std.specs.Prelude.{Some};
+ghost use Rattle.show_sheet.specs.Colours.{colour_text};
+
 use std::fmt;
 use streams::write_escaped;
 
@@ -43,6 +46,8 @@ impl fmt::Display for Blanks<'_> {
 pub struct Colour(pub u32);
 
 impl fmt::Display for Colour {
+    ghost output = { λ c. Some (colour_text c.0) };
+
     fn fmt<W: fmt::Write>(&self, f: &mut fmt::Formatter<W>) -> fmt::Result {
         let colour = self.0;
         write!(f, "#{colour:06x}")

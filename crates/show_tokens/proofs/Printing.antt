@@ -11,10 +11,37 @@ use Rattle.lexer.specs.Token as lexer
 use Rattle.lexer.specs.Token.{coded, token_of, lexed_answer, length_by}
 use Rattle.lexer.specs.Whitespace.{skip_whitespace}
 use Rattle.lexer.specs.declared.tokens.Token as declared
+use Rattle.lexer.specs.declared.tokens.Token.TheVariants as code
 use Rattle.lexer.specs.declared.tokens.Lexed.{Lexed}
 use Rattle.lexer.proofs.Bounds.{bound-two}
 use Rattle.lexer.proofs.Comments.{skip-le}
 use Rattle.lexer.proofs.TokenBounds.{token-fits, length-coded}
+use Rattle.show_tokens.specs.Texts.{texts_of, texts_length}
+
+-- ---- the texts of a token
+-- they take as many bytes of the store as the token says
+pub texts-length : (k : declared.Token) → texts_length (texts_of k) ≡ length_by k
+unfolding texts_length texts_of length_by
+texts-length (code.Ident n) = refl
+texts-length (code.Function n) = refl
+texts-length (code.Hash n) = refl
+texts-length (code.String n) = refl
+texts-length (code.BadString n) = refl
+texts-length (code.Delim c) = refl
+texts-length (code.Number n) = refl
+texts-length (code.Dimension n u) = refl
+texts-length (code.Percentage n) = refl
+texts-length code.CDO = refl
+texts-length code.CDC = refl
+texts-length code.Colon = refl
+texts-length code.Semicolon = refl
+texts-length code.Comma = refl
+texts-length code.OpenSquare = refl
+texts-length code.CloseSquare = refl
+texts-length code.OpenRound = refl
+texts-length code.CloseRound = refl
+texts-length code.OpenBrace = refl
+texts-length code.CloseBrace = refl
 
 -- ---- a token that was read
 

@@ -1,6 +1,6 @@
 // The line of a token.
-ghost use Rattle.std.specs.Prelude.{◌≤◌, length};
-ghost use Rattle.lexer.specs.Token.{length_by};
+ghost use Rattle.std.specs.Prelude.{◌≡◌, ◌≤◌, length};
+ghost use Rattle.show_tokens.specs.Texts.{texts_of, texts_length};
 
 use lexer::tokens::Token;
 use std::fmt;
@@ -13,31 +13,63 @@ pub struct Line<'a> {
     pub end: usize,
     pub token: Token,
     pub store: &'a [u8],
-    ghost texts_fit: { length_by token ≤ length store.now },
+    ghost texts_fit: { texts_length (texts_of token) ≤ length store.now },
 }
 
 impl fmt::Display for Line<'_> {
-    #[tactic(auto, unfolding(lexer::specs::Token::length_by))]
+    #[tactic(auto, unfolding(crate::specs::Texts::texts_length))]
     fn fmt<W: fmt::Write>(&self, f: &mut fmt::Formatter<W>) -> fmt::Result {
         write!(f, "{} {} {}", self.start, self.end, kind_of(self.token))?;
         let store = self.store;
-        match self.token {
-            Token::Ident(n)
-            | Token::Function(n)
-            | Token::Hash(n)
-            | Token::String(n)
-            | Token::BadString(n)
-            | Token::Number(n)
-            | Token::Percentage(n) => write!(f, " {}", Quoted(&store[..n])),
-            Token::Dimension(n, u) => {
+        match texts_of(self.token) {
+            Texts::NoText => Ok(()),
+            Texts::One(n) => write!(f, " {}", Quoted(&store[..n])),
+            Texts::Two(n, u) => {
                 write!(f, " {} {}", Quoted(&store[..n]), Quoted(&store[n..n + u]))
             }
-            Token::Delim(c) => {
+            Texts::Character(c) => {
                 let c = char::from_u32(c).ok_or(fmt::Error)?;
                 write!(f, " {}", Quoted(c.encode_utf8(&mut [0; 4]).as_bytes()))
             }
-            _ => Ok(()),
         }
+    }
+}
+
+// What a token's texts are: lengths in the store, or the scalar value of a delimiter.
+#[derive(Clone, Copy)]
+enum Texts {
+    NoText,
+    One(usize),
+    Two(usize, usize),
+    Character(u32),
+}
+
+// What is printed behind the kind of a token.
+#[tactic(auto, unfolding(crate::specs::Texts::texts_of))]
+fn texts_of(token: Token) -> Texts
+    ensures { result ≡ texts_of token }
+{
+    match token {
+        Token::Ident(n)
+        | Token::Function(n)
+        | Token::Hash(n)
+        | Token::String(n)
+        | Token::BadString(n)
+        | Token::Number(n)
+        | Token::Percentage(n) => Texts::One(n),
+        Token::Dimension(n, u) => Texts::Two(n, u),
+        Token::Delim(c) => Texts::Character(c),
+        Token::CDO
+        | Token::CDC
+        | Token::Colon
+        | Token::Semicolon
+        | Token::Comma
+        | Token::OpenSquare
+        | Token::CloseSquare
+        | Token::OpenRound
+        | Token::CloseRound
+        | Token::OpenBrace
+        | Token::CloseBrace => Texts::NoText,
     }
 }
 

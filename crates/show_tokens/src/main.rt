@@ -11,7 +11,6 @@ use combinators::least::{TEXT_MORE, TEXT_WIDTH};
 use combinators::refusals::{NOT_UTF8, TOO_LONG};
 use lexer::tokens::{Lexed, parse_token};
 use line::Line;
-use std::io;
 use streams::read_full;
 
 // The longest text whose tokens are printed. One byte more is read, to see whether the input goes on.
@@ -22,8 +21,8 @@ const INPUT: usize = LONGEST + 1;
 // Room for the texts of every token.
 const STORE: usize = TEXT_WIDTH * LONGEST + TEXT_MORE;
 
-// Prints every token of `s`; where reading stopped.
-fn print_tokens(out: &impl Print, s: &[u8], store: &mut [u8]) -> io::Result<usize>
+// Prints every token of `s`; where reading stopped. A line that cannot be written is passed over.
+fn print_tokens(out: &impl Print, s: &[u8], store: &mut [u8]) -> usize
     requires { length s.now + 2 ≤ length store.old }
 {
     let mut at = 0;
@@ -35,28 +34,30 @@ fn print_tokens(out: &impl Print, s: &[u8], store: &mut [u8]) -> io::Result<usiz
             token,
             store,
         };
-        println!(out; "{line}")?;
+        let _ = println!(out; "{line}");
         at += end;
     }
-    Ok(at)
+    at
 }
 
 // The tokens of a text and where reading stopped, or why it is refused as a whole.
-fn print_text(out: &impl Print, s: &[u8]) -> io::Result<()> {
+fn print_text(out: &impl Print, s: &[u8]) {
     if s.len() > LONGEST {
-        return println!(out; "refused {TOO_LONG} 0");
+        let _ = println!(out; "refused {TOO_LONG} 0");
+        return;
     }
     if !is_valid(s) {
-        return println!(out; "refused {NOT_UTF8} 0");
+        let _ = println!(out; "refused {NOT_UTF8} 0");
+        return;
     }
     let mut store = [0u8; STORE];
-    let stop = print_tokens(out, s, &mut store)?;
-    println!(out; "stop {stop}")
+    let stop = print_tokens(out, s, &mut store);
+    let _ = println!(out; "stop {stop}");
 }
 
-// Whoever stops reading the output ends it; that is no error. (Each program has a `main` of its own, over its own buffer.)
+// A write that fails is no error. (Each program has a `main` of its own, over its own buffer.)
 fn main(rt: HostRuntime) {
     let mut input = [0u8; INPUT];
     let n = read_full(&mut rt.stdin(), &mut input);
-    let _ = print_text(&rt, &input[..n]);
+    print_text(&rt, &input[..n]);
 }
