@@ -50,7 +50,7 @@ pub record Shown (m w n : ℕ) (k : declared.Token) : Type 0 where
   pub starts : w ≤ m
   pub some : 1 ≤ n
   pub ends : n ≤ m
-  pub texts : length_by k ≤ m + 2
+  pub texts : texts_length (texts_of k) ≤ m + 2
 
 -- by what the definition reads
 shown_of : (s : List ℕ) (p : Parsed lexer.Token) → token_of s ≡ p → (l : Lexed) → lexed_answer (skip_whitespace s) p ≡ Some l → Shown (length s) l.start l.end l.token
@@ -62,7 +62,7 @@ shown_of s (ok i x) e l h =
       starts = rw (sym a) (skip-le s);
       some = rw (sym a) f.some;
       ends = rw (sym a) f.within_text;
-      texts = rw (sym a) (omega (arith, length-coded x, bound-two f.bound, f.within_text));
+      texts = rw (sym a) (omega (arith, texts-length (coded x), length-coded x, bound-two f.bound, f.within_text));
     }
 shown_of s err e l h = absurd (let q : ◌≡◌ {A = ℕ} 0 1 = cc in omega arith)
 

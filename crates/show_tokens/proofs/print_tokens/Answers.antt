@@ -1,6 +1,6 @@
 -- A token takes a byte at least and ends within the text, and its texts are no longer than the bytes taken and two more, which the store has.
 use Rattle.std.proofs.Common.{refl, arith}
-use Rattle.show_tokens.proofs.Printing.{shown, texts-length}
+use Rattle.show_tokens.proofs.Printing.{shown}
 use Rattle.show_tokens.proofs.print_tokens.Goals as goal
 
 pub overflow_add-line : goal.overflow_add-line
@@ -16,7 +16,7 @@ overflow_add-line-in-Some g c =
 pub invariant_of-line : goal.invariant_of-line
 invariant_of-line g c =
     let read = shown c.args.s.now c.loop-start.at _ _ refl c.parse_token.ensures.value _ c.in-Some.is in
-    record { texts_fit = omega (arith, texts-length _, read.texts, c.parse_token.auto.store, c.loop-start.auto.store, c.requires) }
+    record { texts_fit = omega (arith, read.texts, c.parse_token.auto.store, c.loop-start.auto.store, c.requires) }
 
 pub overflow_add-at : goal.overflow_add-at
 overflow_add-at g c =
