@@ -35,6 +35,15 @@ glyph n =
     ]
 
 -- ---- the pair of digits of a byte
+-- the digits of its two halves
+pub two-digits : (b c d : ℕ) → c ≡ hex_digit (b / base) → d ≡ hex_digit (b % base) → c ∷ d ∷ [] ≡ hex_pair b
+unfolding hex_pair
+two-digits b c d e f = rw (e, f)
+
+-- and behind a space
+pub spaced-digits : (b c d : ℕ) → c ≡ hex_digit (b / base) → d ≡ hex_digit (b % base) → ascii " " ∷ c ∷ d ∷ [] ≡ ascii " " ∷ hex_pair b
+spaced-digits b c d e f = ap (λ t. ascii " " ∷ t) (two-digits b c d e f)
+
 -- a format writes its two digits, of which the first may be a zero in front
 pub pair : (b : ℕ) → b < 256 → hexadecimal 2 b ≡ hex_pair b
 unfolding hexadecimal digits hex_pair

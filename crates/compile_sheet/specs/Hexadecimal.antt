@@ -17,6 +17,10 @@ hex_digit n = pick (ltb n decimal_base) (ascii "0" + n) (ascii "a" + (n - decima
 unfoldable pub hex_pair : ℕ → List ℕ
 hex_pair b = hex_digit (b / base) ∷ hex_digit (b % base) ∷ []
 
+-- a space and those of a byte behind others
+abbrev pub next_pair : ℕ → List ℕ
+next_pair b = ascii " " ∷ hex_pair b
+
 -- pairs parted by spaces
 unfoldable pub hex_pairs : List ℕ → List ℕ
 hex_pairs [] = []
