@@ -19,7 +19,7 @@ use Rattle.cascade.specs.declared.slots.Cascade.TheVariants.{Crate, Book}
 use Rattle.cascade.specs.declared.slots.Slot as slots
 use Rattle.cascade.specs.Slot.{Candidate, Slot, fill_update, candidate_by, slot_by, held_by}
 use Rattle.cascade.specs.Record.{slot_count, record_count, main_record, before_record, after_record, ComputedStyle, Formed, record_in, slot_of, slot_in, empty_record, empty_style, Declared, inherit_by, Handed, handed_by, handed_slot, handed_on, fill_record, fill_pseudo, finish_by}
-use Rattle.cascade.specs.Row.{record_width, style_row_width, record_place, slot_place, slot_numbers, slots_numbers, record_numbers, row_of, slot_at, record_at, style_at, AllFine, RowFine, present_flag, present_row, merge_row_by, inherited_row, handed_says, handed_at, filled_row, filled_pseudo, finished_row, Finished}
+use Rattle.cascade.specs.Row.{record_width, style_row_width, record_place, slot_place, slot_numbers, slots_numbers, record_numbers, row_of, slot_at, record_at, style_at, AllFine, RowFine, RowRoom, present_flag, present_row, merge_row_by, inherited_row, handed_says, handed_at, filled_row, filled_pseudo, finished_row, Finished}
 use Rattle.cascade.proofs.Windows.{all-wiped}
 use Rattle.cascade.proofs.RowLaws.{flag_one, slot-there, same-windows, Which, is_main, is_before, is_after, which}
 use Rattle.cascade.proofs.RowBack.{same-fine, row-long, row_fine, row_back, style-back, empty-formed, merges-view, merges-fine}
@@ -201,8 +201,8 @@ pub finished-by-crate : (k : Cascade) (h : Handed Value) (xs : List ℕ) → k �
 finished-by-crate k h xs i = rw i (unfold finished_row finish_by in record { numbers = refl; meaning = refl })
 
 -- in the book order the main record is filled, then the others
-pub finished-in-book-order : (k : Cascade) (h : Handed Value) (xs a b ys : List ℕ) → k ≡ Book → length xs ≡ style_row_width → a ≡ filled_row main_record h xs → b ≡ filled_pseudo before_record a → ys ≡ filled_pseudo after_record b
+pub finished-in-book-order : (k : Cascade) (h : Handed Value) (xs a b ys : List ℕ) → k ≡ Book → RowRoom xs → a ≡ filled_row main_record h xs → b ≡ filled_pseudo before_record a → ys ≡ filled_pseudo after_record b
     → Finished k h xs ys
 finished-in-book-order k h xs a b ys i room e f g =
     let n : ys ≡ finished_row Book h xs = unfold finished_row in (g ∙ ap (filled_pseudo after_record) (f ∙ ap (filled_pseudo before_record) e)) in
-    rw i (record { numbers = n; meaning = ap style_at n ∙ finished-view Book h xs (omega (arith, room)) })
+    rw i (record { numbers = n; meaning = ap style_at n ∙ finished-view Book h xs room.room })

@@ -2,7 +2,6 @@
 use mathlib.Core.Path.{◌≡◌, refl, sym, ap, ◌∙◌}
 use mathlib.Core.Bool.{Bool, true, false}
 use mathlib.Core.List.{List}
-use native.Mathlib.Omega.{arith}
 use Prim.Native.Nat.{ℕ, ◌≤◌, ◌<◌}
 use lib.ListN.{length, set}
 use lib.Seq.{sets}
@@ -14,7 +13,7 @@ use Rattle.cascade.specs.declared.slots.Cascade.{Cascade}
 use Rattle.cascade.specs.declared.slots.Slot as slots
 use Rattle.cascade.specs.Slot.{Candidate, Slot, update_by, slot_by}
 use Rattle.cascade.specs.Record.{slot_count, record_count, update_style, Declared, is_named, merge_by}
-use Rattle.cascade.specs.Row.{style_row_width, record_place, slot_place, slot_numbers, slot_at, style_at, update_row, merge_row_by, Merged}
+use Rattle.cascade.specs.Row.{style_row_width, record_place, slot_place, slot_numbers, slot_at, style_at, update_row, merge_row_by, RowRoom, Merged}
 use Rattle.cascade.proofs.RowLaws.{update-long, update-view}
 
 -- ---- which declarations name a slot
@@ -61,10 +60,10 @@ module _ (u : Slot Value → Candidate Value → Slot Value) (xs : List ℕ) (d 
   merge-nothing e = pick-false _ _ _ _ e refl
 
 -- ---- by the update of a cascade
-module _ (c : Cascade) (xs ys : List ℕ) (d : Declared Value) (h : length xs ≡ style_row_width) where
+module _ (c : Cascade) (xs ys : List ℕ) (d : Declared Value) (h : RowRoom xs) where
   -- numbers that are those of the merged row are the merge, as its style is the merged one
   by-numbers : ys ≡ merge_row_by (update_by c) xs d → Merged c xs ys d
-  by-numbers e = record { numbers = e; meaning = ap style_at e ∙ merge-view (update_by c) xs d (omega (arith, h)) }
+  by-numbers e = record { numbers = e; meaning = ap style_at e ∙ merge-view (update_by c) xs d h.room }
 
   -- a slot taken out, updated and put back
   pub merged : (old new : slots.Slot) → d.pseudo < record_count → d.slot < slot_count → slot_by old ≡ slot_at xs (slot_place d.pseudo d.slot) → slot_by new ≡ update_by c (slot_by old) d.candidate

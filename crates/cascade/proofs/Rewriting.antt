@@ -14,7 +14,7 @@ use Rattle.syntax.specs.Layout.{flag_of}
 use Rattle.cascade.specs.declared.slots.Cascade.{Cascade}
 use Rattle.cascade.specs.declared.slots.Cascade.TheVariants.{Crate, Book}
 use Rattle.cascade.specs.Record.{slot_count, empty_record, empty_style, inherit, inherit_by}
-use Rattle.cascade.specs.Row.{record_width, style_row_width, read_slot, windows, record_at, style_at, present_flag, present_row, inherited_row, Inherited, Emptied}
+use Rattle.cascade.specs.Row.{record_width, style_row_width, read_slot, windows, record_at, style_at, RowRoom, present_flag, present_row, inherited_row, Inherited, Emptied}
 use Rattle.cascade.proofs.RowLaws.{record_same, style-same, flag_one, same-windows, same-record}
 
 -- what was stored there, number by number
@@ -80,21 +80,21 @@ empty-view xs h = all_same ∙ empty-row
 
 -- ---- what the functions leave
 -- the main record made present
-pub inherited-by-crate : (k : Cascade) (xs ys : List ℕ) → k ≡ Crate → length xs ≡ style_row_width → ys ≡ set xs 0 present_flag → Inherited k xs ys
+pub inherited-by-crate : (k : Cascade) (xs ys : List ℕ) → k ≡ Crate → RowRoom xs → ys ≡ set xs 0 present_flag → Inherited k xs ys
 inherited-by-crate k xs ys i h e =
     let n : ys ≡ inherited_row Crate xs = unfold inherited_row in unfold present_row in e in
-    rw i (record { numbers = n; meaning = ap style_at n ∙ (unfold inherited_row in unfold inherit_by in present-view xs (omega (arith, h))) })
+    rw i (record { numbers = n; meaning = ap style_at n ∙ (unfold inherited_row in unfold inherit_by in present-view xs h.room) })
 
 -- the style in it is one in which nothing is declared, its main record present
 pub begin-view : (xs : List ℕ) → style_row_width ≤ length xs → style_at (present_row (wiped 0 style_row_width xs)) ≡ inherit empty_style
 begin-view xs h = present-view (wiped 0 style_row_width xs) (omega (arith, h, length-wiped 0 style_row_width xs)) ∙ ap inherit (empty-view xs h)
 
 -- the row wiped, and the main record present
-pub inherited-in-book-order : (k : Cascade) (xs a ys : List ℕ) → k ≡ Book → length xs ≡ style_row_width → a ≡ wiped 0 style_row_width xs → ys ≡ set a 0 present_flag → Inherited k xs ys
+pub inherited-in-book-order : (k : Cascade) (xs a ys : List ℕ) → k ≡ Book → RowRoom xs → a ≡ wiped 0 style_row_width xs → ys ≡ set a 0 present_flag → Inherited k xs ys
 inherited-in-book-order k xs a ys i h e f =
     let n : ys ≡ inherited_row Book xs = unfold inherited_row in unfold present_row in (f ∙ ap (λ (r : List ℕ). set r 0 present_flag) e) in
-    rw i (record { numbers = n; meaning = ap style_at n ∙ (unfold inherited_row in unfold inherit_by in begin-view xs (omega (arith, h))) })
+    rw i (record { numbers = n; meaning = ap style_at n ∙ (unfold inherited_row in unfold inherit_by in begin-view xs h.room) })
 
 -- zeros written over a row leave the row of nothing declared
-pub emptied : (xs ys : List ℕ) → length xs ≡ style_row_width → ys ≡ wiped 0 style_row_width xs → Emptied xs ys
-emptied xs ys h e = record { numbers = e; meaning = ap style_at e ∙ empty-view xs (omega (arith, h)) }
+pub emptied : (xs ys : List ℕ) → RowRoom xs → ys ≡ wiped 0 style_row_width xs → Emptied xs ys
+emptied xs ys h e = record { numbers = e; meaning = ap style_at e ∙ empty-view xs h.room }

@@ -59,6 +59,16 @@ all-wiped xs n e =
     ∙ ap (λ (r : List ℕ). zs ++ r) (sym (drop_of_length-le xs {i = 0 + length zs} (omega (arith, e, l))))
     ∙ sym (sets-eq zs xs 0 (omega (arith, e, l)))
 
+-- zeros in place of the first n numbers
+pub front-wiped : (xs ys : List ℕ) (n : ℕ) → n ≤ length xs → ys ≡ replicate (length (take n xs)) 0 → ys ++ drop n xs ≡ wiped 0 n xs
+unfolding filled_part
+front-wiped xs ys n h e =
+    let zs : List ℕ = replicate n 0 in
+    let l : 0 + length zs ≡ n = omega (arith, length-replicate {A = ℕ} n 0) in
+    ap (λ (r : List ℕ). r ++ drop n xs) (e ∙ ap (λ (k : ℕ). replicate k 0) (length-take-le n xs h))
+    ∙ ap (λ (k : ℕ). zs ++ drop k xs) (sym l)
+    ∙ sym (sets-eq zs xs 0 (omega (arith, l, h)))
+
 -- a part copied over another
 pub part-copied : (xs : List ℕ) (from to n : ℕ) → from + n ≤ length xs → to + n ≤ length xs → copy_within xs from (from + n) to ≡ sets xs to (take n (drop from xs))
 part-copied xs from to n h l =

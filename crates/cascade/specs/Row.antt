@@ -148,7 +148,11 @@ pub record RowFine (xs : List ℕ) : Type 0 where
   pub before : RecordFine xs (record_place before_record)
   pub after : RecordFine xs (record_place after_record)
 
--- ---- what is asked of two rows in one store: that the one stands before the other, and both have room
+-- ---- what is asked of a lent row: that a style has room
+pub record RowRoom (xs : List ℕ) : Type 0 where
+  pub room : style_row_width ≤ length xs
+
+-- and of two rows in one store: that the one stands before the other, and both have room
 pub record TwoRooms (xs : List ℕ) (from to : ℕ) : Type 0 where
   pub apart : from + style_row_width ≤ to
   pub room : to + style_row_width ≤ length xs

@@ -4,7 +4,7 @@ ghost use Rattle.std.proofs.lemmas.List.Edits.{sets};
 ghost use mathlib.Core.List.{foldl};
 ghost use Rattle.cascade.specs.Slot.{slot_by, fill_update};
 ghost use Rattle.cascade.specs.Record.{record_count, slot_count, handed_slot};
-ghost use Rattle.cascade.specs.Row.{slot_at, slot_numbers, record_place, slot_place, present_flag, style_row_width, merge_row_by, handed_says, handed_at, filled_row, filled_pseudo, TwoRooms, Merged, Inherited, Finished, Emptied};
+ghost use Rattle.cascade.specs.Row.{slot_at, slot_numbers, record_place, slot_place, present_flag, style_row_width, merge_row_by, handed_says, handed_at, filled_row, filled_pseudo, RowRoom, TwoRooms, Merged, Inherited, Finished, Emptied};
 
 use crate::slots::{Candidate, Cascade, Slot, Weight};
 use crate::specificity::Specificity;
@@ -57,7 +57,7 @@ pub const AFTER: usize = PSEUDO_AFTER as usize;
 
 pub const STYLE_ROW_WIDTH: usize = RECORD_COUNT * RECORD_WIDTH;
 
-// It is lent with its length in its type.
+// An array of just these numbers. What is in this file takes a row of any slice that begins with them, and leaves what stands behind.
 pub type StyleRow = [u32; STYLE_ROW_WIDTH];
 
 // What an element hands on in the book order to its children and to its own pseudo elements, from its main record.
@@ -85,7 +85,8 @@ impl SlotPlace {
     }
 
     // The slot that stands there.
-    fn read(self, row: &StyleRow) -> Slot
+    fn read(self, row: &[u32]) -> Slot
+        requires { RowRoom row.now }
         ensures { slot_by result ≡ slot_at row.now (slot_place self.pseudo self.slot) }
     {
         let at = self.start();
@@ -112,7 +113,8 @@ impl SlotPlace {
     }
 
     // The slot is put back there, and its record is present.
-    fn put_back(self, row: &mut StyleRow, updated: Slot)
+    fn put_back(self, row: &mut [u32], updated: Slot)
+        requires { RowRoom row.old }
         ensures { row.new ≡ set (sets row.old (slot_place self.pseudo self.slot) (slot_numbers (slot_by updated))) (record_place self.pseudo) present_flag }
     {
         let at = self.start();
@@ -122,7 +124,8 @@ impl SlotPlace {
 
     // The slot there filled from one that is handed on. Two lines are all that this and `merge_computed_style` share, by another update each, of which a
     // function for both would owe what its closure ensures.
-    fn fill(self, row: &mut StyleRow, from: Slot)
+    fn fill(self, row: &mut [u32], from: Slot)
+        requires { RowRoom row.old }
         ensures { row.new ≡ foldl (merge_row_by fill_update) row.old (handed_slot self.pseudo self.slot (slot_by from)) }
     {
         if let Some(handed) = from.held {
@@ -155,13 +158,14 @@ fn numbers_of(slot: Slot) -> [u32; SLOT_WIDTH]
 
 // One style of an origin and a specificity, as the cascade merges it. One for a record or a slot that there is not changes nothing.
 pub fn merge_computed_style(
-    row: &mut StyleRow,
+    row: &mut [u32],
     cascade: Cascade,
     pseudo: usize,
     origin: u32,
     spec: Specificity,
     style: StyleNumbers,
 )
+    requires { RowRoom row.old }
     ensures { Merged cascade row.old row.new (record { pseudo = pseudo; slot = style.slot; candidate = record { weight = record { important = style.important; origin = origin; spec = spec }; value = style.value } }) }
 {
     let slot = style.slot as usize;
@@ -193,18 +197,20 @@ pub fn copy_within(rows: &mut [u32], parent: usize, child: usize)
 
 // The row that a child begins with, in place of its parent's: in the crate's cascade all of it, in the book order nothing. A `match`, here and in `finish`: the
 // definitions go by the same two cases, and nothing else is to be handed on as a function.
-pub fn inherit(row: &mut StyleRow, cascade: Cascade)
+pub fn inherit(row: &mut [u32], cascade: Cascade)
+    requires { RowRoom row.old }
     ensures { Inherited cascade row.old row.new }
 {
     match cascade {
         Cascade::Crate => {}
-        Cascade::Book => row.fill(0), // all three records
+        Cascade::Book => row[..STYLE_ROW_WIDTH].fill(0), // all three records
     }
     row[MAIN * RECORD_WIDTH] = FLAG_TRUE;
 }
 
 // What the element of a row hands on in the book order.
-pub fn handed_on(row: &StyleRow) -> Handed
+pub fn handed_on(row: &[u32]) -> Handed
+    requires { RowRoom row.now }
     ensures { handed_says result ≡ handed_at row.now }
 {
     let color = SlotPlace {
@@ -227,8 +233,8 @@ pub fn handed_on(row: &StyleRow) -> Handed
 }
 
 // The slots of a record that inherit.
-fn fill_record(row: &mut StyleRow, pseudo: usize, from: Handed)
-    requires { (pseudo < record_count) }
+fn fill_record(row: &mut [u32], pseudo: usize, from: Handed)
+    requires { RowRoom row.old × (pseudo < record_count) }
     ensures { row.new ≡ filled_row pseudo (handed_says from) row.old }
 {
     let color = SlotPlace {
@@ -249,8 +255,8 @@ fn fill_record(row: &mut StyleRow, pseudo: usize, from: Handed)
 }
 
 // Those of a pseudo record, from the element's own main record, if a rule has made it present.
-fn fill_pseudo(row: &mut StyleRow, pseudo: usize)
-    requires { (pseudo < record_count) }
+fn fill_pseudo(row: &mut [u32], pseudo: usize)
+    requires { RowRoom row.old × (pseudo < record_count) }
     ensures { row.new ≡ filled_pseudo pseudo row.old }
 {
     if row[pseudo * RECORD_WIDTH] == FLAG_TRUE {
@@ -260,7 +266,8 @@ fn fill_pseudo(row: &mut StyleRow, pseudo: usize)
 }
 
 // What an element inherits where nothing is declared, behind all that is declared: in the crate's cascade it began with it.
-pub fn finish(row: &mut StyleRow, cascade: Cascade, parent: Handed)
+pub fn finish(row: &mut [u32], cascade: Cascade, parent: Handed)
+    requires { RowRoom row.old }
     ensures { Finished cascade (handed_says parent) row.old row.new }
 {
     match cascade {
@@ -274,8 +281,9 @@ pub fn finish(row: &mut StyleRow, cascade: Cascade, parent: Handed)
 }
 
 // The row in which nothing is declared.
-pub fn clear_row(row: &mut StyleRow)
+pub fn clear_row(row: &mut [u32])
+    requires { RowRoom row.old }
     ensures { Emptied row.old row.new }
 {
-    row.fill(0);
+    row[..STYLE_ROW_WIDTH].fill(0);
 }

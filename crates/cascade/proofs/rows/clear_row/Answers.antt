@@ -1,9 +1,8 @@
--- Every number of the row is zero.
-use mathlib.Core.Path.{◌∙◌}
+-- As many numbers as a row has are zero.
 use borrow.Author.Rules.{rules}
-use Rattle.cascade.proofs.Windows.{all-wiped}
+use Rattle.cascade.proofs.Windows.{front-wiped}
 use Rattle.cascade.proofs.Rewriting.{emptied}
 use Rattle.cascade.proofs.rows.clear_row.Goals as goal
 
 pub returns : goal.returns
-returns c = emptied _ _ c.told-row (c.fill.ensures.after (search rules) ∙ all-wiped _ _ c.told-row)
+returns c = emptied _ _ c.requires (front-wiped _ _ _ c.requires.room (c.fill.ensures.after (search rules)))

@@ -13,7 +13,7 @@ pub returns-then-pseudo-ge-RECORD_COUNT : goal.returns-then-pseudo-ge-RECORD_COU
 unfolding is_named and
 returns-then-pseudo-ge-RECORD_COUNT c =
     let e : is_named c.args.pseudo c.args.style.slot ≡ false = grind (arith, common_steps) in
-    merged-nothing _ _ _ _ c.told-row e refl
+    merged-nothing _ _ _ _ c.requires e refl
 
 pub returns : goal.returns
 returns c = search (rules, merged)
