@@ -243,7 +243,9 @@ impl ElementCall<'_, '_> {
         ensures left { left_in (numbers_of result) out.new stores.new
             ≡ styled_left_of self.now.call.sheets self.now.call.cascade self.now.call.settings (path_in self.now.element.page self.now.element.row) out.old stores.old }
     {
-        let room = self.call.sheets.bytes() + path_room(self.element);
+        let page = self.element.page;
+        let row = self.element.row;
+        let room = self.call.sheets.bytes() + path_room(page.nodes, page.attributes, row);
         if stores.suffice(room) {
             self.style_front(out, stores, room)
         } else {
