@@ -78,7 +78,7 @@ pub fn compile(
     ensures same { SameStores stores.old stores.new }
     ensures buffers_after { leaving (numbers_of result) compiled.new stores.new ≡ compile_call_of sheets.entry compiled.old stores.old }
 {
-    if any_too_long(sheets) {
+    if any_too_long(sheets.agent.len(), sheets.user.len(), sheets.author.len()) {
         return Err(CompileError::TooLong);
     }
     if !stores.suffice(sheets.bytes()) {

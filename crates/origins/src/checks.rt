@@ -1,19 +1,17 @@
 // What a call with three sheets asks of them before anything is written.
-ghost use Rattle.std.specs.Prelude.{◌≡◌, length};
+ghost use Rattle.std.specs.Prelude.{◌≡◌};
 ghost use Rattle.origins.specs.Checks.{any_too_long, all_valid};
 
 use characters::utf8::is_valid;
 use combinators::lent::SheetTexts;
 use sheets::sheet::SHEET_LIMIT;
 
-// Whether a sheet has more bytes than a sheet may have.
+// Whether a sheet has more bytes than a sheet may have. It is told lengths, and no texts, since nothing else is read of them.
 #[tactic(auto, unfolding(crate::specs::Checks::any_too_long, combinators::specs::Choice::or))]
-pub fn any_too_long(sheets: SheetTexts<'_>) -> bool
-    ensures { result ≡ any_too_long (length sheets.entry.agent.now) (length sheets.entry.user.now) (length sheets.entry.author.now) }
+pub fn any_too_long(agent: usize, user: usize, author: usize) -> bool
+    ensures { result ≡ any_too_long agent user author }
 {
-    sheets.agent.len() > SHEET_LIMIT
-        || sheets.user.len() > SHEET_LIMIT
-        || sheets.author.len() > SHEET_LIMIT
+    agent > SHEET_LIMIT || user > SHEET_LIMIT || author > SHEET_LIMIT
 }
 
 // Whether all sheets are UTF-8.

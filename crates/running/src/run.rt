@@ -7,7 +7,7 @@ ghost use Rattle.running.specs.RunAnswer.{numbers_of, left_in, run_refusal, ran_
 
 use crate::input::RunInput;
 use crate::rows::run_rows;
-use crate::suffices::run_suffices;
+use crate::suffices::lent_suffices;
 use cascade::rows::STYLE_ROW_WIDTH;
 use combinators::lent::Stores;
 use combinators::refusals::{Refusal, SHORT_STORE, TOO_LONG, refused};
@@ -116,7 +116,7 @@ pub fn run(
     if input.compiled.len() > COMPILED_LIMIT {
         return Err(RunError::TooLong);
     }
-    if !run_suffices(input, rows, state, stores) {
+    if !lent_suffices(input, rows, state, stores) {
         return Err(RunError::ShortStore);
     }
     run_checked(input, rows, state, stores)

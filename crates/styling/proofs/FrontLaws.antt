@@ -1,115 +1,170 @@
 -- What the path of a row asks for is enough for it, and what styling leaves in the fronts of the stores, with zeros behind them, it leaves in the whole.
 use mathlib.Core.Path.{◌≡◌, refl, ap, sym, ◌∙◌}
-use mathlib.Core.List.{List, ◌∷◌, ◌++◌, append_assoc}
-use Prim.Native.Nat.{ℕ, suc, ◌+◌, ◌-◌, ◌*◌, ◌≤◌, ◌<◌}
-use native.Mathlib.Nat.{zero-add}
+use mathlib.Core.Bool.{Bool, true, false}
+use mathlib.Core.List.{List, [], ◌∷◌, ◌++◌, append_assoc}
+use Prim.Native.Nat.{ℕ, zero, suc, ◌+◌, ◌-◌, ◌*◌, ◌≤◌, ◌<◌}
 use native.Mathlib.Omega.{arith}
-use lib.ListN.{length, take, drop, replicate, length-append, length-replicate, replicate-append-replicate}
+use borrow.Author.Tests.{ltb-true, lt-ltb, le-ltb}
+use lib.Dec.{ltb}
+use lib.ListN.{length, take, drop, replicate, length-append, length-take, length-replicate, replicate-append-replicate}
 use lib.Seq.{drop_at, length-take-le}
-use Rattle.std.proofs.Common.{min}
+use Rattle.combinators.specs.Choice.{pick, is}
 use Rattle.combinators.specs.LeastLengths.{text_least, number_least, Least}
+use Rattle.combinators.specs.Part.{part}
 use Rattle.combinators.specs.Store.{cleared}
 use Rattle.combinators.proofs.Cleared.{length-cleared, cleared-is}
+use Rattle.combinators.proofs.Rules.{pick_true, pick-false, pick-holds}
 use Rattle.syntax.specs.Stream.{texts_many}
 use Rattle.sheets.specs.SheetAnswer.{padded}
 use Rattle.origins.specs.Checks.{Lent}
 use Rattle.origins.specs.Reading.{Sheets, rules, panicked}
 use Rattle.cascade.specs.declared.slots.Cascade.{Cascade}
-use Rattle.page.specs.declared.lent.Page as code
-use Rattle.page.specs.Lent.{element_in, path_in}
+use Rattle.page.specs.Ancestors.{ancestors_of, line_of}
 use Rattle.page.specs.Path.{Attribute, Path}
-use Rattle.page.specs.PathOf.{attributes_from}
-use Rattle.page.specs.Rows.{node_at, attribute_value}
-use Rattle.matching.specs.Rows.{Rooted}
-use Rattle.matching.proofs.PathLaws.{top-path, other_path, parent-rooted}
+use Rattle.page.specs.PathOf.{attributes_from, element_at, elements_of, path_of}
+use Rattle.page.specs.Rows.{node_at, element_kind, attribute_at, attribute_value, number_bound}
+use Rattle.page.proofs.Ancestry.{top-ancestors, below-ancestors}
 use Rattle.styles.specs.declared.settings.Settings.{Settings}
 use Rattle.styles.specs.Room.{values_of, values_along, attributes_along}
 use Rattle.styles.specs.Said.{Rules}
 use Rattle.styles.specs.StyleCall.{call_store}
+use Rattle.styles.proofs.Room.{attributes-counted}
 use Rattle.styling.specs.StyleAnswer.{StyleLeft, zeroed, answered, styled_left}
 use Rattle.styling.specs.Styling.{CallLent}
-use Rattle.styling.specs.Fronts.{attributes_asked, path_asked, most_counted, FrontLent}
+use Rattle.styling.specs.Fronts.{room_limit, attribute_more, room_most, attributes_room, rows_room, Totals, FrontLent}
 use Rattle.styling.proofs.StyleCalls.{left_by}
 
--- ---- `attributes_room`: the total so far and what is left to add come to what all attributes ask for, as far as that can be counted
-pub record Adding (attributes text : List ℕ) (count total at left : ℕ) : Type 0 where
-  pub same : min (total + attributes_asked (attributes_from attributes text left at)) most_counted ≡ min (attributes_asked (attributes_from attributes text count 0)) most_counted
-  pub most : total ≤ most_counted
+-- ---- `attributes_room`: what is left to add gives what the whole does
+pub record Adding (attributes : List ℕ) (first count start total at left : ℕ) : Type 0 where
+  pub same : attributes_room attributes left at total ≡ attributes_room attributes count first start
+  pub most : total ≤ room_most
 
 -- before the first attribute all are left
-pub add_begin : (attributes text : List ℕ) (count n : ℕ) → n ≡ count → Adding attributes text count 0 0 n
-add_begin attributes text count n e = rw e (record { same = ap (λ (k : ℕ). min k most_counted) (zero-add (attributes_asked (attributes_from attributes text count 0))); most = omega arith })
+pub add_begin : (attributes : List ℕ) (first count start left : ℕ) → left ≡ count → Totals first count start → Adding attributes first count start start first left
+add_begin attributes first count start left e t = rw e (record { same = refl; most = t.most })
 
-module _ (attributes text : List ℕ) (count total at left : ℕ) (i : Adding attributes text count total at left) where
+module _ (attributes : List ℕ) (first count start total at left : ℕ) (i : Adding attributes first count start total at left) where
   -- where none is left the total is that of all
-  pub add_done : left ≤ 0 → total ≡ min (attributes_asked (attributes_from attributes text count 0)) most_counted
-  unfolding attributes_from values_of texts_many
-  add_done h =
-      let e : left ≡ 0 = omega arith in
-      let s : min (total + 0) most_counted ≡ min (attributes_asked (attributes_from attributes text count 0)) most_counted = (rw e at i.same) in
-      let z : total ≡ min (total + 0) most_counted = omega (arith, i.most) in
-      z ∙ s
+  pub add_done : left ≤ 0 → (total ≡ attributes_room attributes count first start) × (total ≤ room_most)
+  unfolding attributes_room
+  add_done h = let e : left ≡ 0 = omega arith in (sym (ap (λ (k : ℕ). attributes_room attributes k at total) e) ∙ i.same, i.most)
 
-  -- one attribute more
-  pub add-on : 0 < left → (value : List ℕ) → value ≡ attribute_value attributes text at → (n : ℕ) → n ≡ min (total + length value) most_counted → (m : ℕ) → m ≡ min (n + 2) most_counted
-      → (fewer : ℕ) → fewer ≡ left - 1 → Adding attributes text count m (at + 1) fewer
-  unfolding attributes_from values_of texts_many
-  add-on h value ev n en m em fewer ef =
-      let e : left ≡ suc (left - 1) = omega arith in
-      let others : List Attribute = attributes_from attributes text (left - 1) (at + 1) in
-      let bytes : List ℕ = texts_many (λ (a : Attribute). a.value) others in
-      let s : min (total + (length (attribute_value attributes text at ++ bytes) + 2 * suc (length others))) most_counted ≡ min (attributes_asked (attributes_from attributes text count 0)) most_counted =
-      ap (λ (k : ℕ). min (total + attributes_asked (attributes_from attributes text k at)) most_counted) (sym e) ∙ i.same in
-      let o : min (m + (length bytes + 2 * length others)) most_counted ≡ min (total + (length (attribute_value attributes text at ++ bytes) + 2 * suc (length others))) most_counted =
-      omega (arith, en, em, ap length ev, length-append (attribute_value attributes text at) bytes) in
-      rw ef (record { same = o ∙ s; most = omega (arith, em) })
+  module _ (h : 0 < left) where
+    -- one is left, and others
+    one_left : left ≡ suc (left - 1)
+    one_left = omega arith
 
--- ---- `path_room`: the total so far and what the path from here up asks for come to what the whole path does
-pub record Climbing (g h : code.Page) (row total above : ℕ) : Type 0 where
-  pub page : h ≡ g
-  pub rooted : Rooted h.nodes.now above
-  pub same : min (total + path_asked (path_in h above)) most_counted ≡ min (path_asked (path_in g row)) most_counted
-  pub most : total ≤ most_counted
+    -- a total over the limit stays
+    pub add-over : room_limit < total → (total ≡ attributes_room attributes count first start) × (total ≤ room_most)
+    unfolding attributes_room
+    add-over l =
+        let e : total ≡ attributes_room attributes (suc (left - 1)) at total = pick_true _ _ _ _ (lt-ltb room_limit total l) refl in
+        (e ∙ ap (λ (k : ℕ). attributes_room attributes k at total) (sym one_left) ∙ i.same, i.most)
 
--- the climb begins at the element, with nothing
-pub climb-begin : (g : code.Page) (row : ℕ) → Rooted g.nodes.now row → Climbing g g row 0 row
-climb-begin g row r = record { page = refl; rooted = r; same = ap (λ (k : ℕ). min k most_counted) (zero-add (path_asked (path_in g row))); most = omega arith }
+    -- one attribute more
+    pub add-on : total ≤ room_limit → (n : ℕ) → n ≡ (attribute_at attributes at).value_length → n < number_bound → (fewer : ℕ) → fewer ≡ left - 1
+        → Adding attributes first count start (total + (n + attribute_more)) (at + 1) fewer
+    unfolding attributes_room
+    add-on l n en hn fewer ef =
+        let e : attributes_room attributes (suc (left - 1)) at total ≡ attributes_room attributes (left - 1) (at + 1) (total + ((attribute_at attributes at).value_length + attribute_more)) =
+        sym (pick-false _ _ _ _ (le-ltb room_limit total l) refl) in
+        rw ef (
+        record {
+          same =
+              ap (λ (k : ℕ). attributes_room attributes (left - 1) (at + 1) (total + (k + attribute_more))) en
+              ∙ sym e ∙ ap (λ (k : ℕ). attributes_room attributes k at total) (sym one_left) ∙ i.same;
+          most = omega arith;
+        })
 
-module _ (g h : code.Page) (row total above : ℕ) (i : Climbing g h row total above) where
+-- ---- `path_room`: what the rows from here up give is what all rows give
+pub record Climbing (nodes attributes : List ℕ) (row total above : ℕ) : Type 0 where
+  pub same : rows_room nodes attributes (line_of nodes above) total ≡ rows_room nodes attributes (line_of nodes row) 0
+  pub most : total ≤ room_most
+
+-- the climb begins at the row, with nothing
+pub climb-begin : (nodes attributes : List ℕ) (row : ℕ) → Climbing nodes attributes row 0 row
+climb-begin nodes attributes row = record { same = refl; most = omega arith }
+
+-- the attributes of a row can be counted
+pub climb-counted : (nodes attributes : List ℕ) (row total above : ℕ) → Climbing nodes attributes row total above → (first count : ℕ) → first < number_bound → count < number_bound → Totals first count total
+climb-counted nodes attributes row total above i first count hf hc = record { counted = omega arith; most = i.most }
+
+module _ (nodes attributes : List ℕ) (row total above : ℕ) (i : Climbing nodes attributes row total above) (first count : ℕ) (ef : first ≡ (node_at nodes above).first_attribute) (ec : count ≡ (node_at nodes above).attribute_count)
+    (more : ℕ) (em : more ≡ attributes_room attributes count first total) (hm : more ≤ room_most) (parent : ℕ) (ep : parent ≡ (node_at nodes above).parent) where
+  -- with the attributes of a row, those above it are left
+  climbed : (above' : List ℕ) → ancestors_of nodes above ≡ above' → rows_room nodes attributes above' more ≡ rows_room nodes attributes (line_of nodes row) 0
+  unfolding rows_room
+  climbed l e =
+      ap (λ (z : List ℕ). rows_room nodes attributes z more) (sym e)
+      ∙ ap (rows_room nodes attributes (ancestors_of nodes above)) (em ∙ ap (λ (k : ℕ). attributes_room attributes k first total) ec ∙ ap (λ (k : ℕ). attributes_room attributes (node_at nodes above).attribute_count k total) ef)
+      ∙ i.same
+
   -- at the top nothing is left
-  pub climb-done : above ≡ 0 → total ≡ min (path_asked (path_in g row)) most_counted
-  unfolding values_along attributes_along
-  climb-done z =
-      let s : min (total + 0) most_counted ≡ min (path_asked (path_in g row)) most_counted = rw (top-path h.nodes.now h.attributes.now h.text.now above i.rooted z) at i.same in
-      let e : total ≡ min (total + 0) most_counted = omega (arith, i.most) in
-      e ∙ s
+  pub climb-done : above ≤ parent → (more ≡ rows_room nodes attributes (line_of nodes row) 0) × (more ≤ room_most)
+  unfolding rows_room
+  climb-done h = (climbed [] (top-ancestors nodes above (rw (← ep) h)), hm)
 
   -- below it the parent and what is above it
-  pub climb-on : ¬ (above ≡ 0) → (parent : ℕ) → parent ≡ (node_at h.nodes.now above).parent → (xs : List Attribute) → xs ≡ (element_in h above).attributes → (n : ℕ) → n ≡ min (attributes_asked xs) most_counted
-      → (m : ℕ) → m ≡ min (total + n) most_counted → Climbing g g row m parent
-  unfolding values_along attributes_along
-  climb-on z parent ep xs ex n en m em =
-      let own : List Attribute = (element_in h above).attributes in
-      let up : Path = path_in h parent in
-      let w : path_in h above ≡ element_in h above ∷ up = rw ep (other_path h.nodes.now h.attributes.now h.text.now above i.rooted z) in
-      let s : min (total + (values_of own + values_along up + 2 * (length own + attributes_along up))) most_counted ≡ min (path_asked (path_in g row)) most_counted = rw w at i.same in
-      let o : min (m + path_asked up) most_counted ≡ min (total + (values_of own + values_along up + 2 * (length own + attributes_along up))) most_counted =
-      omega (arith, em, en, ap attributes_asked ex) in
-      record { page = refl; rooted = rw i.page at (parent-rooted h.nodes.now above i.rooted z parent ep); same = ap (λ (p : code.Page). min (m + path_asked (path_in p parent)) most_counted) (sym i.page) ∙ (o ∙ s); most = omega (arith, em) }
+  pub climb-on : parent < above → Climbing nodes attributes row more parent
+  climb-on h = record { same = climbed (line_of nodes parent) (below-ancestors nodes above (rw (← ep) h) ∙ ap (line_of nodes) (sym ep)); most = hm }
+
+-- ---- it is enough
+-- a part is no longer than was asked for
+part-short : (t : List ℕ) (start size : ℕ) → length (part t start size) ≤ size
+unfolding part
+part-short t start size = omega (arith, length-take size (drop start t))
+
+-- what attribute rows ask for beside a total, up to the limit, is within what is counted
+attributes-enough : (attributes text : List ℕ) (m k at total : ℕ) → m ≤ room_limit → m ≤ total + (values_of (attributes_from attributes text k at) + 2 * k) → m ≤ attributes_room attributes k at total
+unfolding values_of attributes_from texts_many attributes_room
+attributes-enough attributes text m zero at total l h = omega arith
+attributes-enough attributes text m (suc k) at total l h =
+    let v : List ℕ = attribute_value attributes text at in
+    let others : List ℕ = texts_many (λ (a : Attribute). a.value) (attributes_from attributes text k (at + 1)) in
+    let short : length v ≤ (attribute_at attributes at).value_length = unfold attribute_value in part-short text (attribute_at attributes at).value_start (attribute_at attributes at).value_length in
+    pick-holds (λ (r : ℕ). m ≤ r) (ltb room_limit total) _ _ (λ t. let o : room_limit < total = ltb-true room_limit total t in omega arith)
+    (λ _. attributes-enough attributes text m k (at + 1) (total + ((attribute_at attributes at).value_length + attribute_more)) l (omega (arith, h, short, length-append v others)))
+
+module _ (nodes attributes text : List ℕ) where
+  -- what a row and those above it ask for is no more than its attributes do and those above it, whether it is an element or not
+  row-asks : (m row : ℕ) (rest : Path) (total : ℕ) (t : Bool)
+      → m ≤ total + (values_along (pick t (element_at nodes attributes text row ∷ rest) rest) + 2 * attributes_along (pick t (element_at nodes attributes text row ∷ rest) rest))
+      → m ≤ total + (values_of (attributes_from attributes text (node_at nodes row).attribute_count (node_at nodes row).first_attribute) + 2 * (node_at nodes row).attribute_count) + (values_along rest + 2 * attributes_along rest)
+  unfolding values_along attributes_along element_at pick
+  row-asks m row rest total true h = omega (arith, h, attributes-counted attributes text (node_at nodes row).attribute_count (node_at nodes row).first_attribute)
+  row-asks m row rest total false h = omega (arith, h)
+
+  -- what the elements among some rows ask for, up to the limit, is within what is counted of all of them
+  rows-enough : (m : ℕ) (rows : List ℕ) (total : ℕ) → m ≤ room_limit
+      → m ≤ total + (values_along (elements_of nodes attributes text rows) + 2 * attributes_along (elements_of nodes attributes text rows)) → m ≤ rows_room nodes attributes rows total
+  unfolding values_along attributes_along elements_of rows_room
+  rows-enough m [] total l h = omega arith
+  rows-enough m (row ∷ rows) total l h =
+      let n = node_at nodes row in
+      let rest : Path = elements_of nodes attributes text rows in
+      let r : ℕ = values_along rest + 2 * attributes_along rest in
+      let own : List Attribute = attributes_from attributes text n.attribute_count n.first_attribute in
+      let asks : m ≤ total + (values_of own + 2 * n.attribute_count) + r = row-asks m row rest total (is n.kind element_kind) h in
+      let one : m - r ≤ attributes_room attributes n.attribute_count n.first_attribute total = attributes-enough attributes text (m - r) n.attribute_count n.first_attribute total (omega (arith, l)) (omega (arith, asks)) in
+      rows-enough m rows (attributes_room attributes n.attribute_count n.first_attribute total) l (omega (arith, one))
+
+  -- what the path of a row asks for is within what is counted
+  path-enough : (row : ℕ) → values_along (path_of nodes attributes text row) + 2 * attributes_along (path_of nodes attributes text row) ≤ room_limit
+      → values_along (path_of nodes attributes text row) + 2 * attributes_along (path_of nodes attributes text row) ≤ rows_room nodes attributes (line_of nodes row) 0
+  unfolding path_of
+  path-enough row h = rows-enough _ (line_of nodes row) 0 h (omega arith)
 
 -- ---- what the fronts are lent for
--- what a path asks for is within what is counted, where it can be counted
-path-enough : (p : Path) → path_asked p ≤ most_counted → path_asked p ≤ min (path_asked p) most_counted
-path-enough p h = omega (arith, h)
-
 module _ {agent user author out rules₀ tokens brackets texts : List ℕ} {p : Path} (l : Lent agent user author rules₀ tokens brackets texts)
     (k : CallLent (length agent + length user + length author) p out rules₀ tokens brackets texts) where
   -- stores that suffice for the sheets and what the path asks for suffice for the call
-  pub front-lent : (more room : ℕ) → more ≡ min (path_asked p) most_counted → room ≡ length agent + length user + length author + more
-      → Least room (length rules₀) (length tokens) (length brackets) (length texts) → FrontLent agent user author p room out rules₀ tokens brackets texts
-  front-lent more room em er h =
-      let enough : path_asked p ≤ min (path_asked p) most_counted = path-enough p (omega (arith, k.few)) in
-      record { lent = l; call = k; enough = omega (arith, enough, em, er); least = h }
+  pub front-lent : (nodes attributes text : List ℕ) (row more room : ℕ) → p ≡ path_of nodes attributes text row → more ≡ rows_room nodes attributes (line_of nodes row) 0
+      → room ≡ length agent + length user + length author + more → Least room (length rules₀) (length tokens) (length brackets) (length texts)
+      → FrontLent agent user author p room out rules₀ tokens brackets texts
+  front-lent nodes attributes text row more room e em er h =
+      let few : values_along (path_of nodes attributes text row) + 2 * attributes_along (path_of nodes attributes text row) ≤ room_limit = rw (← e) (omega (arith, k.few)) in
+      let enough : values_along p + 2 * attributes_along p ≤ more = rw (em, e) (path-enough nodes attributes text row few) in
+      record { lent = l; call = k; enough = omega (arith, enough, er); least = h }
 
 -- a front of a store is as long as it is asked for
 front_long : (n : ℕ) (l m : List ℕ) → n ≤ length l → length m ≡ length l → length (take n m) ≡ n

@@ -1,45 +1,53 @@
 // How much of the stores the style of an element asks for. Callers lend room for the whole page, of which the path of one element is a small part: only
 // that is cleared before the work and again behind it, the rest once.
-ghost use Rattle.std.specs.Prelude.{◌≡◌, min};
+ghost use Rattle.std.specs.Prelude.{◌≡◌, ◌≤◌};
 ghost use Rattle.combinators.specs.Store.{cleared};
-ghost use Rattle.page.specs.Lent.{path_in};
-ghost use Rattle.page.specs.PathOf.{attributes_from};
+ghost use Rattle.page.specs.Ancestors.{line_of};
 ghost use Rattle.combinators.specs.Lent.{SameStores};
-ghost use Rattle.styling.specs.Fronts.{attributes_asked, path_asked, most_counted};
+ghost use Rattle.styling.specs.Fronts.{room_most, attributes_room, rows_room, Totals};
 
 use combinators::lent::Stores;
 use combinators::stores::fill_from;
-use matching::elements::{Attributes, Element};
+use page::check::TEXT_LIMIT;
 use page::lent::ATTRIBUTE_MORE;
-use page::rows::attribute_value;
+use page::rows::{attribute_count, first_attribute, parent_of, value_length};
 
-// What attributes ask for: the bytes of their values, and `ATTRIBUTE_MORE` for each. Here and below a sum that cannot be counted is told as the greatest number; on an accepted page
-// there is none.
-fn attributes_room(attributes: Attributes<'_>) -> usize
-    ensures { result ≡ min (attributes_asked (attributes_from attributes.entry.rows.now attributes.entry.text.now attributes.entry.count 0)) most_counted }
+// No path of a call asks for more, so that no sum grows beyond it by more than one attribute.
+const ROOM_LIMIT: usize = 3 * TEXT_LIMIT;
+
+// What attribute rows ask for at most, beside a total: their values may be cut by the end of the text.
+fn attributes_room(attributes: &[u32], first: usize, count: usize, start: usize) -> usize
+    requires { Totals first count start }
+    ensures value { result ≡ attributes_room attributes.now count first start }
+    ensures upper_bound { result ≤ room_most }
 {
-    let mut total: usize = 0;
-    for row in 0..attributes.count {
-        let value = attribute_value(attributes.rows, attributes.text, row);
-        total = total
-            .saturating_add(value.len())
-            .saturating_add(ATTRIBUTE_MORE);
+    let mut total = start;
+    for row in first..first + count {
+        if total > ROOM_LIMIT {
+            return total;
+        }
+        total += value_length(attributes, row) + ATTRIBUTE_MORE;
     }
     total
 }
 
-// What the path of an element asks for: its attributes, and those of the elements above it.
-pub(crate) fn path_room(element: Element<'_>) -> usize
-    ensures { result ≡ min (path_asked (path_in element.entry.page element.entry.row)) most_counted }
+// What a row and those above it ask for at most. It is told rows of any page, accepted or not, so it takes no `Element`.
+pub fn path_room(nodes: &[u32], attributes: &[u32], row: usize) -> usize
+    ensures value { result ≡ rows_room nodes.now attributes.now (line_of nodes.now row) 0 }
+    ensures upper_bound { result ≤ room_most }
 {
-    let page = element.page;
-    let mut above = element;
-    let mut total: usize = 0;
-    while let Some(row) = above.parent() {
-        total = total.saturating_add(attributes_room(above.attributes()));
-        above = Element { page, row };
+    let mut total = 0;
+    let mut above = row;
+    loop {
+        let first = first_attribute(nodes, above);
+        let count = attribute_count(nodes, above);
+        total = attributes_room(attributes, first, count, total);
+        let parent = parent_of(nodes, above);
+        if parent >= above {
+            return total;
+        }
+        above = parent;
     }
-    total
 }
 
 // Zeros behind the fronts of the stores. The three lengths are those that `style_front` cuts the fronts by, so each is told.

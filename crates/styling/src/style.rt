@@ -243,7 +243,9 @@ impl ElementCall<'_, '_> {
         ensures left { left_in (numbers_of result) out.new stores.new
             ≡ styled_left_of self.now.call.sheets self.now.call.cascade self.now.call.settings (path_in self.now.element.page self.now.element.row) out.old stores.old }
     {
-        let room = self.call.sheets.bytes() + path_room(self.element);
+        let page = self.element.page;
+        let row = self.element.row;
+        let room = self.call.sheets.bytes() + path_room(page.nodes, page.attributes, row);
         if stores.suffice(room) {
             self.style_front(out, stores, room)
         } else {
@@ -294,10 +296,11 @@ impl StyleCall<'_> {
         ensures left { left_in (numbers_of result) out.new stores.new
             ≡ style_of_lent self.now.cascade self.now.settings (sheets_in self.now.sheets) (page_in page.entry) row out.old stores.old }
     {
-        if any_too_long(self.sheets) {
+        let sheets = self.sheets;
+        if any_too_long(sheets.agent.len(), sheets.user.len(), sheets.author.len()) {
             return Err(StyleError::TooLong);
         }
-        if !lent_suffices(self.sheets, page, out, stores) {
+        if !lent_suffices(sheets, page, out, stores) {
             return Err(StyleError::ShortStore);
         }
         self.style_asked(page, row, out, stores)

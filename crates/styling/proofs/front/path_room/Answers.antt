@@ -1,19 +1,15 @@
--- The total so far and what the elements from here up ask for are what all of the path ask for.
-use Rattle.matching.proofs.PathLaws.{parent-before}
+-- The total so far and what the rows from here up ask for are what all rows ask for.
 use Rattle.styling.proofs.FrontLaws as laws
 use Rattle.styling.proofs.front.path_room.Goals as goal
 
-pub loop-row-init : goal.loop-row-init
-loop-row-init c = laws.climb-begin _ _ c.args.element.rooted
+pub loop-above-init : goal.loop-above-init
+loop-above-init c = laws.climb-begin _ _ _
 
-pub invariant_of-above : goal.invariant_of-above
-invariant_of-above c = record { rooted = c.loop-row.invariant.rooted }
+pub attributes_room-total-requires : goal.attributes_room-total-requires
+attributes_room-total-requires c = laws.climb-counted _ _ _ _ _ c.loop-above.invariant _ _ c.first_attribute-first.ensures.upper_bound c.attribute_count-count.ensures.upper_bound
 
-pub loop-row-smaller : goal.loop-row-smaller
-loop-row-smaller c = parent-before _ _ c.loop-row.invariant.rooted c.in-Some.ensures.1 _ c.in-Some.ensures.0
+pub returns-then-parent-above : goal.returns-then-parent-above
+returns-then-parent-above c = let t : goal.returns-then-parent-above-raw c = laws.climb-done _ _ _ _ _ c.loop-above.invariant _ _ c.first_attribute-first.ensures.value c.attribute_count-count.ensures.value _ c.attributes_room-total.ensures.value c.attributes_room-total.ensures.upper_bound _ c.parent_of-parent.ensures.value c.if-parent-above.true in record { value = t.0; upper_bound = t.1 }
 
-pub loop-row-preserved : goal.loop-row-preserved
-loop-row-preserved c = laws.climb-on _ _ _ _ _ c.loop-row.invariant c.in-Some.ensures.1 _ c.in-Some.ensures.0 _ c.attributes.ensures _ c.attributes_room.ensures _ c.saturating_add-total.ensures
-
-pub returns : goal.returns
-returns c = laws.climb-done _ _ _ _ _ c.loop-row.invariant c.in_default.ensures
+pub loop-above-preserved : goal.loop-above-preserved
+loop-above-preserved c = laws.climb-on _ _ _ _ _ c.loop-above.invariant _ _ c.first_attribute-first.ensures.value c.attribute_count-count.ensures.value _ c.attributes_room-total.ensures.value c.attributes_room-total.ensures.upper_bound _ c.parent_of-parent.ensures.value c.if-parent-above.false
