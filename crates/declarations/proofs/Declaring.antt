@@ -8,7 +8,7 @@ use native.Mathlib.Nat.{add-zero}
 use native.Mathlib.Omega.{arith}
 use lib.ListN.{length, take, drop, length-append, length-drop}
 use lib.Seq.{sets, length-sets}
-use Rattle.combinators.specs.Choice.{pick}
+use Rattle.combinators.specs.Choice.{pick, or, is}
 use Rattle.combinators.specs.Parsed.{Parsed, ok, err, on_parsed}
 use Rattle.combinators.specs.Store.{wiped}
 use Rattle.combinators.specs.Part.{part}
@@ -29,7 +29,7 @@ use Rattle.values.specs.Value.{Statement, statement_of, tokens_of, marked, value
 use Rattle.values.specs.Layout.{rows_of, texts_of, brackets_after, left, ValueLeft, value_answer, value_left, Room}
 use Rattle.values.specs.View.{tokens_at}
 use Rattle.values.specs.Property.{decl_of}
-use Rattle.values.specs.DeclAnswer.{decl_answer, text_length}
+use Rattle.values.specs.DeclAnswer.{decl_answer, text_length, kind_of, value_number, numbers_of}
 use Rattle.values.specs.KeywordAnswer.{overflow_word, overflow_meant, white_space_word, white_space_meant}
 use Rattle.std.specs.Prelude.{Option, Some, None, Result, Ok, Err}
 use Rattle.values.specs.declared.statements.Unbalanced.{Unbalanced}
@@ -40,7 +40,7 @@ use Rattle.values.proofs.ValueLaws.{rows-room, texts-room, texts-bits}
 use Rattle.values.proofs.Views.{statement-back}
 use Rattle.values.proofs.Unmarked.{tokens-count, tokens-unmarked, texts-same, Begins, texts-begin, wiped-inner, part_apart, brackets-wiped}
 use Rattle.declarations.specs.Rules.{property_of, value_behind, declaration_of}
-use Rattle.declarations.specs.DeclRow.{named_decl, shift, kept_text, kind_of, row_value, row_by}
+use Rattle.declarations.specs.DeclRow.{named_decl, shift, kept_text, row_value, row_by}
 use Rattle.declarations.specs.Leaving.{kept, kept_of, Used, used_by, text_kept, Leaves, leaves, property_answer, declaration_answer, declaration_left, PutRoom, decl_said, Put, PropertyRead, RulesRoom}
 use Rattle.declarations.specs.declared.rules.PropertyHead.{PropertyHead}
 use Rattle.declarations.specs.declared.rules.NoProperty.{NoProperty}
@@ -53,8 +53,8 @@ held-begin l f xs ys b h = record { more = b.more ++ h.more; held = h.held ∙ a
 
 -- ---- a declaration's row and text
 -- its row, from the code's numbers
-row_is : (i s f : ℕ) (d : Decl) → row_by i s f (decl_answer d) ≡ decl_row i s f d
-unfolding row_by kind_of row_value text_length decl_answer decl_row overflow_word overflow_meant overflow_number white_space_word white_space_meant white_space_number
+row_is : (i s f : ℕ) (d : Decl) → row_by i s f (numbers_of (decl_answer d)) ≡ decl_row i s f d
+unfolding row_by row_value numbers_of kind_of value_number text_length decl_answer decl_row overflow_word overflow_meant overflow_number white_space_word white_space_meant white_space_number pick or is
 row_is i s f (color c) = refl
 row_is i s f (background_color c) = refl
 row_is i s f (height z) = refl
@@ -95,22 +95,22 @@ named-textless false (unknown t) h = refl
 module _ (names : Bool) (z : List ℕ) (f n : ℕ) (name : List ℕ) (en : part z f n ≡ name) (long : length name ≡ n) (ks : List Token)
     (ht : Held z (f + n) (texts_many text_of ks)) where
   abbrev Keeps : Decl → Type 0
-  Keeps d = kept_text (decl_answer (named_decl names d)) z f n ≡ decl_text (named_decl names d)
+  Keeps d = kept_text (numbers_of (decl_answer (named_decl names d))) z f n ≡ decl_text (named_decl names d)
 
   -- a declaration without a text keeps none
   keeps-none : (d : Decl) → decl_text (named_decl names d) ≡ [] → Keeps d
-  unfolding kept_text part
+  unfolding kept_text numbers_of part
   keeps-none d e = let l = decl-length (named_decl names d) ∙ ap length e in rw (l, e)
 
   -- an unknown declaration keeps its name where names are asked for, and else no text
   keeps-unknown : (b : Bool) → names ≡ b → Keeps (unknown name)
-  unfolding kept_text shift decl_answer text_length named_decl decl_text pick part
+  unfolding kept_text shift numbers_of kind_of decl_answer text_length named_decl decl_text pick is part
   keeps-unknown true e = rw (e, long, add-zero f) en
   keeps-unknown false e = rw e
 
   -- a content keeps the texts of the value's tokens, which lie behind the name
   keeps-content : Keeps (content (texts_many text_of ks))
-  unfolding kept_text shift decl_answer text_length named_decl decl_text pick
+  unfolding kept_text shift numbers_of kind_of decl_answer text_length named_decl decl_text pick is
   keeps-content = held-part z (f + n) (texts_many text_of ks) ht
 
   -- whatever a name and tokens declare, the store keeps the declaration's text
@@ -439,7 +439,7 @@ module _ (names : Bool) (at : ℕ) (s rules : List ℕ) (place : ℕ) (tokens br
           held = rw stored (held-begin _ (fill + n) _ (texts_many text_of ks) begins (sets-held store (fill + n) (texts_of value-of.tokens) texts-inside))
 
           -- what is kept of the store is the declaration's text
-          text-is : kept_text (decl_answer (named_decl names decl)) z fill n ≡ decl_text (named_decl names decl)
+          text-is : kept_text (numbers_of (decl_answer (named_decl names decl))) z fill n ≡ decl_text (named_decl names decl)
           text-is = keeps-text names z fill n name name-is read.long ks held
 
           -- the return where a value was read: the declaration's row and text are put down, and the rest is wiped
@@ -451,15 +451,15 @@ module _ (names : Bool) (at : ℕ) (s rules : List ℕ) (place : ℕ) (tokens br
               let u = some-here in
               let D = named_decl names decl in
               let eq : q ≡ length (decl_text D) = put.kept ∙ ap text_length said-is ∙ decl-length D in
-              let er : row_by (flag i) (at + w) fill (decl_answer D) ≡ decl_row (flag (marked (tokens_of value-of.tokens)).important) (at + skip_whitespace s) fill D =
+              let er : row_by (flag i) (at + w) fill (numbers_of (decl_answer D)) ≡ decl_row (flag (marked (tokens_of value-of.tokens)).important) (at + skip_whitespace s) fill D =
               rw (u.important, ew) (row_is (flag (marked (tokens_of value-of.tokens)).important) (at + skip_whitespace s) fill D)
               in
               let ey : y ≡ sets rules place (decl_row (flag (marked (tokens_of value-of.tokens)).important) (at + skip_whitespace s) fill D) =
-              put.row ∙ ap (λ d. sets rules place (row_by (flag i) (at + w) fill d)) said-is
+              put.row ∙ ap (λ d. sets rules place (row_by (flag i) (at + w) fill (numbers_of d))) said-is
               ∙ ap (λ l. sets rules place l) er
               in
               let ez : z' ≡ sets (wiped fill (length name + length (texts_of value-of.tokens)) store) fill (decl_text D) =
-              put.left ∙ ap (λ d. sets (wiped fill (n + m) z) fill (kept_text d z fill n)) said-is ∙ rw (text-is, store-wiped u.text)
+              put.left ∙ ap (λ d. sets (wiped fill (n + m) z) fill (kept_text (numbers_of d) z fill n)) said-is ∙ rw (text-is, store-wiped u.text)
               in
               rw u.taken
               (left-ok names at s rules place tokens brackets store fill _ (used-is s v name read.reads) (v + value-of.taken) declaration

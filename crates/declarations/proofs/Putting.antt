@@ -6,7 +6,7 @@ use Prim.Native.Nat.{ℕ, ◌+◌, ◌≤◌}
 use native.Mathlib.Omega.{arith}
 use lib.ListN.{length}
 use lib.Seq.{sets}
-use Rattle.combinators.specs.Choice.{pick}
+use Rattle.combinators.specs.Choice.{pick, is}
 use Rattle.combinators.specs.Store.{wiped}
 use Rattle.combinators.specs.Part.{part}
 use Rattle.combinators.proofs.Parts.{part-le}
@@ -16,16 +16,17 @@ use Rattle.syntax.specs.Layout.{flag, decl_text}
 use Rattle.syntax.specs.Stream.{texts_many}
 use Rattle.values.specs.Property.{decl_of}
 use Rattle.values.specs.View.{tokens_at}
-use Rattle.values.specs.DeclAnswer.{decl_answer, text_length}
+use Rattle.values.specs.DeclAnswer.{decl_answer, text_length, kind_of, value_number, numbers_of}
 use Rattle.values.specs.declared.properties.Decl as declared
+use Rattle.values.specs.declared.properties.DeclNumbers.{DeclNumbers}
 use Rattle.values.proofs.DeclLaws.{Textless, decl-text}
 use Rattle.declarations.specs.DeclRow.{named_decl, named_by, shift, kept_text, Keeping, row_by, Narrow}
 use Rattle.declarations.specs.Leaving.{PutRoom, decl_said, Put}
 
 -- ---- a declaration as the code has it, without its name if asked
--- leaving out the name in the code's answer is the answer for the declaration without its name
-pub named-answer : (names : Bool) (d : Decl) → named_by names (decl_answer d) ≡ decl_answer (named_decl names d)
-unfolding named_by decl_answer named_decl pick
+-- leaving out the name in the code's answer, as numbers, is the answer for the declaration without its name
+pub named-answer : (names : Bool) (d : Decl) → named_by names (numbers_of (decl_answer d)) ≡ numbers_of (decl_answer (named_decl names d))
+unfolding named_by numbers_of kind_of value_number text_length decl_answer named_decl pick is
 named-answer names (color c) = refl
 named-answer names (background_color c) = refl
 named-answer names (height z) = refl
@@ -54,8 +55,8 @@ Bounded n t (visibility z) = Unit
 Bounded n t (unknown b) = length b ≤ n
 
 -- is among n bytes of name and t bytes behind them
-pub text-among : (names : Bool) (n t : ℕ) (d : Decl) → Bounded n t d → shift (decl_answer (named_decl names d)) n + text_length (decl_answer (named_decl names d)) ≤ n + t
-unfolding shift decl_answer named_decl text_length Bounded pick
+pub text-among : (names : Bool) (n t : ℕ) (d : Decl) → Bounded n t d → shift (numbers_of (decl_answer (named_decl names d))) n + (numbers_of (decl_answer (named_decl names d))).text ≤ n + t
+unfolding shift numbers_of kind_of value_number text_length decl_answer named_decl Bounded pick is
 text-among names n t (color c) b = omega arith
 text-among names n t (background_color c) b = omega arith
 text-among names n t (height z) b = omega arith
@@ -88,23 +89,26 @@ textless-bounded n t (unknown b) h = omega (arith, ap length h.none)
 pub decl-bounded : (name : List ℕ) (ks : List Token) (n t : ℕ) → length name ≤ n → length (texts_many text_of ks) ≤ t → Bounded n t (decl_of name ks)
 decl-bounded name ks n t h k = unfold Bounded in decl-text (Bounded n t) name ks (textless-bounded n t) h k
 
--- ---- `put_declared`: from the declaration y that the code read and named
+-- ---- `put_declared`: from the declaration x that the code read, its numbers m, and those with the name left out or not, y
 module _ (names important : Bool) {start : ℕ} {tokens : List ℕ} {count : ℕ} {store : List ℕ} {f n t : ℕ} (room : PutRoom start tokens count store f n t)
-    {v : List ℕ} (ev : v ≡ part store f n) {x y : declared.Decl} (ex : x ≡ decl_answer (decl_of v (tokens_at tokens store count))) (ey : y ≡ named_by names x) where
+    {v : List ℕ} (ev : v ≡ part store f n) {x : declared.Decl} (ex : x ≡ decl_answer (decl_of v (tokens_at tokens store count)))
+    {m y : DeclNumbers} (em : m ≡ numbers_of x) (ey : y ≡ named_by names m) where
   abbrev said : Decl
   said = decl_of (part store f n) (tokens_at tokens store count)
 
-  -- the declaration that the code has is the one that the stores say
-  said-is : y ≡ decl_said names tokens count store f n
+  -- the numbers that the code has are those of the declaration that the stores say
+  said-is : y ≡ numbers_of (decl_said names tokens count store f n)
   unfolding decl_said
-  said-is = ey ∙ ap (named_by names) (ex ∙ ap (λ w. decl_answer (decl_of w (tokens_at tokens store count))) ev) ∙ named-answer names said
+  said-is =
+      ey ∙ ap (named_by names) (em ∙ ap numbers_of (ex ∙ ap (λ w. decl_answer (decl_of w (tokens_at tokens store count))) ev))
+      ∙ named-answer names said
 
   -- its text is at most t bytes long, where it is a content, and at most n, where it is a name
   bounded : Bounded n t said
   bounded = decl-bounded (part store f n) (tokens_at tokens store count) n t (part-le store f n) room.texts
 
   -- the text to be kept lies among the n bytes of name and the t bytes behind them
-  among : shift y n + text_length y ≤ n + t
+  among : shift y n + y.text ≤ n + t
   unfolding decl_said
   among = rw said-is (text-among names n t said bounded)
 
@@ -118,10 +122,11 @@ module _ (names important : Bool) {start : ℕ} {tokens : List ℕ} {count : ℕ
 
   -- with the text moved down and the row written, the declaration is put down
   pub put-done : {rules rules' store' : List ℕ} {place : ℕ} → store' ≡ sets (wiped f (n + t) store) f (kept_text y store f n)
-      → rules' ≡ sets rules place (row_by (flag important) start f y) → Put names important start tokens count rules place store f n t (text_length y) rules' store'
+      → rules' ≡ sets rules place (row_by (flag important) start f y) → Put names important start tokens count rules place store f n t y.text rules' store'
+  unfolding numbers_of
   put-done {rules} {rules'} {store'} {place} es er =
       record {
-        kept = ap text_length said-is;
+        kept = ap (λ (d : DeclNumbers). d.text) said-is;
         row = er ∙ ap (λ d. sets rules place (row_by (flag important) start f d)) said-is;
         left = es ∙ ap (λ d. sets (wiped f (n + t) store) f (kept_text d store f n)) said-is;
       }

@@ -8,27 +8,26 @@ use lib.Seq.{sets, length-take-le}
 use Rattle.combinators.specs.Store.{filled_part, wiped}
 use Rattle.combinators.specs.Part.{part}
 use Rattle.combinators.proofs.Wiped.{sets_over, wiped-apart, wiped-add}
-use Rattle.values.specs.DeclAnswer.{text_length}
-use Rattle.values.specs.declared.properties.Decl as declared
+use Rattle.values.specs.declared.properties.DeclNumbers.{DeclNumbers}
 use Rattle.declarations.specs.DeclRow.{shift, kept_text, Keeping}
 
 -- ---- `keep_text`: the text of a declaration moved down to the fill, and zeros behind it
-module _ (d : declared.Decl) (store : List ℕ) (f n t : ℕ) (k : Keeping d store f n t) where
+module _ (d : DeclNumbers) (store : List ℕ) (f n t : ℕ) (k : Keeping d store f n t) where
   abbrev from : ℕ
   from = f + shift d n
 
   -- the part that is kept has all bytes of the declaration's text
-  length-kept : length (part store from (text_length d)) ≡ (text_length d)
+  length-kept : length (part store from d.text) ≡ d.text
   unfolding part
-  length-kept = length-take-le (text_length d) (drop from store) (omega (arith, length-drop from store, k.inside, k.among))
+  length-kept = length-take-le d.text (drop from store) (omega (arith, length-drop from store, k.inside, k.among))
 
   -- so the text is left, and zeros behind it
-  pub kept-left : (m : ℕ) → m ≡ shift d n → (y z : List ℕ) → y ≡ sets store f (part store (f + m) (text_length d)) → z ≡ wiped (f + (text_length d)) (n + t - (text_length d)) y
+  pub kept-left : (m : ℕ) → m ≡ shift d n → (y z : List ℕ) → y ≡ sets store f (part store (f + m) d.text) → z ≡ wiped (f + d.text) (n + t - d.text) y
       → z ≡ sets (wiped f (n + t) store) f (kept_text d store f n)
   unfolding kept_text
   kept-left m em y z ey ez =
-      let x = part store from (text_length d) in
-      let N = text_length d in
+      let x = part store from d.text in
+      let N = d.text in
       let M = n + t - N in
       let l = length-kept in
       let e : n + t ≡ N + M = omega (arith, k.among) in

@@ -20,7 +20,7 @@ use Rattle.values.specs.Value.{statement_of}
 use Rattle.values.specs.Layout.{texts_of, Room}
 use Rattle.values.specs.Property.{decl_of}
 use Rattle.values.specs.View.{tokens_at}
-use Rattle.values.specs.DeclAnswer.{decl_answer, text_length}
+use Rattle.values.specs.DeclAnswer.{decl_answer, text_length, numbers_of}
 use Rattle.values.specs.declared.properties.Decl as declared
 use Rattle.values.specs.ColourAnswer.{colour_answer}
 use Rattle.declarations.specs.Rules.{property_of, declaration_of, Rules, more_rules, declarations_of}
@@ -139,8 +139,8 @@ decl_said names tokens count store f n = decl_answer (named_decl names (decl_of 
 pub record Put (names important : Bool) (start : ℕ) (tokens : List ℕ) (count : ℕ) (rules : List ℕ) (place : ℕ) (store : List ℕ) (f n t r : ℕ)
     (rules' store' : List ℕ) : Type 0 where
   pub kept : r ≡ text_length (decl_said names tokens count store f n)
-  pub row : rules' ≡ sets rules place (row_by (flag important) start f (decl_said names tokens count store f n))
-  pub left : store' ≡ sets (wiped f (n + t) store) f (kept_text (decl_said names tokens count store f n) store f n)
+  pub row : rules' ≡ sets rules place (row_by (flag important) start f (numbers_of (decl_said names tokens count store f n)))
+  pub left : store' ≡ sets (wiped f (n + t) store) f (kept_text (numbers_of (decl_said names tokens count store f n)) store f n)
 
 -- ---- what is asked for: the stores' room for the text s at a byte, and where rows go
 pub record RulesRoom (s : List ℕ) (at : ℕ) (rules : List ℕ) (place : ℕ) (tokens brackets store : List ℕ) (fill : ℕ) : Type 0 where

@@ -21,7 +21,7 @@ use lexer::names::parse_ident;
 use lexer::rows::TOKEN_WIDTH;
 use lexer::whitespace::{skip_from, skip_optional_whitespace};
 use syntax::rows::DECLARATION_WIDTH;
-use values::properties::decl_of;
+use values::properties::{DeclNumbers, decl_of};
 use values::statements::{Statement, Unbalanced, Value, parse_value};
 
 // Where the value of a property starts, and the length of its name.
@@ -117,10 +117,10 @@ fn put_declared(
     let tokens = &mut *stores.tokens;
     let texts = &mut *stores.texts;
     let read = decl_of(part_of(texts, fill, length), value.tokens(tokens, texts));
-    let decl = named(read, names);
+    let decl = named(DeclNumbers::from(read), names);
     keep_text(decl, texts, fill, length, value.statement.text);
     put_declaration(decl, value.important, start, fill, stores.rules, place);
-    decl.text_length()
+    decl.text
 }
 
 // Reads the value of the property that `s` begins with, and whose name lies at `fill`. All of `s` is lent, since the declaration starts at its

@@ -70,8 +70,8 @@ zero_test (negsuc n) f = let h : n < 2 ^ 63 = f.sfits in ne_eqb (2 ^ 64 - suc n)
 pub read_back : (n : ℕ) → n < 2 ^ 63 → to_z w64 n ≡ pos n
 read_back n h = to_z-of_z {w = w64} {z = pos n} (record { sfits = h })
 
--- ---- `nth`
-module _ {a b : ℤ} {idx : ℕ} (fa : SFits w64 a) (fb : SFits w64 b) (small : Small a b idx) where
+-- ---- `nth`: x is the place as a number with a sign, of which nothing else is asked
+module _ {a b x : ℤ} {idx : ℕ} (fa : SFits w64 a) (fb : SFits w64 b) (wide : x ≡ pos idx) (small : Small a b idx) where
   -- the place less b is in size below 2^63
   offset-size : nat_abs (pos idx -ℤ b) < 2 ^ 63
   offset-size = omega (arith, sub-size (pos idx) b, small.idx-small, small.b-small)
@@ -86,7 +86,7 @@ module _ {a b : ℤ} {idx : ℕ} (fa : SFits w64 a) (fb : SFits w64 b) (small : 
 
   -- the offset as it is computed and as it is read back, and a as it is read back
   abbrev D : ℤ
-  D = to_z w64 idx -ℤ to_z w64 (of_z w64 b)
+  D = to_z w64 (of_z w64 x) -ℤ to_z w64 (of_z w64 b)
 
   abbrev DD : ℤ
   DD = to_z w64 (of_z w64 D)
@@ -96,7 +96,9 @@ module _ {a b : ℤ} {idx : ℕ} (fa : SFits w64 a) (fb : SFits w64 b) (small : 
 
   -- the offset as it is computed is the place less b
   d-is : D ≡ pos idx -ℤ b
-  d-is = ap (λ (z : ℤ). z -ℤ to_z w64 (of_z w64 b)) (read_back idx (omega (arith, small.idx-small))) ∙ ap (λ (y : ℤ). pos idx -ℤ y) (to_z-of_z fb)
+  d-is =
+      ap (λ (z : ℤ). z -ℤ to_z w64 (of_z w64 b)) (ap (λ (z : ℤ). to_z w64 (of_z w64 z)) wide ∙ read_back idx (omega (arith, small.idx-small)))
+      ∙ ap (λ (y : ℤ). pos idx -ℤ y) (to_z-of_z fb)
 
   -- the offset as it is read back from its bits is the place less b
   dd-is : DD ≡ pos idx -ℤ b

@@ -1,11 +1,16 @@
--- Words compared, and what they stand for in tables.
-use Rattle.std.proofs.Common.{◌≡◌, refl, Bool, ◌&&◌, ◌||◌, true, false, cond, eqb, ℕ, List, [], ◌∷◌, Option, Some, None, map, option_map, Bor}
+-- Words compared, what they stand for in tables, and their places there.
+use Rattle.std.proofs.Common.{◌≡◌, refl, sym, ap, ◌∙◌, Bool, ◌&&◌, ◌||◌, true, false, cond, eqb, ℕ, suc, ◌+◌, ◌≤◌, ◌<◌, add-one, add-zero, zero-add, arith, List, [], ◌∷◌, length, get_or, take, drop, drop-cons, Option, Some, None, map, option_map, Bor}
 use Rattle.std.specs.List.{find, list_any}
+use Rattle.std.proofs.lemmas.List.{drop_min}
 use lib.Pointwise.{pointwise}
+use lib.ListN.{length-take, length-drop, drop_of_length-le}
+use lib.Seq.{drop-drop}
 use Rattle.combinators.specs.Choice.{pick, is, and}
 use Rattle.combinators.specs.Word.{same_text}
 use Rattle.combinators.specs.All.{All}
-use Rattle.values.specs.Words.{Entry, Found, found, missing, lookup, on_found, entries}
+use Rattle.combinators.specs.Part.{part}
+use Rattle.combinators.proofs.Rules.{pick_true, pick-false, told}
+use Rattle.values.specs.Words.{Entry, Found, found, missing, lookup, on_found, entries, split, word_place}
 use Rattle.values.specs.Property.{any_of}
 
 -- slices that `==` compares are compared byte by byte
@@ -98,3 +103,62 @@ lookup-mapped f w (e ∷ es) = rw (lookup-mapped f w es) (go (same_text w e.word
     go : (t : Bool) (x : Found _) → pick t (found (f e.means)) (found_as f x) ≡ found_as f (pick t (found e.means) x)
     go true x = unfold pick found_as on_found in refl
     go false x = unfold pick in refl
+
+-- ---- `place_of`: the place among the words left, and those passed, is the place among all
+pub record Placing (s joined lengths : List ℕ) (at i : ℕ) : Type 0 where
+  pub left : word_place s (split joined lengths) ≡ i + word_place s (split (drop at joined) (drop i lengths))
+  pub inside : at ≤ length joined
+
+-- before the first word none is compared, and all are left
+pub placing-begin : (s joined lengths : List ℕ) → Placing s joined lengths 0 0
+placing-begin s joined lengths = record { left = sym (zero-add _); inside = omega arith }
+
+-- one word and the rest
+place-first : (s joined : List ℕ) (n : ℕ) (ns : List ℕ)
+    → word_place s (split joined (n ∷ ns)) ≡ pick (same_text s (take n joined)) 0 (suc (word_place s (split (drop n joined) ns)))
+unfolding word_place split
+place-first s joined n ns = refl
+
+-- behind a part that is cut at the end lies what lies behind the whole part
+drop-taken : (n : ℕ) (l : List ℕ) → drop (length (take n l)) l ≡ drop n l
+drop-taken n l = ap (λ k. drop k l) (length-take n l) ∙ drop_min n l
+
+module _ (s joined lengths : List ℕ) (at i : ℕ) (c : Placing s joined lengths at i) where
+  -- with no word left, the place is past the last
+  pub placing-done : i ≡ length lengths → length lengths ≡ word_place s (split joined lengths)
+  unfolding word_place split
+  placing-done e = sym (c.left ∙ rw (drop_of_length-le lengths {i = i} (omega arith)) (add-zero i) ∙ e)
+
+  -- the next word, of n bytes or as many as are left
+  module _ (h : i < length lengths) (n : ℕ) (en : n ≡ get_or lengths i 0) (word : List ℕ) (ew : word ≡ part joined at n) where
+    -- is made of the bytes that are left
+    word-is : word ≡ take (get_or lengths i 0) (drop at joined)
+    unfolding part
+    word-is = ew ∙ ap (λ k. take k (drop at joined)) en
+
+    -- it ends within the joined ones
+    pub placing-end : at + length word ≤ length joined
+    placing-end = omega (arith, c.inside, ap length word-is, length-take (get_or lengths i 0) (drop at joined), length-drop at joined)
+
+    -- it is the word that is looked for, or one behind it is
+    turn : word_place s (split joined lengths)
+        ≡ i + pick (same_text s word) 0 (suc (word_place s (split (drop (at + length word) joined) (drop (i + 1) lengths))))
+    turn =
+        let k = get_or lengths i 0 in
+        let r : drop (at + length word) joined ≡ drop k (drop at joined) =
+        sym (drop-drop (length word) at joined) ∙ ap (λ (w : List ℕ). drop (length w) (drop at joined)) word-is ∙ drop-taken k (drop at joined)
+        in
+        c.left ∙ rw (r, word-is, drop-cons lengths i 0 h, add-one i) (ap (λ x. i + x) (place-first s (drop at joined) k (drop (suc i) lengths)))
+
+    module _ (r : Bool) (er : r ≡ same_text s word) where
+      -- a word of the table that is the one sought: its place is found
+      pub placing-hit : r ≡ true → i ≡ word_place s (split joined lengths)
+      placing-hit p = sym (turn ∙ ap (λ x. i + x) (sym (pick_true _ _ _ _ (told _ _ _ er p) refl)) ∙ add-zero i)
+
+      -- a word that is another: the next one is asked
+      pub placing-more : r ≡ false → Placing s joined lengths (at + length word) (i + 1)
+      placing-more p =
+          record {
+            left = turn ∙ ap (λ x. i + x) (sym (pick-false _ _ _ _ (told _ _ _ er p) refl)) ∙ omega arith;
+            inside = placing-end;
+          }

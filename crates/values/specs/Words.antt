@@ -1,5 +1,5 @@
 -- Words, compared as fixed byte strings, and what tokens are.
-use Rattle.std.specs.Prelude.{ℕ, zero, suc, Bool, false, List, [], ◌∷◌, map}
+use Rattle.std.specs.Prelude.{ℕ, zero, suc, Bool, false, List, [], ◌∷◌, map, take, drop}
 use Rattle.std.specs.Borrow.{Bor}
 use Rattle.combinators.specs.Choice.{pick, is}
 use Rattle.combinators.specs.Word.{same_text}
@@ -47,3 +47,14 @@ row_at (e ∷ es) (suc n) = row_at es n
 -- the rows of a table as the code has them
 abbrev pub entries : {A : Type 0} → List (Bor (List ℕ) × A) → List (Entry A)
 entries rows = map (λ r. record { word = r.0.now; means = r.1 }) rows
+
+-- ---- tables of words as bytes: the words joined, and their lengths
+
+unfoldable pub split : List ℕ → List ℕ → List (List ℕ)
+split joined [] = []
+split joined (n ∷ ns) = take n joined ∷ split (drop n joined) ns
+
+-- the place of a word in a list, which is the list's length where it is not there
+unfoldable pub word_place : List ℕ → List (List ℕ) → ℕ
+word_place w [] = 0
+word_place w (x ∷ xs) = pick (same_text w x) 0 (suc (word_place w xs))

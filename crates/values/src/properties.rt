@@ -3,7 +3,7 @@ ghost use Rattle.std.specs.Prelude.{◌≡◌, List, ℕ, length, unwrap_or};
 ghost use Rattle.values.specs.Property.{decl_of};
 ghost use Rattle.values.specs.Tokens.{value_tokens};
 ghost use Rattle.values.specs.ValueAnswer.{ContentRoom};
-ghost use Rattle.values.specs.DeclAnswer.{decl_answer, text_length, decl_at, place_of};
+ghost use Rattle.values.specs.DeclAnswer.{decl_answer, text_length, kind_of, value_number, numbers_of, decl_at, place_of};
 ghost use Rattle.values.specs.declared.properties.Decl.TheVariants.{Unknown};
 
 use crate::colour_values::{parse_background_color, parse_color};
@@ -14,6 +14,10 @@ use crate::keywords::{
 };
 use crate::tokens::Tokens;
 use crate::words::lookup;
+use syntax::rows::{
+    BACKGROUND_COLOR, COLOR, CONTENT, DISPLAY, HEIGHT, MAX_HEIGHT, OVERFLOW, OVERFLOW_Y, UNKNOWN,
+    VISIBILITY, WHITE_SPACE, flag_of,
+};
 
 // A declaration. A height says whether it is zero, a display whether it is none, a visibility whether it is hidden; of a content there is the length of
 // its text, of an unknown declaration that of its name.
@@ -41,6 +45,63 @@ impl Decl {
         match self {
             Decl::Content(length) | Decl::Unknown(length) => length,
             _ => 0,
+        }
+    }
+
+    // The number of its kind.
+    #[tactic(auto, unfolding(crate::specs::DeclAnswer::kind_of))]
+    fn kind(self) -> u32
+        ensures { result ≡ kind_of self }
+    {
+        match self {
+            Decl::Color(_) => COLOR,
+            Decl::BackgroundColor(_) => BACKGROUND_COLOR,
+            Decl::Height(_) => HEIGHT,
+            Decl::MaxHeight(_) => MAX_HEIGHT,
+            Decl::Overflow(_) => OVERFLOW,
+            Decl::OverflowY(_) => OVERFLOW_Y,
+            Decl::Display(_) => DISPLAY,
+            Decl::WhiteSpace(_) => WHITE_SPACE,
+            Decl::Content(_) => CONTENT,
+            Decl::Visibility(_) => VISIBILITY,
+            Decl::Unknown(_) => UNKNOWN,
+        }
+    }
+
+    // The number of its value: what has a text has none.
+    #[tactic(auto, unfolding(crate::specs::DeclAnswer::value_number))]
+    fn value(self) -> u32
+        ensures { result ≡ value_number self }
+    {
+        match self {
+            Decl::Color(number) | Decl::BackgroundColor(number) => number,
+            Decl::Overflow(overflow) | Decl::OverflowY(overflow) => u32::from(overflow),
+            Decl::WhiteSpace(white_space) => u32::from(white_space),
+            Decl::Height(zero) | Decl::MaxHeight(zero) => flag_of(zero),
+            Decl::Display(none) => flag_of(none),
+            Decl::Visibility(hidden) => flag_of(hidden),
+            Decl::Content(_) | Decl::Unknown(_) => 0,
+        }
+    }
+}
+
+// A declaration as it goes to its row: its kind, its number, and the length of its text. Any three numbers are one, also those of no `Decl`.
+#[derive(Clone, Copy)]
+pub struct DeclNumbers {
+    pub kind: u32,
+    pub value: u32,
+    pub text: usize,
+}
+
+impl From<Decl> for DeclNumbers {
+    ghost from_gives = { λ decl numbers. numbers ≡ numbers_of decl };
+
+    #[tactic(auto, unfolding(crate::specs::DeclAnswer::numbers_of))]
+    fn from(decl: Decl) -> DeclNumbers {
+        DeclNumbers {
+            kind: decl.kind(),
+            value: decl.value(),
+            text: decl.text_length(),
         }
     }
 }

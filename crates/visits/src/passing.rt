@@ -3,7 +3,8 @@ ghost use Rattle.std.specs.Prelude.{◌≡◌, ◌≤◌, length};
 ghost use Rattle.compiled.specs.Sheet.{compiled_limit};
 ghost use Rattle.visits.specs.Passing.{passed};
 
-use crate::blocks::NO_PLACE;
+// who goes on to a next selector asks here whether there is one
+pub use crate::blocks::NO_PLACE;
 use crate::visiting::visit;
 use sweeps::elements::Row;
 

@@ -3,4 +3,4 @@ use Rattle.declarations.proofs.RowLaws as laws
 use Rattle.declarations.proofs.rows.keep_text.Goals as goal
 
 pub returns : goal.returns
-returns c = laws.kept-left _ _ _ _ _ c.requires _ c.shift_of.ensures _ _ (rw c.text_length-n.ensures at c.move_down.ensures) (rw c.text_length-n.ensures at c.fill_part.ensures)
+returns c = laws.kept-left _ _ _ _ _ c.requires _ c.shift_of.ensures _ _ c.move_down.ensures c.fill_part.ensures

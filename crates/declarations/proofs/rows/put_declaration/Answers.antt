@@ -5,4 +5,4 @@ use Rattle.declarations.proofs.rows.put_declaration.Goals as goal
 
 pub returns : goal.returns
 unfolding row_by
-returns c = sets-emitted _ _ _ _ _ (rw (c.kind_of.ensures, c.flag_of.ensures, c.value_of.ensures, c.text_length.ensures) at c.emit_all.ensures)
+returns c = sets-emitted _ _ _ _ _ (rw (c.flag_of.ensures, c.value_of.ensures) at c.emit_all.ensures)
