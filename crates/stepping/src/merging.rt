@@ -1,6 +1,7 @@
 // The styles of a selector in compiled bytes, merged into a style row.
 ghost use Rattle.std.specs.Prelude.{◌≡◌, [], ◌∷◌};
 ghost use Rattle.cascade.specs.declared.slots.Cascade.TheVariants.{Crate};
+ghost use Rattle.cascade.specs.Row.{RowRoom};
 ghost use Rattle.styles.specs.Merged.{merged_row};
 ghost use Rattle.compiled.specs.Decoded.{counted};
 ghost use Rattle.compiled.specs.Sheet.{styles_at};
@@ -11,7 +12,7 @@ ghost use Rattle.stepping.specs.Reading.{listed};
 ghost use Rattle.stepping.specs.Merging.{styles_declare, CountedLent};
 
 use crate::specificity::read_weights;
-use cascade::rows::{StyleRow, merge_computed_style};
+use cascade::rows::merge_computed_style;
 use cascade::slots::Cascade;
 use cascade::specificity::Specificity;
 use compiled::bytes::SheetBytes;
@@ -28,9 +29,10 @@ fn merge_counted(
     origin: u32,
     pseudo: u32,
     spec: Specificity,
-    out: &mut StyleRow,
+    out: &mut [u32],
 )
-    requires { CountedLent sheet.bytes.now at count }
+    requires row_room { RowRoom out.old }
+    requires counted_lent { CountedLent sheet.bytes.now at count }
     ensures { out.new ≡ merged_row Crate out.old (styles_declare origin pseudo spec (listed (counted (walked_style_at sheet.entry.bytes.now) count at))) }
 {
     let mut next = at;
@@ -58,8 +60,9 @@ fn merge_styles(
     origin: u32,
     pseudo: u32,
     spec: Specificity,
-    out: &mut StyleRow,
+    out: &mut [u32],
 )
+    requires { RowRoom out.old }
     ensures { out.new ≡ merged_row Crate out.old (styles_declare origin pseudo spec (listed (styles_at (walked_style_at sheet.entry.bytes.now) sheet.entry.bytes.now at))) }
 {
     let Ok(count) = read_number(sheet.bytes, at) else {
@@ -71,7 +74,8 @@ fn merge_styles(
 }
 
 // Merges the styles of the selector at `place`; where none reads to its end, nothing is declared.
-pub fn merge_found(sheet: SheetBytes<'_>, place: usize, out: &mut StyleRow)
+pub fn merge_found(sheet: SheetBytes<'_>, place: usize, out: &mut [u32])
+    requires { RowRoom out.old }
     ensures { out.new ≡ merged_row Crate out.old (selectors_declare (found_at sheet.entry.bytes.now (place ∷ []))) }
 {
     let Ok(head) = read_head(sheet.bytes, place, AGENT_ORIGIN) else {

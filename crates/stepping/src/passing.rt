@@ -1,6 +1,7 @@
 // The selectors of a compiled sheet at a row: by the part of its parent into its own, and at an element the styles of those that match.
 ghost use Rattle.std.specs.Prelude.{◌≡◌, [], ◌∷◌, ◌≤◌, ◌<◌, length};
 ghost use Rattle.cascade.specs.declared.slots.Cascade.TheVariants.{Crate};
+ghost use Rattle.cascade.specs.Row.{RowRoom};
 ghost use Rattle.styles.specs.Merged.{merged_row};
 ghost use Rattle.compiled.specs.Sheet.{compiled_limit};
 ghost use Rattle.sweeps.specs.Met.{handed};
@@ -13,7 +14,6 @@ ghost use Rattle.runner.specs.Run.{found_at};
 ghost use Rattle.stepping.specs.Passing.{SheetLent};
 
 use crate::merging::merge_found;
-use cascade::rows::StyleRow;
 use compiled::bytes::SheetBytes;
 use compiled::numbers::read_number;
 use hints::hints::Hint;
@@ -25,7 +25,8 @@ use visits::visiting::visit;
 
 // The selector at `place`, at a row: its block goes to the own part, and where it matches its styles are merged. Returns the place of the next selector. (Row and
 // own part are no struct: see visits/src/visiting.rt.)
-fn visit_found(row: &Row<'_>, own: &mut [u8], place: usize, out: &mut StyleRow) -> usize
+fn visit_found(row: &Row<'_>, own: &mut [u8], place: usize, out: &mut [u32]) -> usize
+    requires row_room { RowRoom out.old }
     requires few_bytes { length row.now.compiled.now ≤ compiled_limit }
     requires room { length row.now.above.now ≤ length own.old }
     requires near { place ≤ compiled_limit }
@@ -55,8 +56,9 @@ fn pass_found(
     first: usize,
     count: u32,
     element: &Handed<'_>,
-    out: &mut StyleRow,
+    out: &mut [u32],
 )
+    requires row_room { RowRoom out.old }
     requires few_bytes { length compiled.now ≤ compiled_limit }
     requires room { length above.now ≤ length own.old }
     requires near { first ≤ compiled_limit }
@@ -85,9 +87,10 @@ pub fn pass_element(
     above: &[u8],
     own: &mut [u8],
     element: &Handed<'_>,
-    out: &mut StyleRow,
+    out: &mut [u32],
 )
-    requires { SheetLent compiled.now above.now own.old }
+    requires row_room { RowRoom out.old }
+    requires sheet_lent { SheetLent compiled.now above.now own.old }
     ensures own_after { own.new ≡ (pass_at compiled.now (handed element.now ∷ []) above.now own.old).part }
     ensures out_after { out.new ≡ merged_row Crate out.old (selectors_declare (found_at compiled.now
         (pass_at compiled.now (handed element.now ∷ []) above.now own.old).matched)) }

@@ -6,7 +6,7 @@ use Rattle.stepping.proofs.StyleLaws as laws
 use Rattle.stepping.proofs.merging.merge_counted.Goals as goal
 
 pub loop-init : goal.loop-init
-loop-init c = let q : c.args.count - 0 ≡ c.args.count = omega arith in rw q (laws.styles-begin _ _ _ _ _ _ _ c.requires)
+loop-init c = let q : c.args.count - 0 ≡ c.args.count = omega arith in rw q (laws.styles-begin _ _ _ _ _ _ _ c.requires.counted_lent)
 
 pub returns-in_default : goal.returns-in_default
 returns-in_default c = laws.styles-fault _ _ _ _ _ _ _ _ _ _ c.loop.invariant (omega arith) _ c.read_style.ensures.value _ c.in_default.is

@@ -7,8 +7,8 @@ use Rattle.stepping.proofs.merging.merge_styles.Goals as goal
 pub returns-in_default : goal.returns-in_default
 returns-in_default c = laws.count_none _ _ _ c.read_number.ensures.value _ c.in_default.is _ _ _ _
 
-pub merge_counted-requires : goal.merge_counted-requires
-merge_counted-requires c = elim c.then-count-eq1.branch [
+pub merge_counted-requires-clause-counted_lent : goal.merge_counted-requires-clause-counted_lent
+merge_counted-requires-clause-counted_lent c = elim c.then-count-eq1.branch [
   | then-count-eq1-via-then-count-eq1 w ↦ laws.one-lent _ _ _ c.read_number.ensures.value _ c.in-Ok.is w.if-count-eq1.true
   | then-count-eq1-via-else-count-eq1+then-is_ok w ↦ laws.counted-lent _ _ _ c.read_number.ensures.value _ c.in-Ok.is _ w.skip_styles.ensures (sym w.is_ok.ensures.value ∙ w.if-is_ok.true)
 ]
