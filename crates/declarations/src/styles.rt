@@ -3,6 +3,7 @@
 // are 0.
 ghost use Rattle.std.specs.Prelude.{◌≡◌, List, ℕ, ◌+◌, ◌*◌, ◌≤◌, length, get_or, drop};
 ghost use Rattle.std.specs.Bool.{then_some};
+ghost use Rattle.std.specs.Option.{option_or};
 ghost use Rattle.combinators.specs.Store.{emits};
 ghost use Rattle.syntax.specs.Layout.{declaration_start, row_of_numbers, style_width};
 ghost use Rattle.declarations.specs.StyleNumbers.{no_value, added_style, own_numbers, own_numbers_at, own_row, has_value, zero_row, hidden_row, Cut, StylesLeft};
@@ -126,6 +127,16 @@ pub fn hides_overflow(rows: &[u32], at: usize) -> bool
     has_value(rows, at, OVERFLOW, OVERFLOW_Y, OVERFLOW_HIDDEN)
 }
 
+// Where the first zero height starts: as was noted if one was found, or else where the row's declaration starts, if that is one.
+fn first_zero(noted: Option<u32>, row: &[u32]) -> Option<u32>
+    ensures { result ≡ option_or noted (then_some (zero_row row.now) (get_or row.now declaration_start 0)) }
+{
+    match noted {
+        Some(start) => Some(start),
+        None => zero_height_start(row),
+    }
+}
+
 // Writes the rows of the styles that the declarations of `rows` ask for to `styles` from 0 on; how many there are. A zero height and a hidden overflow
 // among them add `display: none`, which is never important and starts where the first zero height does.
 pub fn styles_from_properties(rows: &[[u32; DECLARATION_WIDTH]], styles: &mut [u32]) -> usize
@@ -137,7 +148,7 @@ pub fn styles_from_properties(rows: &[[u32; DECLARATION_WIDTH]], styles: &mut [u
     let mut overflow_hidden = false;
     for row in rows {
         place = put_own_style(row, styles, place);
-        zero_start = zero_start.or(zero_height_start(row));
+        zero_start = first_zero(zero_start, row);
         overflow_hidden |= hides_overflow(row, 0);
     }
     match zero_start {

@@ -13,8 +13,8 @@ pub loop-row-init : goal.loop-row-init
 loop-row-init c = laws.turning-begin _ _
 
 pub loop-row-preserved : goal.loop-row-preserved
-loop-row-preserved c = laws.turning-more _ _ _ _ _ _ _ c.loop-row.invariant (omega arith) _ refl _ _ c.put_own_style-place.ensures c.put_own_style-place.auto.styles _ _ c.or-zero_start.ensures
-    c.zero_height_start.ensures _ c.hides_overflow-overflow_hidden.ensures
+loop-row-preserved c = laws.turning-more _ _ _ _ _ _ _ c.loop-row.invariant (omega arith) _ refl _ _ c.put_own_style-place.ensures c.put_own_style-place.auto.styles _ _ c.first_zero-zero_start.ensures
+    refl _ c.hides_overflow-overflow_hidden.ensures
 
 pub returns-in-Some : goal.returns-in-Some
 returns-in-Some c numbers cut = laws.styling-added _ _ _ _ _ _ _ _ (c.loop-row.invariant.by numbers cut) (omega arith) c.requires _ c.in-Some.is c.if-overflow_hidden.true _ c.added_style.ensures _ _ c.put_style.ensures
