@@ -263,3 +263,35 @@ module _ (store components nodes attributes text : List ℕ) where
                 not-below = omega (arith, d.not-below, next.higher);
                 same = tried ∙ ap (λ (x : SelectorMatch). or_else x (Above n q)) e;
               }
+
+-- ---- the loop of `named_ancestor`: names alone are asked, so the rows below are passed over whatever the attributes are
+pub record Searching (store components nodes text : List ℕ) (n row at : ℕ) : Type 0 where
+  pub rooted : Rooted nodes at
+  pub seeking : (attributes : List ℕ) → Seeking store components nodes attributes text n row at
+
+module _ (store components nodes text : List ℕ) (n row : ℕ) where
+  -- none is passed over yet
+  pub search-begin : Rooted nodes row → Searching store components nodes text n row row
+  search-begin r = record { rooted = r; seeking = λ attributes. seek-begin store components nodes attributes text n row r }
+
+  module _ (at : ℕ) (s : Searching store components nodes text n row at) where
+    -- at the document none is left
+    pub search-end : at ≡ 0 → (attributes : List ℕ) → NoneLeft store components nodes attributes text n row
+    search-end z attributes = seek-end store components nodes attributes text n row at (s.seeking attributes) z
+
+    module _ (z : ¬ (at ≡ 0)) (p : ℕ) (ep : p ≡ (node_at nodes at).parent) where
+      -- the parent may be tried next
+      pub search-found : (attributes : List ℕ) → NextAncestor store components nodes attributes text n row p
+      search-found attributes = seek-found store components nodes attributes text n row at (s.seeking attributes) z p ep
+
+      -- an element of another name is passed over
+      pub search-on : NameAt components n → (name : List ℕ) → name ≡ first_text store components (n - 1) → (b : Bool) → b ≡ same_text (name_of nodes text p) name → b ≡ false
+          → Searching store components nodes text n row p
+      search-on a name en b eb h =
+          let r : Rooted nodes p = parent-rooted nodes at s.rooted z p ep in
+          record {
+            rooted = r;
+            seeking =
+                λ attributes. seek-on store components nodes attributes text n row at (s.seeking attributes) z p ep
+                (other_name store components nodes attributes text n a p r b (eb ∙ ap (same_text (name_of nodes text p)) en) h);
+          }

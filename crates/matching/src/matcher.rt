@@ -1,5 +1,5 @@
 // Whether a selector, in component rows, matches a row of a page (`Selector::do_matches`). Row 0 is the document.
-ghost use Rattle.std.specs.Prelude.{◌≡◌, [], ◌∷◌};
+ghost use Rattle.std.specs.Prelude.{◌≡◌, List, [], ◌∷◌, ℕ};
 ghost use Rattle.page.specs.Lent.{element_in, path_in};
 ghost use Rattle.syntax.specs.RuleLayout.{component_kind_at};
 ghost use Rattle.matching.specs.Matches.{matches};
@@ -7,7 +7,7 @@ ghost use Rattle.matching.specs.Lent.{components_in, climb_in};
 ghost use Rattle.matching.specs.Rows.{component_number, component_at, components_at, first_text, second_text, SimpleAt, Rooted, attributes_pass, element_passes};
 ghost use Rattle.matching.specs.Recursion.{result_on_ancestors, match_recursively};
 ghost use Rattle.matching.specs.Climb.{NameAt};
-ghost use Rattle.matching.specs.Next.{IsNext};
+ghost use Rattle.matching.specs.Next.{IsNext, IsNextWith};
 
 use crate::components::Selector;
 use crate::elements::Element;
@@ -100,7 +100,7 @@ pub fn match_locally(selector: Selector<'_>, element: Element<'_>) -> Climbed
 // The nearest ancestor that has the name of the last component. The name is taken once, and no other row is asked for more. A `while`: it goes up by parents.
 fn named_ancestor(selector: Selector<'_>, element: Element<'_>) -> Option<usize>
     requires { NameAt selector.components.now selector.left }
-    ensures { IsNext selector.entry element.entry result }
+    ensures { (attributes : List ℕ) → IsNextWith selector.entry element.entry attributes result }
 {
     let name = selector.first_text(selector.left - 1);
     let page = element.page;
@@ -114,9 +114,11 @@ fn named_ancestor(selector: Selector<'_>, element: Element<'_>) -> Option<usize>
     None
 }
 
-// The next ancestor of a row on which the components can do more than fail locally, or an ancestor before it.
-pub(crate) fn next_ancestor(selector: Selector<'_>, element: Element<'_>) -> Option<usize>
-    ensures { IsNext selector.entry element.entry result }
+// The next ancestor of a row on which the components can do more than fail locally, or an ancestor before it. Attributes are not asked, so that it is the next
+// whatever they are.
+pub fn next_ancestor(selector: Selector<'_>, element: Element<'_>) -> Option<usize>
+    ensures next { IsNext selector.entry element.entry result }
+    ensures any_attributes { (attributes : List ℕ) → IsNextWith selector.entry element.entry attributes result }
 {
     if selector.left > 0 && selector.kind_at(selector.left - 1) == ELEMENT {
         return named_ancestor(selector, element);

@@ -18,8 +18,8 @@ match_recursively-returns-in-Descendant t c =
 
 pub match_on_ancestors-returns-in_default-match_recursively : goal.match_on_ancestors-returns-in_default-match_recursively
 match_on_ancestors-returns-in_default-match_recursively t c =
-    laws.ancestor-decides _ _ _ _ _ _ _ _ c.loop-row.invariant _ c.in-Some.ensures _ c.match_recursively.ensures c.in_default-match_recursively.not-FailsLocally
+    laws.ancestor-decides _ _ _ _ _ _ _ _ c.loop-row.invariant _ c.in-Some.ensures.next _ c.match_recursively.ensures c.in_default-match_recursively.not-FailsLocally
 
 pub match_on_ancestors-loop-row-preserved : goal.match_on_ancestors-loop-row-preserved
 match_on_ancestors-loop-row-preserved t c =
-    laws.ancestor-passed-over _ _ _ _ _ _ _ _ c.loop-row.invariant _ c.in-Some.ensures _ c.match_recursively.ensures c.in-FailsLocally.is
+    laws.ancestor-passed-over _ _ _ _ _ _ _ _ c.loop-row.invariant _ c.in-Some.ensures.next _ c.match_recursively.ensures c.in-FailsLocally.is

@@ -3,4 +3,8 @@ use Rattle.matching.proofs.ClimbLaws as laws
 use Rattle.matching.proofs.matcher.next_ancestor.Goals as goal
 
 pub returns : goal.returns
-returns c = laws.next-parent _ _ _ _ _ _ _ c.args.element.rooted c.parent.result c.parent.ensures
+returns c =
+    record {
+      next = laws.next-parent _ _ _ _ _ _ _ c.args.element.rooted c.parent.result c.parent.ensures;
+      any_attributes = λ attributes. laws.next-parent _ _ _ attributes _ _ _ c.args.element.rooted c.parent.result c.parent.ensures;
+    }

@@ -7,10 +7,10 @@ returns-in-Descendant c = (laws.reach-found _ _ _ _ _ _ c.loop-row.invariant _ c
 
 pub returns-in_err-row : goal.returns-in_err-row
 returns-in_err-row c =
-    rw c.from_residual.ensures (laws.reach-none _ _ _ _ _ _ c.loop-row.invariant _ c.match_locally.ensures c.in_default.not-Descendant c.in_err-row.ensures.unreached)
+    rw c.from_residual.ensures (laws.reach-none _ _ _ _ _ _ c.loop-row.invariant _ c.match_locally.ensures c.in_default.not-Descendant c.in_err-row.ensures.next.unreached)
 
 pub loop-row-preserved : goal.loop-row-preserved
-loop-row-preserved c = laws.reach-on _ _ _ _ _ _ c.loop-row.invariant _ c.match_locally.ensures c.in_default.not-Descendant _ c.in_ok-row.ensures.rooted c.in_ok-row.ensures.passed
+loop-row-preserved c = laws.reach-on _ _ _ _ _ _ c.loop-row.invariant _ c.match_locally.ensures c.in_default.not-Descendant _ c.in_ok-row.ensures.next.rooted c.in_ok-row.ensures.next.passed
 
 pub returns : goal.returns
 returns c = laws.reach-end _ _ _ _ _ _ c.loop-row.invariant c.loop-row-test.false
