@@ -37,6 +37,7 @@ use Rattle.runner.specs.PageRows.{row_contents, contents_before, page_rows}
 use Rattle.runner.specs.State.{depths, part_width}
 use Rattle.runner.proofs.PageContents.{contents-short}
 use Rattle.runner.proofs.PageRowLaws.{rows_long}
+use Rattle.running.specs.Ready.{texts_most}
 use Rattle.agreement.specs.Calls.{AcceptedPage}
 use Rattle.agreement.specs.LeastSuffice.{sheets_bytes, NoneLong, RoomFor, LeastSuffice}
 
@@ -67,38 +68,41 @@ part-inside d w h =
     omega arith
 
 -- ---- the texts of a page, row by row
-module _ (settings : Settings) (g : Page) where
-  abbrev attributes_of : ℕ → List Attribute
-  attributes_of i = attributes_from g.attributes g.text (node_at g.nodes i).attribute_count (node_at g.nodes i).first_attribute
+abbrev attributes_of : Page → ℕ → List Attribute
+attributes_of g i = attributes_from g.attributes g.text (node_at g.nodes i).attribute_count (node_at g.nodes i).first_attribute
 
+-- behind at most as many bytes as the rows before it have in the byte text, and two for each of their attributes, a row's values and two bytes for each of its own
+-- attributes end within the same of all rows up to it
+row-behind : (g : Page) (i fill : ℕ) → fill ≤ texts_most g i → fill + values_of (attributes_of g i) + 2 * length (attributes_of g i) ≤ texts_most g (suc i)
+unfolding bytes_before texts_end attributes_before
+row-behind g i fill h =
+    let row = node_at g.nodes i in
+    omega (
+      arith,
+      h,
+      values-short g.attributes g.text row.attribute_count row.first_attribute (bytes_before g.nodes g.attributes i + row.name_length),
+      attributes-counted g.attributes g.text row.attribute_count row.first_attribute,
+    )
+
+module _ (settings : Settings) (g : Page) where
   -- the contents of a row are at most two bytes for each of its attributes longer than their values
-  row-contents-short : (i : ℕ) → length (row_contents settings g i) ≤ values_of (attributes_of i) + 2 * length (attributes_of i)
+  row-contents-short : (i : ℕ) → length (row_contents settings g i) ≤ values_of (attributes_of g i) + 2 * length (attributes_of g i)
   unfolding row_contents element_at
   row-contents-short i =
-      pick-holds (λ (x : List ℕ). length x ≤ values_of (attributes_of i) + 2 * length (attributes_of i)) (is (node_at g.nodes i).kind element_kind) _ []
+      pick-holds (λ (x : List ℕ). length x ≤ values_of (attributes_of g i) + 2 * length (attributes_of g i)) (is (node_at g.nodes i).kind element_kind) _ []
       (λ _. inline-short settings (element_at g.nodes g.attributes g.text i)) (λ _. omega arith)
 
-  -- behind at most as many bytes as the rows before it have in the byte text, and two for each of their attributes, a row's values and two bytes for each of its own
-  -- attributes end within the same of all rows up to it
-  row-behind : (i fill : ℕ) → fill ≤ bytes_before g.nodes g.attributes i + 2 * attributes_before g.nodes i
-      → fill + values_of (attributes_of i) + 2 * length (attributes_of i) ≤ bytes_before g.nodes g.attributes (suc i) + 2 * attributes_before g.nodes (suc i)
-  unfolding bytes_before texts_end attributes_before
-  row-behind i fill h =
-      let row = node_at g.nodes i in
+  -- so the contents of the rows before a row are no more than these can leave
+  before-short : (i : ℕ) → length (contents_before settings g i) ≤ texts_most g i
+  unfolding contents_before
+  before-short zero = omega arith
+  before-short (suc i) =
       omega (
         arith,
-        h,
-        values-short g.attributes g.text row.attribute_count row.first_attribute (bytes_before g.nodes g.attributes i + row.name_length),
-        attributes-counted g.attributes g.text row.attribute_count row.first_attribute,
+        length-append (contents_before settings g i) (row_contents settings g i),
+        row-contents-short i,
+        row-behind g i (length (contents_before settings g i)) (before-short i),
       )
-
-  -- so they do behind the contents of the rows before it
-  row-short : (i : ℕ) → length (contents_before settings g i) + values_of (attributes_of i) + 2 * length (attributes_of i)
-      ≤ bytes_before g.nodes g.attributes (suc i) + 2 * attributes_before g.nodes (suc i)
-  unfolding contents_before
-  row-short zero = row-behind 0 0 (omega arith)
-  row-short (suc i) =
-      row-behind (suc i) _ (omega (arith, length-append (contents_before settings g i) (row_contents settings g i), row-contents-short i, row-short i))
 
 module _ (n : ℕ) (rules₀ tokens brackets texts₀ : List ℕ) (enough : stores_suffice n (length rules₀) (length tokens) (length brackets) (length texts₀) ≡ true) where
   -- the same for any number of bytes up to n
@@ -110,16 +114,16 @@ module _ (n : ℕ) (rules₀ tokens brackets texts₀ : List ℕ) (enough : stor
   sheets-lent s short h =
       record { within = short; least = up-to (sheets_bytes s) h }
 
-  -- the attributes of each row of an accepted page have room behind the texts of the rows before it
-  row-room : (settings : Settings) (g : Page) (code : List ℕ) → AcceptedPage g → length code ≤ compiled_limit → run_text_bytes g ≤ n → (i : ℕ) → i < node_count g.nodes
-      → InlineRoom (attributes_of settings g i) (length code) (length (contents_before settings g i)) rules₀ tokens brackets texts₀
-  row-room settings g code page few h i there =
+  -- the attributes of each row of an accepted page have room behind all that the rows before it can leave
+  row-room : (g : Page) (code : List ℕ) → AcceptedPage g → length code ≤ compiled_limit → run_text_bytes g ≤ n → (i fill : ℕ) → i < node_count g.nodes → fill ≤ texts_most g i
+      → InlineRoom (attributes_of g i) (length code) fill rules₀ tokens brackets texts₀
+  row-room g code page few h i fill there filled =
       let ok : Accepted g.nodes g.attributes g.text = accepted g.nodes g.attributes g.text page in
       let l = up-to (run_text_bytes g) h in
-      let s : length (contents_before settings g i) + values_of (attributes_of settings g i) + 2 * length (attributes_of settings g i) ≤ run_text_bytes g =
+      let s : fill + values_of (attributes_of g i) + 2 * length (attributes_of g i) ≤ run_text_bytes g =
       omega (
         arith,
-        row-short settings g i,
+        row-behind g i fill filled,
         bytes-within g.nodes g.attributes g.text ok (suc i) (omega (arith, there)),
         attributes-before-within g.nodes g.attributes g.text ok (suc i) (omega (arith, there)),
       ) in
@@ -141,7 +145,8 @@ module _ (n : ℕ) (rules₀ tokens brackets texts₀ : List ℕ) (enough : stor
         style-path = λ s g out short width h page i e.
             call-lent Crate (record { document_styles = true }) s g i out texts₀ rules₀ tokens brackets (record { within = short; row = width; least = up-to (call_bytes s g) h }) refl
             (ap (λ (r : Refusal). r.number) page) refl e;
-        run_row = row-room;
+        run_row = λ settings g code page few h i there. row-room g code page few h i (length (contents_before settings g i)) there (before-short settings g i);
+        run-behind = row-room;
         run-texts = λ settings g page h. omega (arith, contents-short settings g page, (up-to (run_text_bytes g) h).for-texts);
       }
 

@@ -18,6 +18,7 @@ use Rattle.styling.specs.Styling.{CallLent}
 use Rattle.runner.specs.LeastLengths.{run_text_bytes, state_least, rows_least}
 use Rattle.runner.specs.PageRows.{contents_before, page_contents, page_rows}
 use Rattle.runner.specs.State.{part_width, part_place}
+use Rattle.running.specs.Ready.{texts_most}
 use Rattle.agreement.specs.Calls.{AcceptedPage}
 
 -- ---- three sheets: how many bytes they have together, and none is above its limit
@@ -41,6 +42,9 @@ pub record RoomFor (n : ℕ) (rules tokens brackets texts : List ℕ) : Type 0 w
   pub run_row : (settings : Settings) (g : Page) (code : List ℕ) → AcceptedPage g → length code ≤ compiled_limit → run_text_bytes g ≤ n → (i : ℕ) → i < node_count g.nodes
       → InlineRoom (attributes_from g.attributes g.text (node_at g.nodes i).attribute_count (node_at g.nodes i).first_attribute) (length code) (length (contents_before settings g i))
       rules tokens brackets texts
+  -- and so it has behind all that the rows before it can leave in the text store, whatever they leave
+  pub run-behind : (g : Page) (code : List ℕ) → AcceptedPage g → length code ≤ compiled_limit → run_text_bytes g ≤ n → (i fill : ℕ) → i < node_count g.nodes → fill ≤ texts_most g i
+      → InlineRoom (attributes_from g.attributes g.text (node_at g.nodes i).attribute_count (node_at g.nodes i).first_attribute) (length code) fill rules tokens brackets texts
   -- and for its texts, all rows together
   pub run-texts : (settings : Settings) (g : Page) → AcceptedPage g → run_text_bytes g ≤ n → length (page_contents settings g) ≤ length texts
 
