@@ -140,7 +140,7 @@ fn match_recursively(selector: &Selector<'_>, element: &Element<'_>) -> Selector
 // What stands before a descendant combinator, the first `left` components, is tried on the parent of a row and the parent's own ancestors. Where it fails
 // completely on one of them, no other is tried: the calls are at most (components + 1) * (ancestors + 1) (law `few-calls`). The structs that a call is told
 // are made here, so that a selector without such a combinator does not wait for them, and are lent, so that they are not copied for each ancestor. Rows go up
-// by what `next_ancestor` says, and an arm returns: of three results one goes on, and the other two are the answer as they stand.
+// by what `next_ancestor` says, and an arm returns: of three results one goes on, and the other two are the answer as they stand, each in an arm that says it.
 #[cycle(matching)]
 fn match_on_ancestors(
     selector: &Selector<'_>,
@@ -157,7 +157,8 @@ fn match_on_ancestors(
     while let Some(row) = next_ancestor(before, Element { page, row: at }) {
         match match_recursively(&before, &Element { page, row }) {
             SelectorMatch::FailsLocally => at = row,
-            result => return result,
+            SelectorMatch::Matches => return SelectorMatch::Matches,
+            SelectorMatch::FailsCompletely => return SelectorMatch::FailsCompletely,
         }
     }
     SelectorMatch::FailsCompletely

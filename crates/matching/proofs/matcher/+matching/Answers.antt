@@ -16,9 +16,13 @@ match_recursively-returns-in-Descendant t c =
     let d = laws.climb-descends _ _ _ _ _ _ _ c.args.element.now.rooted _ c.match_locally.ensures c.in-Descendant.is in
     c.match_on_ancestors.ensures ∙ sym d.same
 
-pub match_on_ancestors-returns-in_default-match_recursively : goal.match_on_ancestors-returns-in_default-match_recursively
-match_on_ancestors-returns-in_default-match_recursively t c =
-    laws.ancestor-decides _ _ _ _ _ _ _ _ c.loop-row.invariant _ c.in-Some.ensures.next _ c.match_recursively.ensures c.in_default-match_recursively.not-FailsLocally
+pub match_on_ancestors-returns-in-Matches : goal.match_on_ancestors-returns-in-Matches
+match_on_ancestors-returns-in-Matches t c =
+    laws.ancestor-matches _ _ _ _ _ _ _ _ c.loop-row.invariant _ c.in-Some.ensures.next _ c.match_recursively.ensures c.in-Matches.is
+
+pub match_on_ancestors-returns-in-FailsCompletely : goal.match_on_ancestors-returns-in-FailsCompletely
+match_on_ancestors-returns-in-FailsCompletely t c =
+    laws.ancestor-fails _ _ _ _ _ _ _ _ c.loop-row.invariant _ c.in-Some.ensures.next _ c.match_recursively.ensures c.in-FailsCompletely.is
 
 pub match_on_ancestors-loop-row-preserved : goal.match_on_ancestors-loop-row-preserved
 match_on_ancestors-loop-row-preserved t c =
