@@ -23,7 +23,7 @@
  *     lent for the answer is zero beyond it. So a call takes time for each byte lent: lend the least lengths, even of larger arrays.
  *   - Of the stack a call takes little. Below, "Stack" is the most that was measured for it, with its arguments, over the longest sheets and attributes, the
  *     deepest pages and selectors and 32,768 open brackets, on a stack that ends in a page without access (tools/stack). hicsolmab_style and
- *     hicsolmab_style_book go down to their element by calling themselves, some 590 bytes for each level of the page. */
+ *     hicsolmab_style_book go down to their element by calling themselves, some 620 bytes for each level of the page. */
 #ifndef HICSOLMAB_H
 #define HICSOLMAB_H
 
@@ -255,7 +255,7 @@ typedef struct {
 /* Reads a sheet: how many rules it has, and where reading stopped. Like html2text, a reader stops for good at the first rule that it cannot read; that is an
  * answer and no refusal. `rules` and `texts` get the rules (crates/syntax/specs/RuleLayout.antt says how they lie there).
  *
- * Least lengths for HICSOLMAB_READ_SHEET_BYTES. Refuses TOO_LONG, SHORT_STORE, NOT_UTF8, PANIC. Stack: 2,272 bytes. */
+ * Least lengths for HICSOLMAB_READ_SHEET_BYTES. Refuses TOO_LONG, SHORT_STORE, NOT_UTF8, PANIC. Stack: 2,288 bytes. */
 hicsolmab_sheet_result hicsolmab_read_sheet(const uint8_t *sheet, size_t sheet_length,
                                             uint32_t *rules, size_t rules_length,
                                             uint32_t *tokens, size_t tokens_length,
@@ -301,7 +301,7 @@ typedef struct {
  * crates/compiled/specs/Sheet.antt. What `texts` gets, the texts that rules name, a caller need not look at.)
  *
  * Least lengths for HICSOLMAB_COMPILE_BYTES; `compiled` may have any length, and is too short where NO_ROOM says so. Refuses TOO_LONG, SHORT_STORE, NOT_UTF8,
- * PANIC, NO_ROOM. Stack: 3,168 bytes. */
+ * PANIC, NO_ROOM. Stack: 3,184 bytes. */
 hicsolmab_compile_result hicsolmab_compile(const uint8_t *agent, size_t agent_length,
                                            const uint8_t *user, size_t user_length,
                                            const uint8_t *author, size_t author_length,
@@ -318,7 +318,7 @@ typedef struct {
 } hicsolmab_page_result;
 
 /* Whether a page is accepted. Nothing is written. The calls below check their page themselves, by the same rules. Refuses TOO_LARGE, BAD_ROW, BAD_TEXT.
- * Stack: 352 bytes. */
+ * Stack: 336 bytes. */
 hicsolmab_page_result hicsolmab_check_page(const uint32_t *nodes, size_t nodes_length,
                                            const uint32_t *attributes, size_t attributes_length,
                                            const uint8_t *text, size_t text_length);
@@ -338,7 +338,7 @@ typedef struct {
  * its parent has, display and contents too.
  *
  * Least lengths for HICSOLMAB_STYLE_BYTES, and HICSOLMAB_STYLE_ROW_WIDTH for `out`. Refuses TOO_LONG, SHORT_STORE, NOT_UTF8, TOO_LARGE, BAD_ROW, BAD_TEXT,
- * NO_ELEMENT, PANIC. Stack: 41,952 bytes. */
+ * NO_ELEMENT, PANIC. Stack: 44,000 bytes. */
 hicsolmab_style_result hicsolmab_style(const uint8_t *agent, size_t agent_length,
                                        const uint8_t *user, size_t user_length,
                                        const uint8_t *author, size_t author_length,
@@ -357,7 +357,7 @@ hicsolmab_style_result hicsolmab_style(const uint8_t *agent, size_t agent_length
  * specificity, then what stands later. Where nothing is declared on the element for a slot, colour, white space and visibility are the parent's, with all their
  * numbers; background, display and content are empty. So an element in one that is not displayed does not say so itself. A record of `::before` or `::after` is
  * there where a rule on the element has a style for it, and takes colour, white space and visibility, where nothing is declared for them, from the element.
- * Stack: 41,952 bytes. */
+ * Stack: 44,000 bytes. */
 hicsolmab_style_result hicsolmab_style_book(const uint8_t *agent, size_t agent_length,
                                             const uint8_t *user, size_t user_length,
                                             const uint8_t *author, size_t author_length,
@@ -387,7 +387,7 @@ typedef struct {
  * `compiled`, a text that starts below c lies at compiled + start, any other at texts + (start - c). hicsolmab_content finds it.
  *
  * Least lengths for HICSOLMAB_RUN_BYTES, and HICSOLMAB_ROWS_LEAST and HICSOLMAB_STATE_LEAST. Refuses TOO_LONG, SHORT_STORE, TOO_LARGE, BAD_ROW, BAD_TEXT,
- * BAD_BYTES. Stack: 2,672 bytes. */
+ * BAD_BYTES. Stack: 2,704 bytes. */
 hicsolmab_run_result hicsolmab_run(const uint8_t *compiled, size_t compiled_length,
                                    const uint32_t *nodes, size_t nodes_length,
                                    const uint32_t *attributes, size_t attributes_length,
