@@ -23,7 +23,7 @@
  *     lent for the answer is zero beyond it. So a call takes time for each byte lent: lend the least lengths, even of larger arrays.
  *   - Of the stack a call takes little. Below, "Stack" is the most that was measured for it, with its arguments, over the longest sheets and attributes, the
  *     deepest pages and selectors and 32,768 open brackets, on a stack that ends in a page without access (tools/stack). hicsolmab_style and
- *     hicsolmab_style_book go down to their element by calling themselves, some 620 bytes for each level of the page. */
+ *     hicsolmab_style_book go down to their element by calling themselves, less than 700 bytes for each level of the page. */
 #ifndef HICSOLMAB_H
 #define HICSOLMAB_H
 

@@ -22,7 +22,7 @@ fn digit(n: u8) -> u8
     }
 }
 
-/// A byte as a pair of lower-case hexadecimal digits, written as one text: a hole `{:02x}` takes three times as long.
+/// A byte as a pair of lower-case hexadecimal digits, written as one text, which costs less than a hole `{:02x}`.
 #[derive(Clone, Copy)]
 struct HexPair(u8);
 
