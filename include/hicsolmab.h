@@ -318,7 +318,7 @@ typedef struct {
 } hicsolmab_page_result;
 
 /* Whether a page is accepted. Nothing is written. The calls below check their page themselves, by the same rules. Refuses TOO_LARGE, BAD_ROW, BAD_TEXT.
- * Stack: 336 bytes. */
+ * Stack: 320 bytes. */
 hicsolmab_page_result hicsolmab_check_page(const uint32_t *nodes, size_t nodes_length,
                                            const uint32_t *attributes, size_t attributes_length,
                                            const uint8_t *text, size_t text_length);

@@ -6,6 +6,7 @@ use Prim.Native.Nat.{ℕ, ◌+◌, ◌-◌, ◌<◌, ◌≤◌}
 use native.Mathlib.Omega.{arith}
 use lib.ListN.{length, get_or, take, drop, length-drop}
 use mathlib.Core.Bool.{true, false}
+use Rattle.std.proofs.lemmas.List.{get_or-drop}
 use Rattle.combinators.proofs.Rules.{pick-false, is-yes, is-no, at_most, above}
 use Rattle.combinators.proofs.Lists.{rest}
 use Rattle.combinators.proofs.Repeating.{Repeating, repeat-more, repeat-stop, repeat-end}
@@ -30,6 +31,11 @@ module _ (s : List ℕ) (some : ¬ (length s ≡ 0)) (a : ℕ) (ea : a ≡ get_o
   pub at_none : 0x7f < a → None ≡ lead_of a → None ≡ scalar_of s
   unfolding scalar_by
   at_none h e = sym (by_row h None e)
+
+-- what begins with a scalar value of one byte takes one
+ascii-taken : (s : List ℕ) (a : ℕ) → Some (record { taken = 1; value = a }) ≡ scalar_of s → scalar_taken s ≡ 1
+unfolding scalar_taken taken_of
+ascii-taken s a e = rw (← e) refl
 
 -- ---- `is_valid`: a turn of the loop at i, and its end
 module _ (s : List ℕ) (i : ℕ) (c : Repeating scalar_taken s i) where
@@ -61,6 +67,13 @@ module _ (s : List ℕ) (i : ℕ) (c : Repeating scalar_taken s i) where
     pub checking-stop : i < length s → r ≡ None → false ≡ valid s
     unfolding valid
     checking-stop l h = sym (is-no _ _ (λ z. let q = repeat-stop scalar_taken s i c (none h) in omega (arith, q, z)))
+
+  -- a byte of ASCII is a scalar value, and the loop goes on behind it
+  pub checking-ascii : i < length s → (a : ℕ) → a ≡ get_or s i 0 → a ≤ 0x7f → Repeating scalar_taken s (i + 1)
+  checking-ascii h a ea l =
+      let there : ¬ (length (drop i s) ≡ 0) = λ z. omega (arith, z, length-drop i s, h) in
+      let first : a ≡ get_or (drop i s) 0 0 = ea ∙ ap (λ (n : ℕ). get_or s n 0) (omega arith) ∙ sym (get_or-drop i s 0 0) in
+      repeat-more scalar_taken s i c 1 (ascii-taken (drop i s) a (at_ascii (drop i s) there a first l)) (omega (arith, h)) (λ z. omega arith)
 
   -- where the end is reached without a fault, the text is well formed
   pub checking-done : length s ≤ i → true ≡ valid s

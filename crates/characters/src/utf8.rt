@@ -156,16 +156,20 @@ pub fn scalar_at(s: &[u8]) -> Option<Taken<char>>
 }
 
 // Whether `s` is well formed, by the table above and not by `from_utf8`, which promises the library's own definition. A step is what a character takes, so
-// this is no range; behind the last character none is asked for, since most texts are short.
+// this is no range. A byte of ASCII is passed over here: most are, and with a call for each a page's check takes half as long again, or more.
 pub fn is_valid(s: &[u8]) -> bool
     ensures { result ≡ valid s.now }
 {
     let mut i = 0;
     while i < s.len() {
-        let Some(c) = scalar_at(&s[i..]) else {
-            return false;
-        };
-        i += c.taken;
+        if s[i].is_ascii() {
+            i += 1;
+        } else {
+            let Some(c) = scalar_at(&s[i..]) else {
+                return false;
+            };
+            i += c.taken;
+        }
     }
     true
 }
