@@ -7,8 +7,10 @@ use native.Mathlib.Numerals.{add-one}
 use native.Mathlib.Nat.{add-zero}
 use native.Mathlib.Omega.{arith}
 use borrow.Author.Tests.{lt-ltb, le-ltb}
-use lib.ListN.{length, set, drop, get_or, length-set, drop_of_length-le}
+use lib.ListN.{length, set, take, drop, get_or, length-set, drop_of_length-le}
 use lib.Seq.{sets, set_out, drop-cons}
+use Rattle.std.proofs.Common.{append_assoc, take_all}
+use Rattle.std.proofs.lemmas.List.{take_more_set, take_at, length-take-le, append-nil}
 use Rattle.combinators.specs.Choice.{pick}
 use Rattle.combinators.specs.Store.{Store, step, emits}
 use Rattle.combinators.proofs.Rules.{lt-or-ge}
@@ -92,6 +94,20 @@ emits-over (x ∷ xs) l f h k =
     (λ t. ap (λ (o : Store ℕ). (emits o xs).fill) (in_step l f x t)
     ∙ emits-over xs (set l f x) (f + 1) (simp length-set (omega arith)) (simp length-set (omega arith)) ∙ ap (λ (n : ℕ). n + 1) (length-set l f x))
     (λ t. ap (λ (o : Store ℕ). (emits o xs).fill) (out_step l f x t) ∙ ap (λ (o : Store ℕ). o.fill) (full l xs))
+    (lt-or-ge f (length l))
+
+-- the filled part is what stood there and what was emitted behind it, as far as the store goes
+pub filled-part : (xs l : List ℕ) (f : ℕ) → f ≤ length l
+    → take (emits (record { bytes = l; fill = f }) xs).fill (emits (record { bytes = l; fill = f }) xs).bytes ≡ take (length l) (take f l ++ xs)
+unfolding emits
+filled-part [] l f h = sym (ap (take (length l)) (append-nil (take f l)) ∙ take_all (length l) (take f l) (omega (arith, length-take-le f l h)))
+filled-part (x ∷ xs) l f h =
+    ⊎_elim
+    (λ t. ap (λ (o : Store ℕ). take (emits o xs).fill (emits o xs).bytes) (in_step l f x t) ∙ filled-part xs (set l f x) (f + 1) (simp length-set (omega arith))
+    ∙ rw (length-set l f x, take_more_set l f x t) (ap (take (length l)) (append_assoc (take f l) (x ∷ []) xs)))
+    (λ t. ap (λ (o : Store ℕ). take (emits o xs).fill (emits o xs).bytes) (out_step l f x t) ∙ ap (λ (o : Store ℕ). take o.fill o.bytes) (full l xs)
+    ∙ take_all (length l + 1) l (omega arith)
+    ∙ sym (ap (λ (k : List ℕ). take (length l) (k ++ x ∷ xs)) (take_all f l t) ∙ take_at l (x ∷ xs) (length l) refl))
     (lt-or-ge f (length l))
 
 -- ---- `emit_all`: what is left to emit at i is what was to be emitted

@@ -1,5 +1,5 @@
 -- The line that the program prints of compiled bytes: "lower-case hexadecimal pairs parted by spaces on one line".
-use Rattle.std.specs.Prelude.{ℕ, ◌+◌, ◌-◌, ◌/◌, ◌%◌, ◌≡◌, refl, List, [], ◌∷◌, ◌++◌, ltb}
+use Rattle.std.specs.Prelude.{ℕ, ◌+◌, ◌-◌, ◌*◌, ◌/◌, ◌%◌, ◌≤◌, ◌≡◌, refl, List, [], ◌∷◌, ◌++◌, ltb}
 use Prim.Native.Char.{code as ascii}
 use Rattle.combinators.specs.Choice.{pick}
 
@@ -8,6 +8,14 @@ base = 16
 
 abbrev pub decimal_base : ℕ
 decimal_base = 10
+
+-- what a byte takes of a line: its pair, and the space or the line feed behind it
+abbrev pub pair_width : ℕ
+pair_width = 3
+
+-- how many bytes are written at once; no compiled sheet has more
+abbrev pub piece_length : ℕ
+piece_length = 65536
 
 -- the digit of a number below the base
 unfoldable pub hex_digit : ℕ → ℕ
@@ -26,6 +34,14 @@ unfoldable pub hex_pairs : List ℕ → List ℕ
 hex_pairs [] = []
 hex_pairs (b ∷ []) = hex_pair b
 hex_pairs (b ∷ c ∷ r) = hex_pair b ++ (ascii " " ∷ hex_pairs (c ∷ r))
+
+-- and a byte that ends them
+abbrev pub ended_pairs : List ℕ → ℕ → List ℕ
+ended_pairs bytes end = hex_pairs bytes ++ (end ∷ [])
+
+-- they fit into so many bytes
+abbrev pub RoomFor : ℕ → ℕ → Type 0
+RoomFor count room = (1 ≤ room) × (pair_width * count ≤ room)
 
 -- and the end of the line
 unfoldable pub hex_line : List ℕ → List ℕ

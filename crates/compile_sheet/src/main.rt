@@ -12,6 +12,7 @@ use compiled::sheets::COMPILED_LIMIT;
 use compiler::compile::{CompileError, compile};
 use hexadecimal::HexLine;
 use std::io;
+use std::io::Write;
 use streams::read_full;
 
 // The bytes that the sheet may have here, and one byte more, to see whether the input goes on.
@@ -57,7 +58,12 @@ fn print_compiled(out: &impl Print, author: &[u8]) -> io::Result<()> {
     };
     let answer = compile(sheets, &mut compiled, &mut stores);
     match answer {
-        Ok(done) => print!(out; "{}", HexLine(part_of(&compiled, 0, done.bytes))),
+        // not `print!`, whose buffer takes the line byte by byte
+        Ok(done) => write!(
+            io::writer(out),
+            "{}",
+            HexLine(part_of(&compiled, 0, done.bytes))
+        ),
         Err(error) => print_refusal(out, error),
     }
 }
