@@ -35,17 +35,17 @@ hex_pairs [] = []
 hex_pairs (b ∷ []) = hex_pair b
 hex_pairs (b ∷ c ∷ r) = hex_pair b ++ (ascii " " ∷ hex_pairs (c ∷ r))
 
--- and a byte that ends them
+-- those of a piece, and a byte that ends them
 abbrev pub ended_pairs : List ℕ → ℕ → List ℕ
 ended_pairs bytes end = hex_pairs bytes ++ (end ∷ [])
 
--- they fit into so many bytes
-abbrev pub RoomFor : ℕ → ℕ → Type 0
-RoomFor count room = (1 ≤ room) × (pair_width * count ≤ room)
-
--- and the end of the line
+-- those of all bytes, and the end of the line
 unfoldable pub hex_line : List ℕ → List ℕ
 hex_line bytes = hex_pairs bytes ++ (ascii "\n" ∷ [])
+
+-- a piece of so many bytes, or of none, fits into so much room
+abbrev pub RoomFor : ℕ → ℕ → Type 0
+RoomFor count room = (1 ≤ room) × (pair_width * count ≤ room)
 
 -- the bytes 0, 15, 160 and 255 are `00 0f a0 ff`
 pub case-line : hex_line (0 ∷ 15 ∷ 160 ∷ 255 ∷ [])
