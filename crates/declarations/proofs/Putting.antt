@@ -18,15 +18,16 @@ use Rattle.values.specs.Property.{decl_of}
 use Rattle.values.specs.View.{tokens_at}
 use Rattle.values.specs.DeclAnswer.{decl_answer, text_length, kind_of, value_number, numbers_of}
 use Rattle.values.specs.declared.properties.Decl as declared
+use Rattle.values.specs.declared.properties.Decl.TheVariants as code
 use Rattle.values.specs.declared.properties.DeclNumbers.{DeclNumbers}
 use Rattle.values.proofs.DeclLaws.{Textless, decl-text}
-use Rattle.declarations.specs.DeclRow.{named_decl, named_by, shift, kept_text, Keeping, row_by, Narrow}
+use Rattle.declarations.specs.DeclRow.{named_decl, named_by, named_numbers_by, shift, kept_text, Keeping, row_by, Narrow}
 use Rattle.declarations.specs.Leaving.{PutRoom, decl_said, Put}
 
 -- ---- a declaration as the code has it, without its name if asked
--- leaving out the name in the code's answer, as numbers, is the answer for the declaration without its name
-pub named-answer : (names : Bool) (d : Decl) → named_by names (numbers_of (decl_answer d)) ≡ numbers_of (decl_answer (named_decl names d))
-unfolding named_by numbers_of kind_of value_number text_length decl_answer named_decl pick is
+-- leaving out the name in the code's answer is the answer for the declaration without its name
+pub named-answer : (names : Bool) (d : Decl) → named_by names (decl_answer d) ≡ decl_answer (named_decl names d)
+unfolding named_by decl_answer named_decl pick
 named-answer names (color c) = refl
 named-answer names (background_color c) = refl
 named-answer names (height z) = refl
@@ -39,6 +40,25 @@ named-answer names (content t) = refl
 named-answer names (visibility z) = refl
 named-answer true (unknown t) = refl
 named-answer false (unknown t) = refl
+
+-- leaving it out of the numbers of a declaration gives those of the declaration without it
+pub named-numbers : (names : Bool) (x : declared.Decl) → named_numbers_by names (numbers_of x) ≡ numbers_of (named_by names x)
+unfolding named_by named_numbers_by numbers_of kind_of value_number text_length pick is
+named-numbers names (code.Color v) = refl
+named-numbers names (code.BackgroundColor v) = refl
+named-numbers names (code.Height z) = refl
+named-numbers names (code.MaxHeight z) = refl
+named-numbers names (code.Overflow v) = refl
+named-numbers names (code.OverflowY v) = refl
+named-numbers names (code.Display z) = refl
+named-numbers names (code.WhiteSpace v) = refl
+named-numbers names (code.Content n) = refl
+named-numbers names (code.Visibility z) = refl
+named-numbers names (code.Unknown n) = refl
+
+-- so it does in the code's answer, as numbers
+pub numbers-answer : (names : Bool) (d : Decl) → named_numbers_by names (numbers_of (decl_answer d)) ≡ numbers_of (decl_answer (named_decl names d))
+numbers-answer names d = named-numbers names (decl_answer d) ∙ ap numbers_of (named-answer names d)
 
 -- a declaration whose text is at most t bytes long, where it is a content, and at most n, where it is a name
 unfoldable pub Bounded : ℕ → ℕ → Decl → Type 0
@@ -92,7 +112,7 @@ decl-bounded name ks n t h k = unfold Bounded in decl-text (Bounded n t) name ks
 -- ---- `put_declared`: from the declaration x that the code read, its numbers m, and those with the name left out or not, y
 module _ (names important : Bool) {start : ℕ} {tokens : List ℕ} {count : ℕ} {store : List ℕ} {f n t : ℕ} (room : PutRoom start tokens count store f n t)
     {v : List ℕ} (ev : v ≡ part store f n) {x : declared.Decl} (ex : x ≡ decl_answer (decl_of v (tokens_at tokens store count)))
-    {m y : DeclNumbers} (em : m ≡ numbers_of x) (ey : y ≡ named_by names m) where
+    {m y : DeclNumbers} (em : m ≡ numbers_of x) (ey : y ≡ named_numbers_by names m) where
   abbrev said : Decl
   said = decl_of (part store f n) (tokens_at tokens store count)
 
@@ -100,8 +120,8 @@ module _ (names important : Bool) {start : ℕ} {tokens : List ℕ} {count : ℕ
   said-is : y ≡ numbers_of (decl_said names tokens count store f n)
   unfolding decl_said
   said-is =
-      ey ∙ ap (named_by names) (em ∙ ap numbers_of (ex ∙ ap (λ w. decl_answer (decl_of w (tokens_at tokens store count))) ev))
-      ∙ named-answer names said
+      ey ∙ ap (named_numbers_by names) (em ∙ ap numbers_of (ex ∙ ap (λ w. decl_answer (decl_of w (tokens_at tokens store count))) ev))
+      ∙ numbers-answer names said
 
   -- its text is at most t bytes long, where it is a content, and at most n, where it is a name
   bounded : Bounded n t said

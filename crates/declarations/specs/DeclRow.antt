@@ -4,6 +4,8 @@ use Rattle.combinators.specs.Choice.{pick, or, is}
 use Rattle.combinators.specs.Part.{part}
 use Rattle.syntax.specs.Declaration.{Decl, color, background_color, height, max_height, overflow, overflow_y, display, white_space, content, visibility, unknown}
 use Rattle.syntax.specs.Layout.{content_kind, unknown_kind}
+use Rattle.values.specs.declared.properties.Decl as declared
+use Rattle.values.specs.declared.properties.Decl.TheVariants as code
 use Rattle.values.specs.declared.properties.DeclNumbers.{DeclNumbers}
 
 -- ---- names of unknown declarations: rules keep them, style attributes do not
@@ -20,8 +22,22 @@ named_decl names (content t) = content t
 named_decl names (visibility z) = visibility z
 named_decl names (unknown t) = unknown (pick names t [])
 
-unfoldable pub named_by : Bool → DeclNumbers → DeclNumbers
-named_by names d = record { kind = d.kind; value = d.value; text = pick (is d.kind unknown_kind) (pick names d.text 0) d.text }
+unfoldable pub named_by : Bool → declared.Decl → declared.Decl
+named_by names (code.Color v) = code.Color v
+named_by names (code.BackgroundColor v) = code.BackgroundColor v
+named_by names (code.Height z) = code.Height z
+named_by names (code.MaxHeight z) = code.MaxHeight z
+named_by names (code.Overflow v) = code.Overflow v
+named_by names (code.OverflowY v) = code.OverflowY v
+named_by names (code.Display z) = code.Display z
+named_by names (code.WhiteSpace v) = code.WhiteSpace v
+named_by names (code.Content n) = code.Content n
+named_by names (code.Visibility z) = code.Visibility z
+named_by names (code.Unknown n) = code.Unknown (pick names n 0)
+
+-- the same of any three numbers
+unfoldable pub named_numbers_by : Bool → DeclNumbers → DeclNumbers
+named_numbers_by names d = record { kind = d.kind; value = d.value; text = pick (is d.kind unknown_kind) (pick names d.text 0) d.text }
 
 -- ---- its text behind a name of n bytes at f: a content lies behind the name
 unfoldable pub shift : DeclNumbers → ℕ → ℕ

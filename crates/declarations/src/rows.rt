@@ -3,22 +3,33 @@ ghost use Rattle.std.specs.Prelude.{◌≡◌, ◌+◌, ◌^◌, ◌<◌};
 ghost use Rattle.std.proofs.lemmas.List.Edits.{sets};
 ghost use Rattle.combinators.specs.Store.{wiped};
 ghost use Rattle.syntax.specs.Layout.{flag};
-ghost use Rattle.declarations.specs.DeclRow.{named_by, shift, kept_text, Keeping, row_value, row_by, Narrow};
+ghost use Rattle.declarations.specs.DeclRow.{named_by, named_numbers_by, shift, kept_text, Keeping, row_value, row_by, Narrow};
 
 use crate::texts::move_down;
 use combinators::stores::{emit_all, fill_part};
 use syntax::rows::{CONTENT, UNKNOWN, flag_of};
-use values::properties::DeclNumbers;
+use values::properties::{Decl, DeclNumbers};
 
-// The declaration, without its name where it is unknown and names are not kept.
-#[tactic(auto, unfolding(crate::specs::DeclRow::named_by, combinators::specs::Choice::pick, combinators::specs::Choice::is))]
-pub fn named(decl: DeclNumbers, names: bool) -> DeclNumbers
-    ensures { result ≡ named_by names decl }
+// The numbers of a declaration, without its name where it is unknown and names are not kept.
+#[tactic(auto, unfolding(crate::specs::DeclRow::named_numbers_by, combinators::specs::Choice::pick, combinators::specs::Choice::is))]
+pub fn named_numbers(decl: DeclNumbers, names: bool) -> DeclNumbers
+    ensures { result ≡ named_numbers_by names decl }
 {
     if decl.kind == UNKNOWN && !names {
         DeclNumbers { text: 0, ..decl }
     } else {
         decl
+    }
+}
+
+// The same of a `Decl`, which stays one: of its numbers only the length of a name may change.
+#[tactic(auto, unfolding(crate::specs::DeclRow::named_by, crate::specs::DeclRow::named_numbers_by, values::specs::DeclAnswer::numbers_of, values::specs::DeclAnswer::kind_of, values::specs::DeclAnswer::text_length, combinators::specs::Choice::pick, combinators::specs::Choice::is))]
+pub fn named(decl: Decl, names: bool) -> Decl
+    ensures { result ≡ named_by names decl }
+{
+    match decl {
+        Decl::Unknown(_) => Decl::Unknown(named_numbers(DeclNumbers::from(decl), names).text),
+        _ => decl,
     }
 }
 

@@ -12,7 +12,7 @@ ghost use Rattle.lexer.specs.TokenRow.{token_width};
 ghost use Rattle.values.specs.Layout.{unmarked};
 ghost use Rattle.declarations.specs.Leaving.{property_answer, PutRoom, Put, PropertyRead, RulesRoom, MoreRoom, MoreRead, leaving, declaration_left, more_left, rules_left};
 
-use crate::rows::{keep_text, named, put_declaration};
+use crate::rows::{keep_text, named_numbers, put_declaration};
 use combinators::bytes::byte_is;
 use combinators::lent::Stores;
 use combinators::stores::fill_part;
@@ -117,7 +117,7 @@ fn put_declared(
     let tokens = &mut *stores.tokens;
     let texts = &mut *stores.texts;
     let read = decl_of(part_of(texts, fill, length), value.tokens(tokens, texts));
-    let decl = named(DeclNumbers::from(read), names);
+    let decl = named_numbers(DeclNumbers::from(read), names);
     keep_text(decl, texts, fill, length, value.statement.text);
     put_declaration(decl, value.important, start, fill, stores.rules, place);
     decl.text
