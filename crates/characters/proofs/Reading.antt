@@ -5,8 +5,11 @@ use mathlib.Core.List.{List}
 use Prim.Native.Nat.{ℕ, ◌+◌, ◌-◌, ◌<◌, ◌≤◌}
 use native.Mathlib.Omega.{arith}
 use lib.ListN.{length, get_or, take, drop, length-drop}
+use lib.Dec.{eqb}
+use borrow.Author.Tests.{ne_eqb}
 use mathlib.Core.Bool.{true, false}
 use Rattle.std.proofs.lemmas.List.{get_or-drop}
+use Rattle.combinators.specs.Choice.{is}
 use Rattle.combinators.proofs.Rules.{pick-false, is-yes, is-no, at_most, above}
 use Rattle.combinators.proofs.Lists.{rest}
 use Rattle.combinators.proofs.Repeating.{Repeating, repeat-more, repeat-stop, repeat-end}
@@ -63,10 +66,14 @@ module _ (s : List ℕ) (i : ℕ) (c : Repeating scalar_taken s i) where
     unfolding scalar_taken taken_of
     none h = rw (here, h)
 
-    -- no well-formed sequence stands before the end
-    pub checking-stop : i < length s → r ≡ None → false ≡ valid s
-    unfolding valid
-    checking-stop l h = sym (is-no _ _ (λ z. let q = repeat-stop scalar_taken s i c (none h) in omega (arith, q, z)))
+    -- where no well-formed sequence stands, the text is well formed if it ends there
+    pub checking-stop : r ≡ None → eqb i (length s) ≡ valid s
+    unfolding valid is
+    checking-stop h = ap (λ n. eqb n (length s)) (repeat-stop scalar_taken s i c (none h))
+
+    -- so it is not where none stands before the end
+    pub checking-fault : i < length s → r ≡ None → false ≡ valid s
+    checking-fault l h = sym (ne_eqb i (length s) (λ z. omega (arith, l, z))) ∙ checking-stop h
 
   -- a byte of ASCII is a scalar value, and the loop goes on behind it
   pub checking-ascii : i < length s → (a : ℕ) → a ≡ get_or s i 0 → a ≤ 0x7f → Repeating scalar_taken s (i + 1)

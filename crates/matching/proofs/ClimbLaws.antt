@@ -28,6 +28,13 @@ use Rattle.matching.proofs.MatchLaws as one
 use Rattle.matching.proofs.PassLaws.{name-passes}
 use Rattle.matching.proofs.PathLaws.{top-path, other_path, parent-rooted, parent-before}
 
+-- a second result is not asked for where the first does not fail locally
+or-else-first : (s t : SelectorMatch) → ¬ (s ≡ FailsLocally) → or_else s t ≡ s
+unfolding or_else
+or-else-first Matches t d = refl
+or-else-first FailsLocally t d = absurd (d refl)
+or-else-first FailsCompletely t d = refl
+
 module _ (store components nodes attributes text : List ℕ) where
   -- the result of the first l components on the path of a row
   abbrev Result : ℕ → ℕ → SelectorMatch
@@ -243,15 +250,17 @@ module _ (store components nodes attributes text : List ℕ) where
           tried : Above n row ≡ or_else r (Above n q)
           tried = d.same ∙ next.same ∙ ap (λ (x : SelectorMatch). or_else x (Above n q)) (sym er)
 
-          -- an ancestor that matches what is left decides
-          pub ancestor-matches : r ≡ Matches → Matches ≡ Above n row
-          unfolding or_else
-          ancestor-matches e = sym (tried ∙ ap (λ (x : SelectorMatch). or_else x (Above n q)) e)
+          -- an ancestor that does not fail locally decides
+          pub ancestor-decides : ¬ (r ≡ FailsLocally) → r ≡ Above n row
+          ancestor-decides d = sym (tried ∙ or-else-first r (Above n q) d)
 
-          -- it fails completely, and so do all rows above
+          -- so one that matches what is left does
+          pub ancestor-matches : r ≡ Matches → Matches ≡ Above n row
+          ancestor-matches e = sym e ∙ ancestor-decides (λ z. let two : ◌≡◌ {A = ℕ} 0 1 = cc in omega arith)
+
+          -- and one that fails completely, as do all rows above
           pub ancestor-fails : r ≡ FailsCompletely → FailsCompletely ≡ Above n row
-          unfolding or_else
-          ancestor-fails e = sym (tried ∙ ap (λ (x : SelectorMatch). or_else x (Above n q)) e)
+          ancestor-fails e = sym e ∙ ancestor-decides (λ z. let two : ◌≡◌ {A = ℕ} 0 1 = cc in omega arith)
 
           -- it fails locally, and its own ancestors are tried
           pub ancestor-passed-over : r ≡ FailsLocally → Trying q

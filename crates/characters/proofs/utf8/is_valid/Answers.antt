@@ -17,7 +17,7 @@ pub loop-i-preserved : goal.loop-i-preserved
 loop-i-preserved c = laws.checking-more _ _ c.loop-i.invariant _ c.scalar_at.ensures _ _ c.in-Some.is
 
 pub returns-in_default : goal.returns-in_default
-returns-in_default c = laws.checking-stop _ _ c.loop-i.invariant _ c.scalar_at.ensures c.loop-i-test.true c.in_default.is
+returns-in_default c = laws.checking-fault _ _ c.loop-i.invariant _ c.scalar_at.ensures c.loop-i-test.true c.in_default.is
 
 pub returns : goal.returns
 returns c = laws.checking-done _ _ c.loop-i.invariant c.loop-i-test.false
