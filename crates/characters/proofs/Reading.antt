@@ -71,7 +71,7 @@ module _ (s : List ℕ) (i : ℕ) (c : Repeating scalar_taken s i) where
     unfolding valid is
     checking-stop h = ap (λ n. eqb n (length s)) (repeat-stop scalar_taken s i c (none h))
 
-    -- so it is not where none stands before the end
+    -- where no well-formed sequence stands before the end, the text is not well formed
     pub checking-fault : i < length s → r ≡ None → false ≡ valid s
     checking-fault l h = sym (ne_eqb i (length s) (λ z. omega (arith, l, z))) ∙ checking-stop h
 
